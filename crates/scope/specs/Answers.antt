@@ -1,0 +1,168 @@
+-- Document 01, "Refusal numbers": what each entry checks, in which order, and what it answers and writes, on any numbers at all.
+use Prim.Native.Nat.{ℕ, _*_, _/_, _%_}
+use mathlib.Core.Bool.{Bool, true, false, not, _||_}
+use mathlib.Core.Option.{Option, none, some}
+use mathlib.Core.List.{List}
+use lib.Dec.{leb, ltb, eqb}
+use lib.IntN.{ℤ}
+use lib.ListN.{length}
+use Rattle.scope.specs.Numbers.{written}
+use Rattle.scope.specs.Limits.{mostFrame, mostWindows, mostTasks, mostCycle, mostLength, mostTicks, mostJobs}
+use Rattle.scope.specs.Ticks.{perFrame, leastSupply}
+use Rattle.scope.specs.Windows.{Board, windowsOf, supplied, badWindow}
+use Rattle.scope.specs.Partition.{critical, delay, outage}
+use Rattle.scope.specs.Tasks.{Task, tasksOf, badTask, demand, margin}
+use Rattle.scope.specs.Cycle.{cycle}
+use Rattle.scope.specs.Verdict.{Verdict, verdict}
+use Rattle.scope.specs.Bound.{Bound, response}
+use Rattle.scope.specs.Jobs.{Job, jobsOf, badJob}
+use Rattle.scope.specs.Machine.{edf}
+use Rattle.scope.specs.Run.{Ran, ran, counts}
+
+-- ---- refusals
+
+pub data Fault : Type 0 where
+  fine : Fault
+  fault : (number place : ℕ) → Fault
+
+pub data Answer (A : Type 0) : Type 0 where
+  given : A → Answer A
+  refused : (number place : ℕ) → Answer A
+
+abbrev pub faultIf : Bool → ℕ → ℕ → Fault
+faultIf true number place = fault number place
+faultIf false number place = fine
+
+-- the place is the index found, if one is
+abbrev pub faultAt : ℕ → Option ℕ → Fault
+faultAt number none = fine
+faultAt number (some i) = fault number i
+
+-- checks are made in the order in which they are written
+infixr 3 _orElse_
+abbrev pub _orElse_ : Fault → Fault → Fault
+fine orElse later = later
+fault number place orElse later = fault number place
+
+-- a fault is answered in place of the value
+abbrev pub unless : {A : Type 0} → Fault → A → Answer A
+unless fine a = given a
+unless (fault number place) a = refused number place
+
+-- a refusal writes nothing
+abbrev pub unlessKept : Fault → List ℕ → List ℕ → List ℕ
+unlessKept fine new old = new
+unlessKept (fault number place) new old = old
+
+-- ---- checks
+
+-- 1: window list odd, empty, or over 64 windows
+unfoldable pub windowListFault : List ℕ → Fault
+windowListFault ws = faultIf (not (eqb (length ws % 2) 0) || eqb (length ws) 0 || ltb (2 * mostWindows) (length ws)) 1 0
+
+-- 2: P outside 1 to 65,536
+unfoldable pub frameFault : Board → Fault
+frameFault b = faultIf (eqb (b .frame) 0 || ltb mostFrame (b .frame)) 2 0
+
+-- 3: a window breaks its rule
+unfoldable pub windowFault : Board → List ℕ → Fault
+windowFault b ws = faultAt 3 (badWindow b (windowsOf ws))
+
+-- 4: task list not in threes, or over 32 tasks
+unfoldable pub taskListFault : List ℕ → Fault
+taskListFault ts = faultIf (not (eqb (length ts % 3) 0) || ltb (3 * mostTasks) (length ts)) 4 0
+
+-- 5: a task breaks its rule
+unfoldable pub taskFault : List ℕ → Fault
+taskFault ts = faultAt 5 (badTask (tasksOf ts))
+
+-- 6: H over 1,000,000
+unfoldable pub cycleFault : Board → List ℕ → Fault
+cycleFault b ts = faultIf (ltb mostCycle (cycle (b .frame) (tasksOf ts))) 6 0
+
+-- 7: asked length over 1,000,000
+unfoldable pub lengthFault : ℕ → Fault
+lengthFault t = faultIf (ltb mostLength t) 7 0
+
+-- 7: asked task absent
+unfoldable pub absentFault : List ℕ → ℕ → Fault
+absentFault ts i = faultIf (leb (length (tasksOf ts)) i) 7 0
+
+-- 8: lent output shorter than needed
+unfoldable pub roomFault : ℕ → ℕ → Fault
+roomFault needed room = faultIf (ltb room needed) 8 needed
+
+-- 10: job list not in threes, over 4,096 jobs, or n over 1,100,000
+unfoldable pub jobListFault : ℕ → List ℕ → Fault
+jobListFault n js = faultIf (not (eqb (length js % 3) 0) || ltb (3 * mostJobs) (length js) || ltb mostTicks n) 10 0
+
+-- 11: a job breaks the legal list rule
+unfoldable pub jobFault : List ℕ → ℕ → List ℕ → Fault
+jobFault ts n js = faultAt 11 (badJob (tasksOf ts) n (jobsOf js))
+
+-- the checks of a table, 1 2 3, and of a group, 4 5
+unfoldable pub tableFault : Board → List ℕ → Fault
+tableFault b ws = windowListFault ws orElse frameFault b orElse windowFault b ws
+
+unfoldable pub groupFault : List ℕ → Fault
+groupFault ts = taskListFault ts orElse taskFault ts
+
+-- ---- entries. Windows ws, tasks ts and jobs js are lists of numbers
+
+unfoldable pub leastSupplyAnswer : Board → List ℕ → ℕ → Answer ℕ
+leastSupplyAnswer b ws t = unless (tableFault b ws orElse lengthFault t) (leastSupply (supplied b ws) (b .frame) t)
+
+-- the critical partition: its windows as numbers, two each
+abbrev pub criticalOf : Board → List ℕ → List ℕ
+criticalOf b ws = critical (supplied b ws) (b .frame)
+
+unfoldable pub criticalFault : Board → List ℕ → ℕ → Fault
+criticalFault b ws room = tableFault b ws orElse roomFault (length (criticalOf b ws)) room
+
+-- how many windows
+unfoldable pub criticalAnswer : Board → List ℕ → ℕ → Answer ℕ
+criticalAnswer b ws room = unless (criticalFault b ws room) (length (criticalOf b ws) / 2)
+
+unfoldable pub criticalOut : Board → List ℕ → List ℕ → List ℕ
+criticalOut b ws out = unlessKept (criticalFault b ws (length out)) (written (criticalOf b ws) out) out
+
+-- the delay, with A beside it
+pub record Delay : Type 0 where
+  pub delay : ℕ
+  pub A : ℕ
+
+unfoldable pub delayAnswer : Board → List ℕ → Answer Delay
+delayAnswer b ws = unless (tableFault b ws) (record { delay = delay (supplied b ws) (b .frame); A = perFrame (supplied b ws) (b .frame) })
+
+unfoldable pub outageAnswer : Board → List ℕ → Answer ℕ
+outageAnswer b ws = unless (tableFault b ws) (outage (supplied b ws) (b .frame))
+
+unfoldable pub demandAnswer : List ℕ → ℕ → Answer ℕ
+demandAnswer ts t = unless (groupFault ts orElse lengthFault t) (demand (tasksOf ts) t)
+
+unfoldable pub marginAnswer : Board → List ℕ → List ℕ → ℕ → Answer ℤ
+marginAnswer b ws ts t =
+    unless (tableFault b ws orElse groupFault ts orElse lengthFault t) (margin (supplied b ws) (b .frame) (tasksOf ts) t)
+
+unfoldable pub verdictAnswer : Board → List ℕ → List ℕ → Answer Verdict
+verdictAnswer b ws ts =
+    unless (tableFault b ws orElse groupFault ts orElse cycleFault b ts)
+    (verdict (supplied b ws) (b .frame) (tasksOf ts) (cycle (b .frame) (tasksOf ts)))
+
+unfoldable pub boundAnswer : Board → List ℕ → List ℕ → ℕ → Answer Bound
+boundAnswer b ws ts i =
+    unless (tableFault b ws orElse groupFault ts orElse absentFault ts i) (response (supplied b ws) (b .frame) (tasksOf ts) i)
+
+unfoldable pub runFault : Board → List ℕ → List ℕ → ℕ → List ℕ → ℕ → Fault
+runFault b ws ts n js room =
+    tableFault b ws orElse groupFault ts orElse jobListFault n js orElse jobFault ts n js orElse roomFault (length (jobsOf js)) room
+
+-- a run under earliest deadline first
+unfoldable pub runAnswer : Board → List ℕ → List ℕ → ℕ → List ℕ → ℕ → Answer Ran
+runAnswer b ws ts n js room =
+    unless (runFault b ws ts n js room) (ran (supplied b ws) (edf (tasksOf ts) (jobsOf js)) (tasksOf ts) (jobsOf js) n)
+
+unfoldable pub runOut : Board → List ℕ → List ℕ → ℕ → List ℕ → List ℕ → List ℕ
+runOut b ws ts n js out =
+    unlessKept (runFault b ws ts n js (length out))
+    (written (counts (supplied b ws) (edf (tasksOf ts) (jobsOf js)) (tasksOf ts) (jobsOf js) n) out) out

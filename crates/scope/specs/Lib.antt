@@ -1,0 +1,17 @@
+pub mod Numbers
+pub mod Limits
+pub mod Ticks
+pub mod Windows
+pub mod Partition
+pub mod Tasks
+pub mod Cycle
+pub mod Verdict
+pub mod Bound
+pub mod Jobs
+pub mod Machine
+pub mod Run
+pub mod Answers
+pub mod Plan
+pub mod Line
+pub mod Demands
+pub mod Examples

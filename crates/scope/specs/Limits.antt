@@ -1,0 +1,38 @@
+-- Document 01, "Tables and sizes" and "Refusal numbers": each limit, once.
+use Prim.Native.Nat.{ℕ}
+
+-- ticks of a frame: 1 to 65,536
+abbrev pub mostFrame : ℕ
+mostFrame = 65536
+
+-- windows of a table: 1 to 64
+abbrev pub mostWindows : ℕ
+mostWindows = 64
+
+-- tasks of a group: 0 to 32
+abbrev pub mostTasks : ℕ
+mostTasks = 32
+
+-- C, T and D of a task: 1 to 1,000,000
+abbrev pub mostOfTask : ℕ
+mostOfTask = 1000000
+
+-- the cycle H: at most 1,000,000
+abbrev pub mostCycle : ℕ
+mostCycle = 1000000
+
+-- a length that is asked for: at most 1,000,000
+abbrev pub mostLength : ℕ
+mostLength = 1000000
+
+-- ticks of a run: 0 to 1,100,000
+abbrev pub mostTicks : ℕ
+mostTicks = 1100000
+
+-- jobs of a run: 0 to 4,096
+abbrev pub mostJobs : ℕ
+mostJobs = 4096
+
+-- a number of a plan file: at most 4,294,967,295
+abbrev pub mostNumber : ℕ
+mostNumber = 4294967295

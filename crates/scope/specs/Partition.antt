@@ -1,0 +1,44 @@
+-- Document 01, "Supply and demand": the critical partition, the delay and the longest outage, over any pattern σ.
+use Prim.Native.Nat.{ℕ, zero, suc, _+_, _-_, _*_}
+use mathlib.Core.Bool.{Bool, true, false, not, cond, _&&_}
+use mathlib.Core.List.{List}
+use lib.Dec.{ltb}
+use Rattle.scope.specs.Numbers.{greatest, keep}
+use Rattle.scope.specs.Ticks.{perFrame, leastSupply}
+
+-- the least supply of t + 1 exceeds that of t
+unfoldable pub rises : (ℕ → Bool) → ℕ → ℕ → Bool
+rises σ P t = ltb (leastSupply σ P t) (leastSupply σ P (t + 1))
+
+-- the pattern p in the ticks 0 to n − 1, and false from n on
+unfoldable pub within : (ℕ → Bool) → ℕ → ℕ → Bool
+within p n k = ltb k n && p k
+
+-- a maximal run of p starts or ends at k: p at k differs from p just before k, which is false before tick 0
+unfoldable pub edge : (ℕ → Bool) → ℕ → Bool
+edge p k = cond (p k) (not (ltb 0 k && p (k - 1))) (ltb 0 k && p (k - 1))
+
+-- the maximal runs of p among the ticks 0 to n − 1: start, end, start, end, ..
+unfoldable pub runs : (ℕ → Bool) → ℕ → List ℕ
+runs p n = keep (edge (within p n)) (n + 1)
+
+-- the windows of the critical partition: the maximal runs of ticks in 0 to P − 1 at which the least supply rises
+unfoldable pub critical : (ℕ → Bool) → ℕ → List ℕ
+critical σ P = runs (rises σ P) P
+
+-- A·t − P·(least supply of t)
+unfoldable pub lag : (ℕ → Bool) → ℕ → ℕ → ℕ
+lag σ P t = perFrame σ P * t - P * leastSupply σ P t
+
+-- the greatest of these over t in 0 to P
+unfoldable pub delay : (ℕ → Bool) → ℕ → ℕ
+delay σ P = greatest (lag σ P) (P + 1)
+
+-- the length of the run of unsupplied ticks, of those from tick 0 on, that ends just before tick k
+unfoldable pub outageBefore : (ℕ → Bool) → ℕ → ℕ
+outageBefore σ zero = 0
+outageBefore σ (suc k) = cond (σ k) 0 (outageBefore σ k + 1)
+
+-- the longest run of unsupplied ticks inside one frame, ticks 0 to P − 1
+unfoldable pub outage : (ℕ → Bool) → ℕ → ℕ
+outage σ P = greatest (outageBefore σ) (P + 1)
