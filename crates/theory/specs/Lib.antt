@@ -1,2 +1,4 @@
 pub mod Numbers
 pub mod Ticks
+pub mod Windows
+pub mod Tasks

@@ -152,8 +152,7 @@ module _ (σ : ℕ → Bool) (P : ℕ) (per : Periodic σ P) where
           let m = least-is-met t in
           absurd (eqb-false (supply σ (m .0) t) (leastSupply σ P t) (first-none (holds t) P e (m .0) (m .1)) (m .2))
       go (some s) e =
-          let f = first-some (holds t) P s e in
-          (
+          let f = first-some (holds t) P s e in (
             f .0,
             eqb-true (supply σ s t) (leastSupply σ P t) (f .1),
             λ r l. let u = eqb-false (supply σ r t) (leastSupply σ P t) (f .2 r l) in omega (arith, least-over-all-starts r t, u),
