@@ -15,7 +15,7 @@ use Rattle.scope.specs.Limits.{mostOfTask}
 use Rattle.scope.specs.Tasks.{Task, taskAt, taskNumber, taskLegal, badTask, taskDemand, demand}
 use Rattle.theory.specs.Numbers.{and-both, not-false, first-none, sum-first, sum-le, sum-eq, sum-zero, sum-add}
 
--- ---- what a legal task keeps
+-- ---- what a legal task keeps. That D ≤ T stands apart: few laws need it
 
 pub record TaskRule (x : Task) : Type 0 where
   pub work : 1 ≤ x .C
@@ -23,12 +23,12 @@ pub record TaskRule (x : Task) : Type 0 where
   pub period : 1 ≤ x .T
   pub period-most : x .T ≤ mostOfTask
   pub due : 1 ≤ x .D
-  pub within : x .D ≤ x .T
+  pub due-most : x .D ≤ mostOfTask
 
 number-rule : (x : ℕ) → taskNumber x ≡ true → (1 ≤ x) × (x ≤ mostOfTask)
 number-rule x e = let p = and-both (leb 1 x) (leb x mostOfTask) e in (leb-true 1 x (p .0), leb-true x mostOfTask (p .1))
 
-pub task-rule : (x : Task) → taskLegal x ≡ true → TaskRule x
+pub task-rule : (x : Task) → taskLegal x ≡ true → TaskRule x × (x .D ≤ x .T)
 unfolding taskLegal
 task-rule x e =
     let p₁ = and-both (taskNumber (x .C) && taskNumber (x .T) && taskNumber (x .D)) (leb (x .D) (x .T)) e in
@@ -36,24 +36,27 @@ task-rule x e =
     let p₃ = and-both (taskNumber (x .C)) (taskNumber (x .T)) (p₂ .0) in
     let c = number-rule (x .C) (p₃ .0) in
     let t = number-rule (x .T) (p₃ .1) in
-    record {
-      work = c .0;
-      work-most = c .1;
-      period = t .0;
-      period-most = t .1;
-      due = number-rule (x .D) (p₂ .1) .0;
-      within = leb-true (x .D) (x .T) (p₁ .1);
-    }
+    let d = number-rule (x .D) (p₂ .1) in
+    (
+      record { work = c .0; work-most = c .1; period = t .0; period-most = t .1; due = d .0; due-most = d .1 },
+      leb-true (x .D) (x .T) (p₁ .1),
+    )
 
--- each task of a group keeps its rule
+-- of each task of a group
 abbrev pub TaskRules : List Task → Type 0
 TaskRules ts = (i : ℕ) → i < length ts → TaskRule (taskAt ts i)
 
-pub task-rules : (ts : List Task) → badTask ts ≡ none → TaskRules ts
+abbrev pub Within : List Task → Type 0
+Within ts = (i : ℕ) → i < length ts → (taskAt ts i) .D ≤ (taskAt ts i) .T
+
+pub task-rules : (ts : List Task) → badTask ts ≡ none → TaskRules ts × Within ts
 unfolding badTask
-task-rules ts e i l =
-    task-rule (taskAt ts i)
-    (not-false (taskLegal (taskAt ts i)) (first-none (λ i. not (taskLegal (taskAt ts i))) (length ts) e i l))
+task-rules ts e = (λ i l. each i l .0, λ i l. each i l .1)
+  where
+    each : (i : ℕ) → i < length ts → TaskRule (taskAt ts i) × ((taskAt ts i) .D ≤ (taskAt ts i) .T)
+    each i l =
+        task-rule (taskAt ts i)
+        (not-false (taskLegal (taskAt ts i)) (first-none (λ i. not (taskLegal (taskAt ts i))) (length ts) e i l))
 
 -- ---- how many jobs, released T apart and due D after, have release and deadline in a stretch of t ticks
 
@@ -161,11 +164,11 @@ module _ (ts : List Task) (H : ℕ) (ok : TaskRules ts) (div : Periods ts H) whe
           rw (div-mul-cancel (x .T) (div i l)) at (jobsIn-cycles (x .T) (x .D) (ok i l .period) (H / x .T) t) in
           omega (arith, demand-jobs x t, demand-jobs x (t + H), mul-le-mul-right (x .C) z)
 
-  -- the demand of a cycle is its load: here D ≤ T is used
-  pub demand-whole : demand ts H ≡ load ts H
+  -- with D ≤ T, the demand of a cycle is its load
+  pub demand-whole : Within ts → demand ts H ≡ load ts H
   unfolding load
-  demand-whole =
+  demand-whole within =
       demand-sum ts H ∙ sum-eq (λ i. taskDemand (taskAt ts i) H) (λ i. taskLoad H (taskAt ts i)) (length ts) (λ i l.
       let x : Task = taskAt ts i in
       demand-jobs x H
-      ∙ ap (λ (k : ℕ). k * x .C) (rw (div-mul-cancel (x .T) (div i l)) at (jobsIn-whole (x .T) (x .D) (ok i l .period) (H / x .T) (ok i l .due) (ok i l .within))))
+      ∙ ap (λ (k : ℕ). k * x .C) (rw (div-mul-cancel (x .T) (div i l)) at (jobsIn-whole (x .T) (x .D) (ok i l .period) (H / x .T) (ok i l .due) (within i l))))

@@ -1,0 +1,134 @@
+-- What an entry that does not refuse has checked
+use mathlib.Core.Path.{_≡_, refl, sym, ap, _∙_}
+use mathlib.Core.Bool.{Bool, true, false, not, _||_}
+use mathlib.Core.Option.{Option, none, some}
+use mathlib.Core.List.{List}
+use Prim.Native.Nat.{ℕ, _*_, _%_, _≤_, _<_}
+use native.Mathlib.Omega.{arith}
+use lib.Dec.{leb, ltb, eqb}
+use lib.ListN.{length}
+use borrow.Author.Tests.{ltb-false, leb-false, eqb-true, eqb-false}
+use Rattle.scope.specs.Limits.{mostFrame, mostWindows, mostTasks, mostCycle}
+use Rattle.scope.specs.Windows.{Board, windowsOf, supplied, badWindow}
+use Rattle.scope.specs.Tasks.{tasksOf, badTask}
+use Rattle.scope.specs.Cycle.{cycle}
+use Rattle.scope.specs.Verdict.{Verdict, verdict}
+use Rattle.scope.specs.Bound.{Bound, response}
+use Rattle.scope.specs.Answers.{Fault, Fault.fine, Fault.fault, Answer, Answer.given, Answer.refused, faultIf, faultAt, _orElse_, unless, windowListFault, frameFault, windowFault, taskListFault, taskFault, cycleFault, absentFault, tableFault, groupFault, verdictAnswer, boundAnswer}
+use Rattle.theory.specs.Numbers.{not-false}
+use Rattle.theory.specs.Tasks.{TaskRules, Within, task-rules}
+
+-- ---- faults
+
+pub fault-not-fine : {n p : ℕ} → fault n p ≡ fine → ⊥
+fault-not-fine e = let z : _≡_ {A = ℕ} 0 1 = cc in omega arith
+
+pub faultIf-fine : (b : Bool) (n p : ℕ) → faultIf b n p ≡ fine → b ≡ false
+faultIf-fine true n p e = absurd (fault-not-fine e)
+faultIf-fine false n p e = refl
+
+pub faultAt-fine : (n : ℕ) (o : Option ℕ) → faultAt n o ≡ fine → o ≡ none
+faultAt-fine n none e = refl
+faultAt-fine n (some i) e = absurd (fault-not-fine e)
+
+pub orElse-fine : (f g : Fault) → (f orElse g) ≡ fine → (f ≡ fine) × (g ≡ fine)
+orElse-fine fine g e = (refl, e)
+orElse-fine (fault n p) g e = absurd (fault-not-fine e)
+
+-- a value is given only where there is no fault
+pub unless-given : {A : Type 0} (f : Fault) (a v : A) → unless f a ≡ given v → (f ≡ fine) × (a ≡ v)
+unless-given fine a v e = (refl, cc)
+unless-given (fault n p) a v e = let z : _≡_ {A = ℕ} 0 1 = cc in absurd (omega arith)
+
+or-false : (a b : Bool) → (a || b) ≡ false → (a ≡ false) × (b ≡ false)
+or-false true b e = (e, elim b [ true ↦ e | false ↦ refl ])
+or-false false b e = (refl, e)
+
+-- ---- tables and groups that pass their checks
+
+pub record LegalTable (b : Board) (ws : List ℕ) : Type 0 where
+  pub frame : 1 ≤ b .frame
+  pub frame-most : b .frame ≤ mostFrame
+  pub even : length ws % 2 ≡ 0
+  pub some : 0 < length ws
+  pub few : length ws ≤ 2 * mostWindows
+  pub windows : badWindow b (windowsOf ws) ≡ none
+
+pub table-legal : (b : Board) (ws : List ℕ) → tableFault b ws ≡ fine → LegalTable b ws
+unfolding tableFault windowListFault frameFault windowFault
+table-legal b ws e =
+    let p = orElse-fine (windowListFault ws) (frameFault b orElse windowFault b ws) e in
+    let q = orElse-fine (frameFault b) (windowFault b ws) (p .1) in
+    let odd = not (eqb (length ws % 2) 0) in
+    let l = or-false (odd || eqb (length ws) 0) (ltb (2 * mostWindows) (length ws)) (faultIf-fine _ 1 0 (p .0)) in
+    let l′ = or-false odd (eqb (length ws) 0) (l .0) in
+    let f = or-false (eqb (b .frame) 0) (ltb mostFrame (b .frame)) (faultIf-fine _ 2 0 (q .0)) in
+    let filled = eqb-false (length ws) 0 (l′ .1) in
+    let framed = eqb-false (b .frame) 0 (f .0) in
+    record {
+      frame = omega (arith, framed);
+      frame-most = ltb-false mostFrame (b .frame) (f .1);
+      even = eqb-true (length ws % 2) 0 (not-false _ (l′ .0));
+      some = omega (arith, filled);
+      few = ltb-false (2 * mostWindows) (length ws) (l .1);
+      windows = faultAt-fine 3 (badWindow b (windowsOf ws)) (q .1);
+    }
+
+pub record LegalGroup (ts : List ℕ) : Type 0 where
+  pub threes : length ts % 3 ≡ 0
+  pub few : length ts ≤ 3 * mostTasks
+  pub rules : TaskRules (tasksOf ts)
+  pub within : Within (tasksOf ts)
+
+pub group-legal : (ts : List ℕ) → groupFault ts ≡ fine → LegalGroup ts
+unfolding groupFault taskListFault taskFault
+group-legal ts e =
+    let p = orElse-fine (taskListFault ts) (taskFault ts) e in
+    let l = or-false (not (eqb (length ts % 3) 0)) (ltb (3 * mostTasks) (length ts)) (faultIf-fine _ 4 0 (p .0)) in
+    let r = task-rules (tasksOf ts) (faultAt-fine 5 (badTask (tasksOf ts)) (p .1)) in
+    record {
+      threes = eqb-true (length ts % 3) 0 (not-false _ (l .0));
+      few = ltb-false (3 * mostTasks) (length ts) (l .1);
+      rules = r .0;
+      within = r .1;
+    }
+
+-- ---- entries that answer
+
+pub record Judged (b : Board) (ws ts : List ℕ) (v : Verdict) : Type 0 where
+  pub table : LegalTable b ws
+  pub group : LegalGroup ts
+  pub cycle-most : cycle (b .frame) (tasksOf ts) ≤ mostCycle
+  pub is : verdict (supplied b ws) (b .frame) (tasksOf ts) (cycle (b .frame) (tasksOf ts)) ≡ v
+
+pub judged : (b : Board) (ws ts : List ℕ) (v : Verdict) → verdictAnswer b ws ts ≡ given v → Judged b ws ts v
+unfolding verdictAnswer cycleFault
+judged b ws ts v e =
+    let u = unless-given (tableFault b ws orElse groupFault ts orElse cycleFault b ts) _ v e in
+    let p = orElse-fine (tableFault b ws) (groupFault ts orElse cycleFault b ts) (u .0) in
+    let q = orElse-fine (groupFault ts) (cycleFault b ts) (p .1) in
+    record {
+      table = table-legal b ws (p .0);
+      group = group-legal ts (q .0);
+      cycle-most = ltb-false mostCycle (cycle (b .frame) (tasksOf ts)) (faultIf-fine _ 6 0 (q .1));
+      is = u .1;
+    }
+
+pub record Bounded (b : Board) (ws ts : List ℕ) (i : ℕ) (r : Bound) : Type 0 where
+  pub table : LegalTable b ws
+  pub group : LegalGroup ts
+  pub present : i < length (tasksOf ts)
+  pub is : response (supplied b ws) (b .frame) (tasksOf ts) i ≡ r
+
+pub bounded : (b : Board) (ws ts : List ℕ) (i : ℕ) (r : Bound) → boundAnswer b ws ts i ≡ given r → Bounded b ws ts i r
+unfolding boundAnswer absentFault
+bounded b ws ts i r e =
+    let u = unless-given (tableFault b ws orElse groupFault ts orElse absentFault ts i) _ r e in
+    let p = orElse-fine (tableFault b ws) (groupFault ts orElse absentFault ts i) (u .0) in
+    let q = orElse-fine (groupFault ts) (absentFault ts i) (p .1) in
+    record {
+      table = table-legal b ws (p .0);
+      group = group-legal ts (q .0);
+      present = leb-false (length (tasksOf ts)) i (faultIf-fine _ 7 0 (q .1));
+      is = u .1;
+    }
