@@ -11,11 +11,11 @@ use Rattle.scope.specs.Limits.{mostFrame, mostWindows, mostTasks, mostCy
 use Rattle.scope.specs.Ticks.{perFrame, leastSupply}
 use Rattle.scope.specs.Windows.{Board, windowsOf, supplied, badWindow}
 use Rattle.scope.specs.Partition.{critical, delay, outage}
-use Rattle.scope.specs.Tasks.{Task, tasksOf, badTask, demand, margin}
+use Rattle.scope.specs.Tasks.{tasksOf, badTask, demand, margin}
 use Rattle.scope.specs.Cycle.{cycle}
 use Rattle.scope.specs.Verdict.{Verdict, verdict}
 use Rattle.scope.specs.Bound.{Bound, response}
-use Rattle.scope.specs.Jobs.{Job, jobsOf, badJob}
+use Rattle.scope.specs.Jobs.{jobsOf, badJob}
 use Rattle.scope.specs.Machine.{edf}
 use Rattle.scope.specs.Run.{Ran, ran, counts}
 

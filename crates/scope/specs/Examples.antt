@@ -14,7 +14,7 @@ use Rattle.scope.specs.Verdict.{Verdict, Verdict.meets, Verdict.miss, vi
 use Rattle.scope.specs.Bound.{Bound, Bound.bound, asked, suffices, response}
 use Rattle.scope.specs.Jobs.{jobLegal, badJob}
 use Rattle.scope.specs.Machine.{pending, tick, workLeft}
-use Rattle.scope.specs.Run.{Outcome, Outcome.met, Ran, late, outcome, backlogIn, backlog, count, ran, counts}
+use Rattle.scope.specs.Run.{Outcome.met, Ran, late, outcome, backlogIn, backlog, count, ran, counts}
 use Rattle.scope.specs.Answers.{Answer, Answer.given, Delay, windowListFault, frameFault, windowFault, taskListFault, taskFault, cycleFault, lengthFault, absentFault, roomFault, jobListFault, jobFault, tableFault, groupFault, leastSupplyAnswer, criticalFault, criticalAnswer, criticalOut, delayAnswer, marginAnswer, verdictAnswer, boundAnswer, runFault, runAnswer, runOut}
 use Rattle.scope.specs.Plan.{groups, wellFormed, readNumber, readNumbers, windowCountFault, taskCountFault, restFault, planOf, planAnswer}
 use Rattle.scope.specs.Line.{bytes, decimalWithin, decimal, line}
@@ -41,7 +41,8 @@ pub data Reply : Type 0 where
   aRun : Answer Ran → List ℕ → Reply
   text : List ℕ → Reply
 
-abbrev on : ℕ → Board
+-- a board with frame P
+abbrev pub on : ℕ → Board
 on P = record { frame = P }
 
 unfoldable pub reply : Question → Reply
@@ -65,7 +66,7 @@ abbrev _gives_ : Question → Reply → Example
 q gives r = record { question = q; expected = r }
 
 -- the windows of X, whose frame is 8
-abbrev X : List ℕ
+abbrev pub X : List ℕ
 X = 0 ∷ 2 ∷ 5 ∷ 7 ∷ []
 
 unfoldable pub table : List Example
@@ -104,6 +105,12 @@ table =
     gives aRun (given (record { outcome = met; backlog = 2 })) (4 ∷ 7 ∷ 9 ∷ []))
     ∷ []
 
-pub examples : map (λ e. reply (e .question)) table ≡ map (λ e. e .expected) table
+-- every row's question gets its expected reply
+abbrev pub Hold : List Example → Type 0
+Hold [] = Unit {0}
+Hold (e ∷ rows) = (reply (e .question) ≡ e .expected) × Hold rows
+
+pub examples : Hold table
 unfolding reply table sum least greatest all firstBy listed keep twos threes written supply leastSupply leastStart inWindow covers supplied windowLegal badWindow rises within edge runs critical lag delay taskLegal badTask taskDemand demand margin gcdWithin gcd lcm cycle violates verdict asked suffices response jobLegal badJob pending tick workLeft late outcome backlogIn backlog count ran counts windowListFault frameFault windowFault taskListFault taskFault cycleFault lengthFault absentFault roomFault jobListFault jobFault tableFault groupFault leastSupplyAnswer criticalFault criticalAnswer criticalOut delayAnswer marginAnswer verdictAnswer boundAnswer runFault runAnswer runOut groups wellFormed readNumber readNumbers windowCountFault taskCountFault restFault planOf planAnswer decimalWithin decimal line
-examples = refl
+examples =
+    (refl, (refl, (refl, (refl, (refl, (refl, (refl, (refl, (refl, (refl, (refl, (refl, (refl, (refl, (refl, tt)))))))))))))))

@@ -1,6 +1,6 @@
 -- Document 01, "Supply and demand": the critical partition, the delay and the longest outage, over any pattern σ.
 use Prim.Native.Nat.{ℕ, zero, suc, _+_, _-_, _*_}
-use mathlib.Core.Bool.{Bool, true, false, not, cond, _&&_}
+use mathlib.Core.Bool.{Bool, not, cond, _&&_}
 use mathlib.Core.List.{List}
 use lib.Dec.{ltb}
 use Rattle.scope.specs.Numbers.{greatest, keep}

@@ -6,7 +6,6 @@ use mathlib.Core.List.{List, [], _∷_, _++_}
 use lib.Dec.{leb, ltb, eqb}
 use lib.ListN.{length, drop}
 use Rattle.scope.specs.Limits.{mostWindows, mostTasks, mostNumber}
-use Rattle.scope.specs.Windows.{Board}
 use Rattle.scope.specs.Verdict.{Verdict}
 use Rattle.scope.specs.Answers.{Fault, Fault.fine, Fault.fault, Answer, Answer.given, Answer.refused, faultIf, unless, verdictAnswer}
 

@@ -1,20 +1,23 @@
 -- What an entry that does not refuse has checked
-use mathlib.Core.Path.{_≡_, refl, sym, ap, _∙_}
+use mathlib.Core.Path.{_≡_, refl}
 use mathlib.Core.Bool.{Bool, true, false, not, _||_}
 use mathlib.Core.Option.{Option, none, some}
 use mathlib.Core.List.{List}
 use Prim.Native.Nat.{ℕ, _*_, _%_, _≤_, _<_}
 use native.Mathlib.Omega.{arith}
-use lib.Dec.{leb, ltb, eqb}
+use lib.Dec.{ltb, eqb}
 use lib.ListN.{length}
 use borrow.Author.Tests.{ltb-false, leb-false, eqb-true, eqb-false}
-use Rattle.scope.specs.Limits.{mostFrame, mostWindows, mostTasks, mostCycle}
+use Rattle.scope.specs.Limits.{mostFrame, mostWindows, mostTasks, mostCycle, mostTicks, mostJobs}
 use Rattle.scope.specs.Windows.{Board, windowsOf, supplied, badWindow}
 use Rattle.scope.specs.Tasks.{tasksOf, badTask}
 use Rattle.scope.specs.Cycle.{cycle}
 use Rattle.scope.specs.Verdict.{Verdict, verdict}
 use Rattle.scope.specs.Bound.{Bound, response}
-use Rattle.scope.specs.Answers.{Fault, Fault.fine, Fault.fault, Answer, Answer.given, Answer.refused, faultIf, faultAt, _orElse_, unless, windowListFault, frameFault, windowFault, taskListFault, taskFault, cycleFault, absentFault, tableFault, groupFault, verdictAnswer, boundAnswer}
+use Rattle.scope.specs.Jobs.{jobsOf, badJob}
+use Rattle.scope.specs.Machine.{edf}
+use Rattle.scope.specs.Run.{Ran, ran}
+use Rattle.scope.specs.Answers.{Fault, Fault.fine, Fault.fault, Answer.given, faultIf, faultAt, _orElse_, unless, windowListFault, frameFault, windowFault, taskListFault, taskFault, cycleFault, absentFault, tableFault, groupFault, verdictAnswer, boundAnswer, jobListFault, jobFault, roomFault, runFault, runAnswer}
 use Rattle.theory.specs.Numbers.{not-false}
 use Rattle.theory.specs.Tasks.{TaskRules, Within, task-rules}
 
@@ -130,5 +133,37 @@ bounded b ws ts i r e =
       table = table-legal b ws (p .0);
       group = group-legal ts (q .0);
       present = leb-false (length (tasksOf ts)) i (faultIf-fine _ 7 0 (q .1));
+      is = u .1;
+    }
+
+pub record Runs (b : Board) (ws ts : List ℕ) (n : ℕ) (js : List ℕ) (room : ℕ) (r : Ran) : Type 0 where
+  pub table : LegalTable b ws
+  pub group : LegalGroup ts
+  pub threes : length js % 3 ≡ 0
+  pub few : length js ≤ 3 * mostJobs
+  pub ticks : n ≤ mostTicks
+  pub jobs : badJob (tasksOf ts) n (jobsOf js) ≡ none
+  pub roomy : length (jobsOf js) ≤ room
+  pub is : ran (supplied b ws) (edf (tasksOf ts) (jobsOf js)) (tasksOf ts) (jobsOf js) n ≡ r
+
+pub runs : (b : Board) (ws ts : List ℕ) (n : ℕ) (js : List ℕ) (room : ℕ) (r : Ran) → runAnswer b ws ts n js room ≡ given r → Runs b ws ts n js room r
+unfolding runAnswer runFault jobListFault jobFault roomFault
+runs b ws ts n js room r e =
+    let u = unless-given (runFault b ws ts n js room) _ r e in
+    let p₁ = orElse-fine (tableFault b ws) (groupFault ts orElse jobListFault n js orElse jobFault ts n js orElse roomFault (length (jobsOf js)) room) (u .0) in
+    let p₂ = orElse-fine (groupFault ts) (jobListFault n js orElse jobFault ts n js orElse roomFault (length (jobsOf js)) room) (p₁ .1) in
+    let p₃ = orElse-fine (jobListFault n js) (jobFault ts n js orElse roomFault (length (jobsOf js)) room) (p₂ .1) in
+    let p₄ = orElse-fine (jobFault ts n js) (roomFault (length (jobsOf js)) room) (p₃ .1) in
+    let odd = not (eqb (length js % 3) 0) in
+    let l = or-false (odd || ltb (3 * mostJobs) (length js)) (ltb mostTicks n) (faultIf-fine _ 10 0 (p₃ .0)) in
+    let l′ = or-false odd (ltb (3 * mostJobs) (length js)) (l .0) in
+    record {
+      table = table-legal b ws (p₁ .0);
+      group = group-legal ts (p₂ .0);
+      threes = eqb-true (length js % 3) 0 (not-false _ (l′ .0));
+      few = ltb-false (3 * mostJobs) (length js) (l′ .1);
+      ticks = ltb-false mostTicks n (l .1);
+      jobs = faultAt-fine 11 (badJob (tasksOf ts) n (jobsOf js)) (p₄ .0);
+      roomy = ltb-false room (length (jobsOf js)) (faultIf-fine _ 8 (length (jobsOf js)) (p₄ .1));
       is = u .1;
     }

@@ -1,27 +1,26 @@
 -- Demand 2: the verdict is exact. The only premise is that the entry gave a verdict on the lists of numbers lent to it
 use mathlib.Core.Path.{_≡_, refl, sym, ap, _∙_}
-use mathlib.Core.Bool.{Bool, true, false}
+use mathlib.Core.Bool.{Bool, false}
 use mathlib.Core.Logic.{_↔_}
 use mathlib.Core.Option.{Option, none, some}
 use mathlib.Core.List.{List}
 use Prim.Native.Nat.{ℕ, suc, _≤_, _<_}
 use native.Mathlib.Omega.{arith}
 use native.Mathlib.Decide.{decLt}
-use lib.Dec.{ltb}
 use borrow.Author.Tests.{ltb-true, ltb-false, lt-ltb, le-ltb}
 use Rattle.scope.specs.Numbers.{first}
-use Rattle.scope.specs.Ticks.{Periodic, supply, leastSupply, leastStart}
+use Rattle.scope.specs.Ticks.{Periodic, leastSupply, leastStart}
 use Rattle.scope.specs.Windows.{Board, supplied}
 use Rattle.scope.specs.Tasks.{Task, tasksOf, demand}
 use Rattle.scope.specs.Cycle.{cycle}
 use Rattle.scope.specs.Verdict.{Verdict, Verdict.meets, Verdict.miss, violates, shown, verdict}
-use Rattle.scope.specs.Answers.{Answer, Answer.given, verdictAnswer}
+use Rattle.scope.specs.Answers.{Answer.given, verdictAnswer}
 use Rattle.scope.specs.Demands.{LeastMiss}
 use Rattle.theory.specs.Numbers.{first-none, none-first, first-some, some-first}
 use Rattle.theory.specs.Ticks.{least-start, least-start-unique}
 use Rattle.theory.specs.Windows.{supplied-periodic}
 use Rattle.theory.specs.Cycle.{cycle-pos, cycle-frame, cycle-periods}
-use Rattle.theory.specs.Horizon.{horizon, all-lengths}
+use Rattle.theory.specs.Horizon.{horizon}
 use Rattle.theory.specs.Answers.{Judged, judged}
 
 -- ---- over any pattern σ that repeats with P, and any cycle H for which the horizon holds

@@ -1,5 +1,5 @@
 -- A violating length exists at all only if one exists in 1 to H
-use mathlib.Core.Path.{_≡_, refl, sym, ap, _∙_}
+use mathlib.Core.Path.{_≡_, ap}
 use mathlib.Core.Bool.{Bool}
 use mathlib.Core.List.{List}
 use Prim.Native.Nat.{ℕ, zero, suc, _+_, _-_, _*_, _≤_, _<_, _∣_}
@@ -38,12 +38,4 @@ module _ (σ : ℕ → Bool) (P : ℕ) (per : Periodic σ P) (ts : List Task) (o
             above-within (demand ts) (leastSupply σ P) H (load ts H) pos (demand-none ts ok) (demand-cycle ts H ok div)
             (least-cycle σ P per H frame) c t t (le-mul-of-pos-right t pos) v
         | no c ↦ (H, pos, omega arith, omega (arith, demand-whole ts H ok div within))
-      ]
-
-  -- the same, for a search that found none
-  pub all-lengths : Within ts → ((t : ℕ) → t ≤ H → demand ts t ≤ leastSupply σ P t) → (t : ℕ) → demand ts t ≤ leastSupply σ P t
-  all-lengths within h t =
-      elim (decLe (demand ts t) (leastSupply σ P t)) [
-        | yes l ↦ l
-        | no l ↦ let a = horizon within t (omega arith) in absurd (omega (arith, h (a .0) (a .2), a .3))
       ]

@@ -1,15 +1,15 @@
 -- Laws of sums, of the least, the greatest and the first, over any function and any test of numbers
 use mathlib.Core.Path.{_≡_, refl, sym, ap, _∙_}
-use mathlib.Core.Bool.{Bool, true, false, not, cond, _&&_, _||_, and-eq-true-iff, true≢false, false≢true}
+use mathlib.Core.Bool.{Bool, true, false, not, cond, _&&_, and-eq-true-iff, true≢false, false≢true}
 use mathlib.Core.Logic.{_≢_, _⊎_, inl, inr}
 use mathlib.Core.Option.{Option, none, some}
-use Prim.Native.Nat.{ℕ, zero, suc, _+_, _*_, _≤_, _<_, min, max}
+use Prim.Native.Nat.{ℕ, zero, suc, _+_, _*_, _≤_, _<_}
 use native.Mathlib.Omega.{arith}
 use native.Mathlib.Nat.{add-zero, add-suc, le-trans}
 use native.Mathlib.Decide.{ℕ-discrete, decLt, decLe}
 use lib.Dec.{leb, ltb, eqb}
-use borrow.Author.Tests.{ltb-true, ltb-false, leb-true, eqb-true, lt-ltb, le-ltb, le-leb, eq-eqb, ne-eqb}
-use Rattle.scope.specs.Numbers.{when, bit, sum, least, greatest, all, sooner, firstBy, first, lexically, orZero}
+use borrow.Author.Tests.{ltb-true, ltb-false, leb-true, lt-ltb, le-ltb, le-leb, eq-eqb, ne-eqb}
+use Rattle.scope.specs.Numbers.{when, bit, sum, least, greatest, all, sooner, firstBy, first, lexically}
 
 -- ---- tests
 
@@ -41,17 +41,6 @@ pub bit-le : (b : Bool) → bit b ≤ 1
 bit-le true = omega arith
 bit-le false = omega arith
 
-pub bit-none : (b : Bool) → bit b ≡ 0 → b ≡ false
-bit-none true e = absurd (omega arith)
-bit-none false e = refl
-
-pub bit-some : (b : Bool) → bit b ≢ 0 → b ≡ true
-bit-some true u = refl
-bit-some false u = absurd (u refl)
-
-pub le-or-lt : (a b : ℕ) → (a ≤ b) ⊎ (b < a)
-le-or-lt a b = elim (decLe a b) [ yes h ↦ inl h | no h ↦ inr (omega arith) ]
-
 -- what holds of all numbers below n, and of n, holds of all below n + 1
 pub below-suc : (Q : ℕ → Type 0) (n : ℕ) → ((j : ℕ) → j < n → Q j) → Q n → (j : ℕ) → j < suc n → Q j
 below-suc Q n h q j l = elim (ℕ-discrete j n) [ yes e ↦ rw e q | no u ↦ h j (omega arith) ]
@@ -82,11 +71,6 @@ pub sum-same : (c n : ℕ) → sum (λ i. c) n ≡ n * c
 unfolding sum
 sum-same c zero = omega arith
 sum-same c (suc n) = omega (arith, sum-same c n)
-
-pub sum-scale : (q : ℕ) (f : ℕ → ℕ) (n : ℕ) → sum (λ i. q * f i) n ≡ q * sum f n
-unfolding sum
-sum-scale q f zero = omega arith
-sum-scale q f (suc n) = omega (arith, sum-scale q f n)
 
 pub sum-split : (f : ℕ → ℕ) (a b : ℕ) → sum f (a + b) ≡ sum f a + sum (λ i. f (a + i)) b
 unfolding sum
@@ -203,21 +187,15 @@ least-le f zero i h = absurd (omega arith)
 least-le f (suc n) i h =
     elim (ℕ-discrete i n) [ yes e ↦ omega (arith, ap f e) | no q ↦ omega (arith, least-le f n i (omega arith)) ]
 
--- where the least is met
-pub record Met (f : ℕ → ℕ) (n : ℕ) : Type 0 where
-  pub at : ℕ
-  pub below : at < n
-  pub is-least : f at ≡ least f n
-
-pub least-met : (f : ℕ → ℕ) (n : ℕ) → 0 < n → Met f n
+pub least-met : (f : ℕ → ℕ) (n : ℕ) → 0 < n → (i : ℕ) × (i < n) × (f i ≡ least f n)
 unfolding least
 least-met f zero p = absurd (omega arith)
-least-met f (suc zero) p = record { at = 0; below = omega arith; is-least = omega arith }
+least-met f (suc zero) p = (0, omega arith, omega arith)
 least-met f (suc (suc n)) p =
     let m = least-met f (suc n) (omega arith) in
     elim (decLe (least f (suc n)) (f (suc n))) [
-      | yes h ↦ record { at = m .at; below = omega (arith, m .below); is-least = omega (arith, m .is-least) }
-      | no h ↦ record { at = suc n; below = omega arith; is-least = omega arith }
+      | yes h ↦ (m .0, omega (arith, m .1), omega (arith, m .2))
+      | no h ↦ (suc n, omega arith, omega arith)
     ]
 
 pub greatest-ge : (f : ℕ → ℕ) (n i : ℕ) → i < n → f i ≤ greatest f n
@@ -226,10 +204,16 @@ greatest-ge f zero i h = absurd (omega arith)
 greatest-ge f (suc n) i h =
     elim (ℕ-discrete i n) [ yes e ↦ omega (arith, ap f e) | no q ↦ omega (arith, greatest-ge f n i (omega arith)) ]
 
-pub greatest-le : (f : ℕ → ℕ) (n u : ℕ) → ((i : ℕ) → i < n → f i ≤ u) → greatest f n ≤ u
+pub greatest-met : (f : ℕ → ℕ) (n : ℕ) → 0 < n → (i : ℕ) × (i < n) × (f i ≡ greatest f n)
 unfolding greatest
-greatest-le f zero u h = omega arith
-greatest-le f (suc n) u h = omega (arith, greatest-le f n u (λ i l. h i (omega arith)), h n (omega arith))
+greatest-met f zero p = absurd (omega arith)
+greatest-met f (suc zero) p = (0, omega arith, omega arith)
+greatest-met f (suc (suc n)) p =
+    let m = greatest-met f (suc n) (omega arith) in
+    elim (decLe (f (suc n)) (greatest f (suc n))) [
+      | yes h ↦ (m .0, omega (arith, m .1), omega (arith, m .2))
+      | no h ↦ (suc n, omega arith, omega arith)
+    ]
 
 -- ---- all
 
@@ -273,6 +257,17 @@ module _ (p : ℕ → Bool) (before : ℕ → ℕ → Bool) (m : ℕ → ℕ) (b
   unfolding firstBy
   first-is zero = λ j h q. omega arith
   first-is (suc n) = first-step n (p n) (firstBy before p n) refl (first-is n)
+
+-- in any order at all, what is first passes the test
+pub first-passes : (p : ℕ → Bool) (before : ℕ → ℕ → Bool) (n c : ℕ) → firstBy before p n ≡ some c → (c < n) × (p c ≡ true)
+first-passes p before n c e = go (firstBy before p n) (first-is p before (λ i. 0) any n) e
+  where
+    any : By before (λ i. 0)
+    any = record { ahead = λ a b q. omega arith; behind = λ a b q. omega arith }
+
+    go : (o : Option ℕ) → IsFirst p (λ i. 0) n o → o ≡ some c → (c < n) × (p c ≡ true)
+    go none f q = let z : _≡_ {A = ℕ} 0 1 = cc in absurd (omega arith)
+    go (some d) f q = let g : d ≡ c = cc in (omega (arith, f .0), rw (← g) (f .1))
 
 -- an order by m and then by the rest goes first by m
 lexically-true : (x y : ℕ) (rest : Bool) → lexically x y rest ≡ true → x ≤ y
@@ -318,10 +313,11 @@ module _ (p : ℕ → Bool) (n : ℕ) where
       go : (o : Option ℕ) → IsFirst p (λ i. i) n o → o ≡ some c → (c < n) × (p c ≡ true) × ((j : ℕ) → j < c → p j ≡ false)
       go none f q = let z : _≡_ {A = ℕ} 0 1 = cc in absurd (omega arith)
       go (some d) f q =
-          let e : d ≡ c = cc in
-          let low : (b : Bool) → (j : ℕ) → j < c → p j ≡ b → p j ≡ false =
-          λ b j l r. elim (ℕ-discrete (bit (p j)) 0) [ yes u ↦ bit-none (p j) u | no u ↦ absurd (omega (arith, f .2 j (omega (arith, f .0)) (bit-some (p j) u))) ] in
-          (omega (arith, f .0), rw (← e) (f .1), λ j l. low (p j) j l refl)
+          let e : d ≡ c = cc in (
+            omega (arith, f .0),
+            rw (← e) (f .1),
+            λ j l. elim (bool-cases (p j)) [ inl r ↦ absurd (omega (arith, f .2 j (omega (arith, f .0)) r)) | inr r ↦ r ],
+          )
 
   pub some-first : (c : ℕ) → c < n → p c ≡ true → ((j : ℕ) → j < c → p j ≡ false) → first p n ≡ some c
   some-first c l e low = go (first p n) (least-is p n)

@@ -1,12 +1,12 @@
 -- Laws of tasks and of their demand
-use mathlib.Core.Path.{_≡_, refl, sym, ap, _∙_}
+use mathlib.Core.Path.{_≡_, refl, ap, _∙_}
 use mathlib.Core.Bool.{Bool, true, false, not, cond, _&&_}
-use mathlib.Core.Option.{Option, none, some}
+use mathlib.Core.Option.{none}
 use mathlib.Core.List.{List, [], _∷_}
 use Prim.Native.Nat.{ℕ, zero, suc, _+_, _-_, _*_, _/_, _≤_, _<_, _∣_}
 use native.Mathlib.Omega.{arith}
 use native.Mathlib.Nat.{zero-add, add-div-right, add-mul-div-right, div-lt-iff-lt-mul, le-div-iff-mul-le, div-mul-cancel, mul-le-mul-right}
-use native.Mathlib.Decide.{decLe, decLt}
+use native.Mathlib.Decide.{decLt}
 use lib.Dec.{leb, ltb}
 use lib.ListN.{length}
 use borrow.Author.Tests.{lt-ltb, le-ltb, leb-true}
@@ -36,8 +36,7 @@ task-rule x e =
     let p₃ = and-both (taskNumber (x .C)) (taskNumber (x .T)) (p₂ .0) in
     let c = number-rule (x .C) (p₃ .0) in
     let t = number-rule (x .T) (p₃ .1) in
-    let d = number-rule (x .D) (p₂ .1) in
-    (
+    let d = number-rule (x .D) (p₂ .1) in (
       record { work = c .0; work-most = c .1; period = t .0; period-most = t .1; due = d .0; due-most = d .1 },
       leb-true (x .D) (x .T) (p₁ .1),
     )

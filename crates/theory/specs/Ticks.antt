@@ -1,15 +1,15 @@
 -- Laws of supply and of the least supply, over any pattern σ of supplied ticks
 use mathlib.Core.Path.{_≡_, refl, sym, ap, _∙_}
-use mathlib.Core.Bool.{Bool, true, false}
+use mathlib.Core.Bool.{Bool}
 use mathlib.Core.Option.{Option, none, some}
 use Prim.Native.Nat.{ℕ, zero, suc, _+_, _-_, _*_, _%_, _/_, _≤_, _<_, _∣_}
 use native.Mathlib.Omega.{arith}
 use native.Mathlib.Nat.{add-zero, add-suc, zero-add, add-assoc, mod-lt, mod-add-div', div-mul-cancel, le-trans, le-antisymm}
 use lib.Dec.{eqb}
-use borrow.Author.Tests.{eqb-true, eqb-false, eq-eqb}
-use Rattle.scope.specs.Numbers.{bit, least, first, orZero}
+use borrow.Author.Tests.{eqb-true, eqb-false}
+use Rattle.scope.specs.Numbers.{bit, first, orZero}
 use Rattle.scope.specs.Ticks.{Periodic, supply, perFrame, leastSupply, leastStart}
-use Rattle.theory.specs.Numbers.{bit-le, Met, least-le, least-met, first-none, first-some}
+use Rattle.theory.specs.Numbers.{bit-le, least-le, least-met, first-none, first-some}
 
 -- ---- supply
 
@@ -84,7 +84,7 @@ module _ (σ : ℕ → Bool) (P : ℕ) (per : Periodic σ P) where
   -- and some start below P has no more
   pub least-is-met : (t : ℕ) → (s : ℕ) × (s < P) × (supply σ s t ≡ leastSupply σ P t)
   unfolding leastSupply
-  least-is-met t = let m = least-met (λ s. supply σ s t) P (per .some) in (m .at, m .below, m .is-least)
+  least-is-met t = least-met (λ s. supply σ s t) P (per .some)
 
   -- it is the number that every start has at least and some start has
   pub least-from : (t p : ℕ) → ((s : ℕ) → p ≤ supply σ s t) → p ≤ leastSupply σ P t

@@ -1,0 +1,89 @@
+-- The response bound is the least length that suffices, and there is none exactly where the answer is "no bound"
+use mathlib.Core.Path.{_≡_, refl, sym, ap, _∙_}
+use mathlib.Core.Bool.{Bool, true, false, false≢true}
+use mathlib.Core.Logic.{_↔_}
+use mathlib.Core.Option.{Option, none, some}
+use mathlib.Core.List.{List}
+use Prim.Native.Nat.{ℕ, suc, _≤_, _<_}
+use native.Mathlib.Omega.{arith}
+use Rattle.scope.specs.Numbers.{first}
+use Rattle.scope.specs.Ticks.{leastSupply}
+use Rattle.scope.specs.Windows.{Board, supplied}
+use Rattle.scope.specs.Tasks.{Task, tasksOf, taskAt}
+use Rattle.scope.specs.Bound.{Bound, Bound.bound, Bound.noBound, asked, suffices, orNoBound, response}
+use Rattle.scope.specs.Answers.{Answer.given, boundAnswer}
+use Rattle.theory.specs.Numbers.{fits-true, true-fits, first-none, none-first, first-some, some-first}
+use Rattle.theory.specs.Answers.{bounded}
+
+-- ---- over any pattern
+
+module _ (σ : ℕ → Bool) (P : ℕ) (ts : List Task) (i : ℕ) where
+  abbrev Enough : ℕ → Type 0
+  Enough t = asked ts i t ≤ leastSupply σ P t
+
+  abbrev due : ℕ
+  due = (taskAt ts i) .D
+
+  abbrev test : ℕ → Bool
+  test = suffices σ P ts i
+
+  enough-test : (t : ℕ) → test t ≡ true → (1 ≤ t) × Enough t
+  unfolding suffices
+  enough-test t e = fits-true 1 t (asked ts i t) (leastSupply σ P t) e
+
+  test-enough : (t : ℕ) → 1 ≤ t → Enough t → test t ≡ true
+  unfolding suffices
+  test-enough t l h = true-fits 1 t (asked ts i t) (leastSupply σ P t) l h
+
+  -- a test that fails at t says that t does not suffice; and the other way
+  no-test : (t : ℕ) → test t ≡ false → 1 ≤ t → Enough t → ⊥
+  no-test t e l h = false≢true (sym e ∙ test-enough t l h)
+
+  test-no : (t : ℕ) → (1 ≤ t → Enough t → ⊥) → test t ≡ false
+  test-no t h = go (test t) refl
+    where
+      go : (c : Bool) → test t ≡ c → test t ≡ false
+      go true e = let p = enough-test t e in absurd (h (p .0) (p .1))
+      go false e = e
+
+  pub least-bound : (t : ℕ) → (response σ P ts i ≡ bound t) ↔ ((1 ≤ t) × (t ≤ due) × Enough t × ((u : ℕ) → 1 ≤ u → u < t → Enough u → ⊥))
+  unfolding response
+  least-bound t = (λ e. go (first test (suc due)) refl e, λ w. ap orNoBound (some-first test (suc due) t (omega (arith, w .1)) (test-enough t (w .0) (w .2)) (λ u l. test-no u (λ a. w .3 u a l))))
+    where
+      go : (o : Option ℕ) → first test (suc due) ≡ o → orNoBound o ≡ bound t → (1 ≤ t) × (t ≤ due) × Enough t × ((u : ℕ) → 1 ≤ u → u < t → Enough u → ⊥)
+      go none f q = let z : _≡_ {A = ℕ} 0 1 = cc in absurd (omega arith)
+      go (some a) f q =
+          let e : a ≡ t = cc in
+          let w = first-some test (suc due) a f in
+          let p = enough-test a (w .1) in
+          (omega (arith, p .0), omega (arith, w .0), rw (← e) (p .1), λ u l h. no-test u (w .2 u (omega arith)) l)
+
+  pub none-bound : (response σ P ts i ≡ noBound) ↔ ((t : ℕ) → 1 ≤ t → t ≤ due → Enough t → ⊥)
+  unfolding response
+  none-bound = (λ e. go (first test (suc due)) refl e, λ h. ap orNoBound (none-first test (suc due) (λ t l. test-no t (λ a. h t a (omega arith)))))
+    where
+      go : (o : Option ℕ) → first test (suc due) ≡ o → orNoBound o ≡ noBound → (t : ℕ) → 1 ≤ t → t ≤ due → Enough t → ⊥
+      go none f q = λ t l h. no-test t (first-none test (suc due) f t (omega arith)) l
+      go (some a) f q = let z : _≡_ {A = ℕ} 0 1 = cc in absurd (omega arith)
+
+-- ---- the entry
+
+module _ (b : Board) (ws ts : List ℕ) (i : ℕ) (r : Bound) (answered : boundAnswer b ws ts i ≡ given r) where
+  -- in t ticks the least supply is at least C + the sum over lower indices j of ceil(t/Tj)·Cj
+  abbrev Suffices : ℕ → Type 0
+  Suffices t = asked (tasksOf ts) i t ≤ leastSupply (supplied b ws) (b .frame) t
+
+  abbrev D : ℕ
+  D = (taskAt (tasksOf ts) i) .D
+
+  pub exact-bound : (t : ℕ) → (r ≡ bound t) ↔ ((1 ≤ t) × (t ≤ D) × Suffices t × ((u : ℕ) → 1 ≤ u → u < t → Suffices u → ⊥))
+  exact-bound t =
+      let e = bounded b ws ts i r answered .is in
+      let w = least-bound (supplied b ws) (b .frame) (tasksOf ts) i t in
+      (λ q. w .0 (e ∙ q), λ h. sym e ∙ w .1 h)
+
+  pub exact-no-bound : (r ≡ noBound) ↔ ((t : ℕ) → 1 ≤ t → t ≤ D → Suffices t → ⊥)
+  exact-no-bound =
+      let e = bounded b ws ts i r answered .is in
+      let w = none-bound (supplied b ws) (b .frame) (tasksOf ts) i in
+      (λ q. w .0 (e ∙ q), λ h. sym e ∙ w .1 h)

@@ -1,0 +1,95 @@
+-- Demand 3, first half: where the verdict is "meets", every legal run under earliest deadline first meets every deadline
+use mathlib.Core.Path.{_≡_, refl}
+use mathlib.Core.Bool.{Bool, _&&_}
+use mathlib.Core.Option.{none}
+use mathlib.Core.List.{List}
+use Prim.Native.Nat.{ℕ, _+_, _≤_, _<_}
+use native.Mathlib.Omega.{arith}
+use native.Mathlib.Nat.{le-trans}
+use lib.Dec.{leb}
+use lib.ListN.{length, getD}
+use borrow.Author.Tests.{leb-true, le-leb}
+use Rattle.scope.specs.Numbers.{when}
+use Rattle.scope.specs.Ticks.{supply}
+use Rattle.scope.specs.Windows.{Board, supplied}
+use Rattle.scope.specs.Tasks.{Task, tasksOf, taskAt, demand}
+use Rattle.scope.specs.Verdict.{Verdict.meets}
+use Rattle.scope.specs.Jobs.{Job, releaseOf, taskOf, workOf, deadline, badJob}
+use Rattle.scope.specs.Machine.{edf, workLeft}
+use Rattle.scope.specs.Run.{Outcome.met, outcome, count, counts}
+use Rattle.scope.specs.Answers.{Answer.given, verdictAnswer}
+use Rattle.scope.specs.Demands.{dueWithin}
+use Rattle.theory.specs.Numbers.{fits, fits-true, true-fits, and-both, sum-le, when-le, by-lexically}
+use Rattle.theory.specs.Ticks.{least-over-all-starts}
+use Rattle.theory.specs.Windows.{supplied-periodic}
+use Rattle.theory.specs.Tasks.{TaskRules}
+use Rattle.theory.specs.Answers.{judged}
+use Rattle.theory.specs.Exact.{exact-meets}
+use Rattle.theory.specs.Reached.{due-within}
+use Rattle.theory.specs.Jobs.{job-rules}
+use Rattle.theory.specs.Quiet.{Serves, released, quiet-at, done-by}
+use Rattle.theory.specs.Machine.{serves}
+use Rattle.theory.specs.Run.{listed-at, all-met, count-by}
+
+-- ---- earliest deadline first
+
+module _ (σ : ℕ → Bool) (ts : List Task) (ok : TaskRules ts) (n : ℕ) (js : List Job) (legal : badJob ts n js ≡ none)
+    (enough : (s t : ℕ) → demand ts t ≤ supply σ s t) where
+  -- the jobs due by e, served before all others
+  due-served : (e : ℕ) → Serves σ (length js) (releaseOf js) (workOf js) (λ j. leb (deadline ts js j) e) (λ k j. getD (workLeft σ (edf ts js) js k) j 0)
+  due-served = serves σ (edf ts js) js (deadline ts js) (by-lexically (deadline ts js) _)
+
+  -- a stretch that ends at e supplies all the work that is released in it and due by e
+  due-supplied : (e b t : ℕ) → b + t ≡ e → released σ (length js) (releaseOf js) (workOf js) _ _ (due-served e) b t ≤ supply σ b t
+  unfolding dueWithin
+  due-supplied e b t q =
+      omega (
+        arith,
+        enough b t,
+        due-within ts ok n js legal b t,
+        sum-le (λ j. when (leb (deadline ts js j) e && fits b (releaseOf js j) (releaseOf js j + 1) (b + t)) (workOf js j))
+            (λ j. when (fits b (releaseOf js j) (deadline ts js j) (b + t)) (workOf js j)) (length js) (λ j l.
+            when-le _ _ (workOf js j) (workOf js j) (λ z.
+            let p = and-both (leb (deadline ts js j) e) (fits b (releaseOf js j) (releaseOf js j + 1) (b + t)) z in (
+              true-fits b (releaseOf js j) (deadline ts js j) (b + t) (fits-true b (releaseOf js j) (releaseOf js j + 1) (b + t) (p .1) .0)
+                  (omega (arith, leb-true (deadline ts js j) e (p .0))),
+              omega arith,
+            ))),
+      )
+
+  -- no job is unfinished at its deadline, or after it
+  pub edf-in-time : (j k : ℕ) → j < length js → deadline ts js j ≤ k → getD (workLeft σ (edf ts js) js k) j 0 ≡ 0
+  edf-in-time j k l h =
+      let e : ℕ = deadline ts js j in
+      let o = ok (taskOf js j) (job-rules ts n js legal j l .known) in
+      let sv = due-served e in
+      done-by σ (length js) (releaseOf js) (workOf js) _ _ sv e k j
+      (quiet-at σ (length js) (releaseOf js) (workOf js) _ _ sv e (omega (arith, o .due)) (due-supplied e)) l (le-leb e e (omega arith)) (omega (arith, o .due)) h
+
+  -- so every run is met, and each job whose deadline falls in it has a count of 1 to D
+  pub edf-run : (outcome σ (edf ts js) ts js n ≡ met)
+      × ((j : ℕ) → j < length js → deadline ts js j ≤ n →
+      (1 ≤ getD (counts σ (edf ts js) ts js n) j 0) × (getD (counts σ (edf ts js) ts js n) j 0 ≤ (taskAt ts (taskOf js j)) .D))
+  unfolding counts
+  edf-run =
+      let e : outcome σ (edf ts js) ts js n ≡ met = all-met σ (edf ts js) js ts edf-in-time n in (
+        e,
+        λ j l d. rw (e, listed-at (count σ (edf ts js) js n) (length js) j l)
+            (let c = count-by σ (edf ts js) js n (deadline ts js j) j d (job-rules ts n js legal j l .some) (edf-in-time j (deadline ts js j) l (omega arith)) in
+            (c .0, omega (arith, c .1))),
+      )
+
+-- ---- the entry
+
+-- for every n and every legal job list, without bound on either
+pub edf-meets : (b : Board) (ws ts : List ℕ) (H : ℕ) → verdictAnswer b ws ts ≡ given (meets H) →
+    (n : ℕ) (js : List Job) → badJob (tasksOf ts) n js ≡ none →
+    (outcome (supplied b ws) (edf (tasksOf ts) js) (tasksOf ts) js n ≡ met)
+    × ((j : ℕ) → j < length js → deadline (tasksOf ts) js j ≤ n →
+    (1 ≤ getD (counts (supplied b ws) (edf (tasksOf ts) js) (tasksOf ts) js n) j 0)
+    × (getD (counts (supplied b ws) (edf (tasksOf ts) js) (tasksOf ts) js n) j 0 ≤ (taskAt (tasksOf ts) (taskOf js j)) .D))
+edf-meets b ws ts H answered n js legal =
+    let f = judged b ws ts (meets H) answered in
+    let all = exact-meets b ws ts (meets H) answered H .0 refl .1 in
+    edf-run (supplied b ws) (tasksOf ts) (f .group .rules) n js legal
+    (λ s t. le-trans (all t) (least-over-all-starts (supplied b ws) (b .frame) (supplied-periodic b ws (f .table .frame)) s t))

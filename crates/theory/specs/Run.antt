@@ -1,0 +1,77 @@
+-- Laws of a run's outcome and counts, over any pattern σ and any rule of choice
+use mathlib.Core.Path.{_≡_, refl, sym, ap, _∙_}
+use mathlib.Core.Bool.{Bool, true, false≢true}
+use mathlib.Core.Option.{Option, none, some}
+use mathlib.Core.List.{List, [], _∷_}
+use Prim.Native.Nat.{ℕ, zero, suc, _+_, _≤_, _<_}
+use native.Mathlib.Omega.{arith}
+use native.Mathlib.Decide.{ℕ-discrete, decLe}
+use lib.ListN.{length, getD, length-append, List·getD-append}
+use lib.Seq.{getD-at}
+use borrow.Author.Tests.{eqb-true, eq-eqb}
+use Rattle.scope.specs.Numbers.{first, listed}
+use Rattle.scope.specs.Tasks.{Task}
+use Rattle.scope.specs.Jobs.{Job, releaseOf, workOf, deadline}
+use Rattle.scope.specs.Machine.{workLeft}
+use Rattle.scope.specs.Run.{Outcome.met, late, judged, outcome, doneAt, since, count}
+use Rattle.theory.specs.Numbers.{fits-true, first-none, first-some}
+use Rattle.theory.specs.Machine.{workLeft-before}
+
+-- ---- lists of counts
+
+pub listed-length : (f : ℕ → ℕ) (n : ℕ) → length (listed f n) ≡ n
+unfolding listed
+listed-length f zero = refl
+listed-length f (suc n) = length-append (listed f n) (f n ∷ []) ∙ omega (arith, listed-length f n)
+
+pub listed-at : (f : ℕ → ℕ) (n j : ℕ) → j < n → getD (listed f n) j 0 ≡ f j
+unfolding listed
+listed-at f zero j l = absurd (omega arith)
+listed-at f (suc n) j l =
+    elim (ℕ-discrete n j) [
+      | yes e ↦ getD-at (listed f n) (f n) [] 0 j (listed-length f n ∙ e) ∙ ap f e
+      | no u ↦ List·getD-append (listed f n) (f n ∷ []) 0 j (omega (arith, listed-length f n)) ∙ listed-at f n j (omega arith)
+    ]
+
+-- ---- runs
+
+module _ (σ : ℕ → Bool) (before : ℕ → ℕ → Bool) (js : List Job) where
+  -- where no job is unfinished at its deadline or later, every run is met
+  pub all-met : (ts : List Task) → ((j k : ℕ) → j < length js → deadline ts js j ≤ k → getD (workLeft σ before js k) j 0 ≡ 0) →
+      (n : ℕ) → outcome σ before ts js n ≡ met
+  unfolding outcome late
+  all-met ts h zero = refl
+  all-met ts h (suc k) = rw (all-met ts h k) (go (first lates (length js)) refl)
+    where
+      lates : ℕ → Bool
+      lates = late ts js (suc k) (workLeft σ before js (suc k))
+
+      go : (o : Option ℕ) → first lates (length js) ≡ o → judged (suc k) o ≡ met
+      go none e = refl
+      go (some j) e =
+          let f = first-some lates (length js) j e in
+          let p = fits-true (deadline ts js j) (suc k) 1 (getD (workLeft σ before js (suc k)) j 0) (f .1) in
+          absurd (omega (arith, h j (suc k) (f .0) (p .0), p .1))
+
+  -- a job that has no work left at instant k is counted by then, in every run that ends no earlier
+  pub count-by : (n k j : ℕ) → k ≤ n → 1 ≤ workOf js j → getD (workLeft σ before js k) j 0 ≡ 0 →
+      (1 ≤ count σ before js n j) × (releaseOf js j + count σ before js n j ≤ k)
+  unfolding count
+  count-by n k j l w e = go (first done (suc n)) refl
+    where
+      done : ℕ → Bool
+      done = doneAt σ before js j
+
+      done-k : done k ≡ true
+      done-k = eq-eqb (getD (workLeft σ before js k) j 0) 0 e
+
+      go : (o : Option ℕ) → first done (suc n) ≡ o → (1 ≤ since (releaseOf js j) o) × (releaseOf js j + since (releaseOf js j) o ≤ k)
+      go none q = absurd (false≢true (sym (first-none done (suc n) q k (omega arith)) ∙ done-k))
+      go (some i) q =
+          let f = first-some done (suc n) i q in
+          let z : getD (workLeft σ before js i) j 0 ≡ 0 = eqb-true (getD (workLeft σ before js i) j 0) 0 (f .1) in
+          let late-enough : releaseOf js j < i =
+          elim (decLe i (releaseOf js j)) [ yes h ↦ absurd (omega (arith, z, workLeft-before σ before js i j h)) | no h ↦ omega arith ] in
+          let soon-enough : i ≤ k =
+          elim (decLe i k) [ yes h ↦ h | no h ↦ absurd (false≢true (sym (f .2 k (omega arith)) ∙ done-k)) ] in
+          (omega arith, omega arith)

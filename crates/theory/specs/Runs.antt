@@ -1,0 +1,220 @@
+-- Laws of the maximal runs of a test: read as windows they cover exactly the ticks at which it holds, and keep the rule of windows
+use mathlib.Core.Path.{_≡_, refl, sym, ap, _∙_}
+use mathlib.Core.Bool.{Bool, true, false, not, cond, _&&_, _||_, or-true, or-false, or-assoc, true≢false}
+use mathlib.Core.Logic.{_⊎_, inl, inr}
+use mathlib.Core.Option.{none}
+use mathlib.Core.List.{List, [], _∷_, _++_, append-assoc}
+use Prim.Native.Nat.{ℕ, zero, suc, _+_, _-_, _*_, _%_, _≤_, _<_}
+use native.Mathlib.Omega.{arith}
+use native.Mathlib.Numerals.{add-one}
+use native.Mathlib.Decide.{ℕ-discrete, decLt}
+use lib.Dec.{ltb, eqb}
+use lib.ListN.{length, getD, length-append}
+use borrow.Author.Tests.{lt-ltb, le-ltb, le-leb, lt-leb, eq-eqb}
+use Rattle.scope.specs.Numbers.{keep, twos}
+use Rattle.scope.specs.Windows.{Board, Window, window, windowsOf, windowAt, inWindow, covers, windowLegal, badWindow}
+use Rattle.scope.specs.Partition.{within, edge, runs}
+use Rattle.theory.specs.Numbers.{both-and, bool-cases, below-suc, none-first}
+use Rattle.theory.specs.Lists.{twos-length, twos-at, twos-append, keep-hit, keep-miss, Rising, keep-rising}
+
+-- ---- rising numbers, none above the frame, read two at a time are legal windows
+
+module _ (l : List ℕ) where
+  abbrev startOf : ℕ → ℕ
+  startOf i = (windowAt (windowsOf l) i) .start
+
+  abbrev endOf : ℕ → ℕ
+  endOf i = (windowAt (windowsOf l) i) .end
+
+  pub start-at : (i : ℕ) → 2 * i + 1 < length l → startOf i ≡ getD l (2 * i) 0
+  start-at i h = ap (λ (w : Window). w .start) (twos-at window (window 0 0) l i h)
+
+  pub end-at : (i : ℕ) → 2 * i + 1 < length l → endOf i ≡ getD l (2 * i + 1) 0
+  end-at i h = ap (λ (w : Window). w .end) (twos-at window (window 0 0) l i h)
+
+module _ (b : Board) (l : List ℕ) (r : Rising l (b .frame + 1)) where
+  after-start : (i : ℕ) → 2 * i + 1 < length l → startOf l i < endOf l i
+  after-start i h = omega (arith, start-at l i h, end-at l i h, r .up (2 * i) (2 * i + 1) (omega arith) h)
+
+  in-frame : (i : ℕ) → 2 * i + 1 < length l → endOf l i ≤ b .frame
+  in-frame i h = omega (arith, end-at l i h, r .below (2 * i + 1) h)
+
+  after-previous : (i : ℕ) → 2 * i + 1 < length l → 0 < i → endOf l (i - 1) < startOf l i
+  after-previous i h k =
+      let before : 2 * (i - 1) + 1 < 2 * i = omega arith in
+      omega (arith, end-at l (i - 1) (omega arith), start-at l i h, r .up (2 * (i - 1) + 1) (2 * i) before (omega arith))
+
+  rising-legal : (i : ℕ) → 2 * i + 1 < length l → windowLegal b (windowsOf l) i ≡ true
+  unfolding windowLegal
+  rising-legal i h =
+      both-and
+      (both-and (lt-ltb (startOf l i) (endOf l i) (after-start i h)) (le-leb (endOf l i) (b .frame) (in-frame i h)))
+      (elim (ℕ-discrete i 0) [
+        | yes e ↦ rw (eq-eqb i 0 e)
+        | no u ↦ rw (lt-ltb (endOf l (i - 1)) (startOf l i) (after-previous i h (omega arith))) (or-true (eqb i 0))
+      ])
+
+  pub rising-rule : badWindow b (windowsOf l) ≡ none
+  unfolding badWindow
+  rising-rule =
+      none-first (λ i. not (windowLegal b (windowsOf l) i)) (length (windowsOf l))
+      (λ i h. ap not (rising-legal i (omega (arith, twos-length window l))))
+
+-- ---- a test in the ticks below n
+
+module _ (p : ℕ → Bool) (n k : ℕ) where
+  pub within-in : k < n → within p n k ≡ p k
+  unfolding within
+  within-in h = rw (lt-ltb k n h)
+
+  pub within-out : n ≤ k → within p n k ≡ false
+  unfolding within
+  within-out h = rw (le-ltb k n h)
+
+  -- one tick more, at which the test fails, changes nothing
+  within-stays : p n ≡ false → within p n k ≡ within p (suc n) k
+  unfolding within
+  within-stays e =
+      elim (ℕ-discrete k n) [
+        | yes z ↦ rw (z, e, le-ltb n n (omega arith), lt-ltb n (suc n) (omega arith))
+        | no z ↦ ap (λ (b : Bool). b && p k) (ltb-other z)
+      ]
+    where
+      ltb-other : (k ≡ n → ⊥) → ltb k n ≡ ltb k (suc n)
+      ltb-other z =
+          elim (decLt k n) [
+            | yes h ↦ lt-ltb k n h ∙ sym (lt-ltb k (suc n) (omega arith))
+            | no h ↦ le-ltb k n (omega arith) ∙ sym (le-ltb k (suc n) (omega arith))
+          ]
+
+-- ---- what windows cover, and one window more after them
+
+covers-last : (ws : List Window) (w : Window) (k : ℕ) → covers (ws ++ (w ∷ [])) k ≡ (covers ws k || inWindow w k)
+unfolding covers
+covers-last [] w k = or-false (inWindow w k)
+covers-last (v ∷ ws) w k =
+    ap (λ (b : Bool). inWindow v k || b) (covers-last ws w k) ∙ sym (or-assoc (inWindow v k) (covers ws k) (inWindow w k))
+
+covers-more : (l : List ℕ) (s e k : ℕ) → length l % 2 ≡ 0 →
+    covers (windowsOf (l ++ (s ∷ e ∷ []))) k ≡ (covers (windowsOf l) k || inWindow (window s e) k)
+unfolding twos
+covers-more l s e k h =
+    ap (λ (ws : List Window). covers ws k) (twos-append window l (s ∷ e ∷ []) h) ∙ covers-last (windowsOf l) (window s e) k
+
+-- a window over the ticks s to n − 1, at all of which p holds
+within-window : (p : ℕ → Bool) (s n : ℕ) → s < n → ((x : ℕ) → s ≤ x → x < n → p x ≡ true) → (k : ℕ) →
+    (within p s k || inWindow (window s n) k) ≡ within p n k
+unfolding within inWindow
+within-window p s n h run k =
+    elim (decLt k s) [
+      | yes a ↦ rw (lt-ltb k s a, lt-leb s k a, lt-ltb k n (omega arith)) (or-false (p k))
+      | no a ↦ rw (le-ltb k s (omega arith), le-leb s k (omega arith)) (elim (decLt k n) [
+        | yes c ↦ rw (lt-ltb k n c) (sym (run k (omega arith) c))
+        | no c ↦ rw (le-ltb k n (omega arith))
+      ])
+    ]
+
+-- ---- the edges of q below n: whole windows, or whole windows and the start of a run that is still open
+
+module _ (q : ℕ → Bool) where
+  abbrev edges : ℕ → List ℕ
+  edges n = keep (edge q) n
+
+  -- q just before n
+  abbrev before : ℕ → Bool
+  before n = ltb 0 n && q (n - 1)
+
+  before-suc : (n : ℕ) → before (suc n) ≡ q n
+  before-suc n = let e : suc n - 1 ≡ n = omega arith in let l : 0 < suc n = omega arith in rw (lt-ltb 0 (suc n) l, e)
+
+  -- the list l is of whole windows, which cover the ticks below n at which q holds
+  record Closed (l : List ℕ) (n : ℕ) : Type 0 where
+    even : length l % 2 ≡ 0
+    cover : (k : ℕ) → covers (windowsOf l) k ≡ within q n k
+
+  -- after the whole windows l a run starts at s, and q has held since
+  record Open (l : List ℕ) (s n : ℕ) : Type 0 where
+    start : s < n
+    run : (k : ℕ) → s ≤ k → k < n → q k ≡ true
+    is : edges n ≡ l ++ (s ∷ [])
+    shut : Closed l s
+
+  data State (n : ℕ) : Type 0 where
+    closed : before n ≡ false → Closed (edges n) n → State n
+    opened : before n ≡ true → (l : List ℕ) (s : ℕ) → Open l s n → State n
+
+  edge-is : (n : ℕ) (a b : Bool) → q n ≡ a → before n ≡ b → edge q n ≡ cond a (not b) b
+  unfolding edge
+  edge-is n a b e f = rw (e, f)
+
+  closed-stays : (l : List ℕ) (n : ℕ) → q n ≡ false → Closed l n → Closed l (suc n)
+  closed-stays l n e c = record { even = c .even; cover = λ k. c .cover k ∙ within-stays q n k e }
+
+  -- an open run that ends at n
+  open-closes : (l : List ℕ) (s n : ℕ) → Open l s n → Closed (l ++ (s ∷ n ∷ [])) n
+  open-closes l s n o =
+      record {
+        even = omega (arith, length-append l (s ∷ n ∷ []), o .shut .even);
+        cover = λ k.
+            covers-more l s n k (o .shut .even) ∙ ap (λ (b : Bool). b || inWindow (window s n) k) (o .shut .cover k)
+            ∙ within-window q s n (o .start) (o .run) k;
+      }
+
+  step : (n : ℕ) → (q n ≡ true) ⊎ (q n ≡ false) → State n → State (suc n)
+  step n (inr e) (closed b c) =
+      let z = keep-miss (edge q) n (edge-is n false false e b) in
+      closed (before-suc n ∙ e) (rw z (closed-stays (edges n) n e c))
+  step n (inl e) (closed b c) =
+      opened (before-suc n ∙ e) (edges n) n
+      (record {
+        start = omega arith;
+        run = λ k h l. let z : k ≡ n = omega arith in rw z e;
+        is = keep-hit (edge q) n (edge-is n true false e b);
+        shut = c;
+      })
+  step n (inl e) (opened b l s o) =
+      opened (before-suc n ∙ e) l s
+      (record {
+        start = omega (arith, o .start);
+        run = λ k h u. below-suc (λ j. s ≤ j → q j ≡ true) n (λ j v w. o .run j w v) (λ w. e) k u h;
+        is = keep-miss (edge q) n (edge-is n true true e b) ∙ o .is;
+        shut = o .shut;
+      })
+  step n (inr e) (opened b l s o) =
+      let hit = keep-hit (edge q) n (edge-is n false true e b) in
+      let z : edges (suc n) ≡ l ++ (s ∷ n ∷ []) = hit ∙ ap (λ (m : List ℕ). m ++ (n ∷ [])) (o .is) ∙ append-assoc l (s ∷ []) (n ∷ []) in
+      closed (before-suc n ∙ e) (rw z (closed-stays (l ++ (s ∷ n ∷ [])) n e (open-closes l s n o)))
+
+  state : (n : ℕ) → State n
+  unfolding keep twos covers
+  state zero = closed refl (record { even = refl; cover = λ k. sym (within-out q 0 k (omega arith)) })
+  state (suc n) = step n (bool-cases (q n)) (state n)
+
+-- ---- the runs of p below n
+
+module _ (p : ℕ → Bool) (n : ℕ) where
+  -- no run is open past n, where the pattern is false
+  runs-closed : Closed (within p n) (runs p n) (suc n)
+  unfolding runs
+  runs-closed = rw add-one (go (state (within p n) (suc n)))
+    where
+      go : State (within p n) (suc n) → Closed (within p n) (edges (within p n) (suc n)) (suc n)
+      go (closed b c) = c
+      go (opened b l s o) =
+          absurd (true≢false (sym (sym (before-suc (within p n) n) ∙ b) ∙ within-out p n n (omega arith)))
+
+  pub runs-even : length (runs p n) % 2 ≡ 0
+  runs-even = runs-closed .even
+
+  -- the windows cover exactly the ticks below n at which p holds
+  pub runs-cover : (k : ℕ) → covers (windowsOf (runs p n)) k ≡ within p n k
+  runs-cover k =
+      runs-closed .cover k ∙ elim (decLt k (suc n)) [
+        | yes h ↦ within-in (within p n) (suc n) k h
+        | no h ↦ within-out (within p n) (suc n) k (omega arith) ∙ sym (within-out p n k (omega arith))
+      ]
+
+  -- each run starts before it ends, ends at n or before, and starts strictly after the previous one's end
+  pub runs-rule : badWindow (record { frame = n }) (windowsOf (runs p n)) ≡ none
+  unfolding runs
+  runs-rule = rising-rule (record { frame = n }) (runs p n) (keep-rising (edge (within p n)) (n + 1))
