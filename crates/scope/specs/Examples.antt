@@ -82,7 +82,7 @@ table =
     ∷ (verdictOf 8 X (1 ∷ 4 ∷ 4 ∷ []) gives aVerdict (given (meets 8)))
     -- W5
     ∷ (verdictOf 8 X (1 ∷ 4 ∷ 3 ∷ []) gives aVerdict (given (miss 3 2 1 0)))
-    -- W6, as an answer, as the printed line of the plan file, and with its margin
+    -- W6, as an answer, as the printed line of the plan file, and with its margin; negsuc 0 is −1
     ∷ (verdictOf 8 X (1 ∷ 4 ∷ 4 ∷ 2 ∷ 8 ∷ 6 ∷ []) gives aVerdict (given (miss 6 2 3 2)))
     ∷ (lineOf (8 ∷ 2 ∷ 0 ∷ 2 ∷ 5 ∷ 7 ∷ 2 ∷ 1 ∷ 4 ∷ 4 ∷ 2 ∷ 8 ∷ 6 ∷ [])
     gives text (bytes "MISS length 6 start 2 demand 3 supply 2\n"))

@@ -80,6 +80,7 @@ table-legal b ws e =
 pub record LegalGroup (ts : List ℕ) : Type 0 where
   pub threes : length ts % 3 ≡ 0
   pub few : length ts ≤ 3 * mostTasks
+  pub tasks : badTask (tasksOf ts) ≡ none
   pub rules : TaskRules (tasksOf ts)
   pub within : Within (tasksOf ts)
 
@@ -88,10 +89,12 @@ unfolding groupFault taskListFault taskFault
 group-legal ts e =
     let p = orElse-fine (taskListFault ts) (taskFault ts) e in
     let l = or-false (not (eqb (length ts % 3) 0)) (ltb (3 * mostTasks) (length ts)) (faultIf-fine _ 4 0 (p .0)) in
-    let r = task-rules (tasksOf ts) (faultAt-fine 5 (badTask (tasksOf ts)) (p .1)) in
+    let tasks = faultAt-fine 5 (badTask (tasksOf ts)) (p .1) in
+    let r = task-rules (tasksOf ts) tasks in
     record {
       threes = eqb-true (length ts % 3) 0 (not-false _ (l .0));
       few = ltb-false (3 * mostTasks) (length ts) (l .1);
+      tasks = tasks;
       rules = r .0;
       within = r .1;
     }

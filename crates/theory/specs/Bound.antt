@@ -69,20 +69,21 @@ module _ (σ : ℕ → Bool) (P : ℕ) (ts : List Task) (i : ℕ) where
 -- ---- the entry
 
 module _ (b : Board) (ws ts : List ℕ) (i : ℕ) (r : Bound) (answered : boundAnswer b ws ts i ≡ given r) where
-  -- in t ticks the least supply is at least C + the sum over lower indices j of ceil(t/Tj)·Cj
-  abbrev Suffices : ℕ → Type 0
-  Suffices t = asked (tasksOf ts) i t ≤ leastSupply (supplied b ws) (b .frame) t
-
   abbrev D : ℕ
   D = (taskAt (tasksOf ts) i) .D
 
-  pub exact-bound : (t : ℕ) → (r ≡ bound t) ↔ ((1 ≤ t) × (t ≤ D) × Suffices t × ((u : ℕ) → 1 ≤ u → u < t → Suffices u → ⊥))
+  abbrev leastOf : ℕ → ℕ
+  leastOf = leastSupply (supplied b ws) (b .frame)
+
+  -- the least t in 1 to D with least supply of t at least what is asked
+  pub exact-bound : (t : ℕ) → (r ≡ bound t)
+      ↔ ((1 ≤ t) × (t ≤ D) × (asked (tasksOf ts) i t ≤ leastOf t) × ((u : ℕ) → 1 ≤ u → u < t → asked (tasksOf ts) i u ≤ leastOf u → ⊥))
   exact-bound t =
       let e = bounded b ws ts i r answered .is in
       let w = least-bound (supplied b ws) (b .frame) (tasksOf ts) i t in
       (λ q. w .0 (e ∙ q), λ h. sym e ∙ w .1 h)
 
-  pub exact-no-bound : (r ≡ noBound) ↔ ((t : ℕ) → 1 ≤ t → t ≤ D → Suffices t → ⊥)
+  pub exact-no-bound : (r ≡ noBound) ↔ ((t : ℕ) → 1 ≤ t → t ≤ D → asked (tasksOf ts) i t ≤ leastOf t → ⊥)
   exact-no-bound =
       let e = bounded b ws ts i r answered .is in
       let w = none-bound (supplied b ws) (b .frame) (tasksOf ts) i in

@@ -12,7 +12,7 @@ use borrow.Author.Tests.{leb-true, le-leb}
 use Rattle.scope.specs.Numbers.{when}
 use Rattle.scope.specs.Ticks.{supply}
 use Rattle.scope.specs.Windows.{Board, supplied}
-use Rattle.scope.specs.Tasks.{Task, tasksOf, taskAt, demand}
+use Rattle.scope.specs.Tasks.{Task, tasksOf, badTask, taskAt, demand}
 use Rattle.scope.specs.Verdict.{Verdict.meets}
 use Rattle.scope.specs.Jobs.{Job, releaseOf, taskOf, workOf, deadline, badJob}
 use Rattle.scope.specs.Machine.{edf, workLeft}
@@ -22,7 +22,7 @@ use Rattle.scope.specs.Demands.{dueWithin}
 use Rattle.theory.specs.Numbers.{fits, fits-true, true-fits, and-both, sum-le, when-le, by-lexically}
 use Rattle.theory.specs.Ticks.{least-over-all-starts}
 use Rattle.theory.specs.Windows.{supplied-periodic}
-use Rattle.theory.specs.Tasks.{TaskRules}
+use Rattle.theory.specs.Tasks.{task-rules}
 use Rattle.theory.specs.Answers.{judged}
 use Rattle.theory.specs.Exact.{exact-meets}
 use Rattle.theory.specs.Reached.{due-within}
@@ -33,7 +33,7 @@ use Rattle.theory.specs.Run.{listed-at, all-met, count-by}
 
 -- ---- earliest deadline first
 
-module _ (σ : ℕ → Bool) (ts : List Task) (ok : TaskRules ts) (n : ℕ) (js : List Job) (legal : badJob ts n js ≡ none)
+module _ (σ : ℕ → Bool) (ts : List Task) (tasks : badTask ts ≡ none) (n : ℕ) (js : List Job) (legal : badJob ts n js ≡ none)
     (enough : (s t : ℕ) → demand ts t ≤ supply σ s t) where
   -- the jobs due by e, served before all others
   due-served : (e : ℕ) → Serves σ (length js) (releaseOf js) (workOf js) (λ j. leb (deadline ts js j) e) (λ k j. getD (workLeft σ (edf ts js) js k) j 0)
@@ -46,7 +46,7 @@ module _ (σ : ℕ → Bool) (ts : List Task) (ok : TaskRules ts) (n : ℕ) (js 
       omega (
         arith,
         enough b t,
-        due-within ts ok n js legal b t,
+        due-within ts tasks n js legal b t,
         sum-le (λ j. when (leb (deadline ts js j) e && fits b (releaseOf js j) (releaseOf js j + 1) (b + t)) (workOf js j))
             (λ j. when (fits b (releaseOf js j) (deadline ts js j) (b + t)) (workOf js j)) (length js) (λ j l.
             when-le _ _ (workOf js j) (workOf js j) (λ z.
@@ -61,7 +61,7 @@ module _ (σ : ℕ → Bool) (ts : List Task) (ok : TaskRules ts) (n : ℕ) (js 
   pub edf-in-time : (j k : ℕ) → j < length js → deadline ts js j ≤ k → getD (workLeft σ (edf ts js) js k) j 0 ≡ 0
   edf-in-time j k l h =
       let e : ℕ = deadline ts js j in
-      let o = ok (taskOf js j) (job-rules ts n js legal j l .known) in
+      let o = task-rules ts tasks .0 (taskOf js j) (job-rules ts n js legal j l .known) in
       let sv = due-served e in
       done-by σ (length js) (releaseOf js) (workOf js) _ _ sv e k j
       (quiet-at σ (length js) (releaseOf js) (workOf js) _ _ sv e (omega (arith, o .due)) (due-supplied e)) l (le-leb e e (omega arith)) (omega (arith, o .due)) h
@@ -91,5 +91,5 @@ pub edf-meets : (b : Board) (ws ts : List ℕ) (H : ℕ) → verdictAnswer b ws 
 edf-meets b ws ts H answered n js legal =
     let f = judged b ws ts (meets H) answered in
     let all = exact-meets b ws ts (meets H) answered H .0 refl .1 in
-    edf-run (supplied b ws) (tasksOf ts) (f .group .rules) n js legal
+    edf-run (supplied b ws) (tasksOf ts) (f .group .tasks) n js legal
     (λ s t. le-trans (all t) (least-over-all-starts (supplied b ws) (b .frame) (supplied-periodic b ws (f .table .frame)) s t))

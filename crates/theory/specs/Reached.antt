@@ -12,26 +12,26 @@ use lib.Dec.{leb, ltb, eqb}
 use lib.ListN.{length}
 use borrow.Author.Tests.{le-leb, lt-leb, lt-ltb, eq-eqb, ne-eqb, eqb-true}
 use Rattle.scope.specs.Numbers.{when, bit, sum, lexically}
-use Rattle.scope.specs.Tasks.{Task, taskAt, taskDemand, demand}
+use Rattle.scope.specs.Tasks.{Task, taskAt, badTask, taskDemand, demand}
 use Rattle.scope.specs.Jobs.{Job, job, jobAt, releaseOf, taskOf, workOf, inOrder, apart, jobLegal, badJob}
 use Rattle.scope.specs.Demands.{dueWithin, fullJobsIn, fullJobs}
 use Rattle.theory.specs.Numbers.{both-and, fits, true-fits, sum-eq, sum-zero, sum-split, sum-first, sum-swap, sum-when-same, when-none, true-all, none-first}
 use Rattle.theory.specs.Spaced.{work-le}
 use Rattle.theory.specs.Jobs.{job-rules, spaced}
-use Rattle.theory.specs.Tasks.{TaskRules, jobsIn, jobsIn-short, jobsIn-long, demand-jobs, demand-sum}
+use Rattle.theory.specs.Tasks.{TaskRules, task-rules, jobsIn, jobsIn-short, jobsIn-long, demand-jobs, demand-sum}
 
 -- ---- no legal list has more
 
 -- in every legal job list, the work released in and due within any stretch of t ticks is at most the demand of t
-pub due-within : (ts : List Task) → TaskRules ts → (n : ℕ) (js : List Job) → badJob ts n js ≡ none → (s t : ℕ) → dueWithin ts js s t ≤ demand ts t
+pub due-within : (ts : List Task) → badTask ts ≡ none → (n : ℕ) (js : List Job) → badJob ts n js ≡ none → (s t : ℕ) → dueWithin ts js s t ≤ demand ts t
 unfolding dueWithin
-due-within ts ok n js legal s t =
+due-within ts tasks n js legal s t =
     omega (
       arith,
       demand-sum ts t,
       sum-eq (λ i. taskDemand (taskAt ts i) t) (λ i. jobsIn ((taskAt ts i) .T) ((taskAt ts i) .D) t * (taskAt ts i) .C) (length ts) (λ i l. demand-jobs (taskAt ts i) t),
       work-le (length ts) (λ i. (taskAt ts i) .C) (λ i. (taskAt ts i) .T) (length js) (taskOf js) (releaseOf js) (workOf js) (spaced ts n js legal)
-          (length ts) (λ i l. ok i l .period) (λ i. (taskAt ts i) .D) (λ j. true) (λ j l e. job-rules ts n js legal j l .known) s t,
+          (length ts) (λ i l. task-rules ts tasks .0 i l .period) (λ i. (taskAt ts i) .D) (λ j. true) (λ j l e. job-rules ts n js legal j l .known) s t,
     )
 
 -- ---- full jobs
@@ -167,9 +167,10 @@ abbrev dueWork : List Task → ℕ → ℕ → Job → ℕ
 dueWork ts s t x = when (fits s (x .release) (x .release + (taskAt ts (x .task)) .D) (s + t)) (x .work)
 
 -- full jobs from s on, of which those due by s + t have exactly the demand of t for their work
-pub full-reaches : (ts : List Task) → TaskRules ts → (s t : ℕ) → dueWithin ts (fullJobs ts s t) s t ≡ demand ts t
+pub full-reaches : (ts : List Task) → badTask ts ≡ none → (s t : ℕ) → dueWithin ts (fullJobs ts s t) s t ≡ demand ts t
 unfolding dueWithin
-full-reaches ts ok s t =
+full-reaches ts tasks s t =
+    let ok = task-rules ts tasks .0 in
     total-full (dueWork ts s t) ts s t
     ∙ sum-eq (λ i. sum (λ k. part (dueWork ts s t) ts s k i) t) (λ i. taskDemand (taskAt ts i) t) (length ts) (λ i l.
     let x : Task = taskAt ts i in
@@ -327,8 +328,9 @@ module _ (ts : List Task) (ok : TaskRules ts) (s t : ℕ) where
         both-and d rising-apart
 
 -- full jobs are a legal list for a run of s + t ticks
-pub full-legal : (ts : List Task) → TaskRules ts → (s t : ℕ) → badJob ts (s + t) (fullJobs ts s t) ≡ none
+pub full-legal : (ts : List Task) → badTask ts ≡ none → (s t : ℕ) → badJob ts (s + t) (fullJobs ts s t) ≡ none
 unfolding badJob
-full-legal ts ok s t =
+full-legal ts tasks s t =
+    let ok = task-rules ts tasks .0 in
     let js : List Job = fullJobs ts s t in
     none-first (λ j. not (jobLegal ts (s + t) js j)) (length js) (λ j l. ap not (rising-legal ts ok s t js (full-rises ts s t) j l))
