@@ -2,16 +2,16 @@
 use Prim.Native.Nat.{ℕ, _*_, _/_, _%_}
 use mathlib.Core.Bool.{Bool, true, false, not, _||_}
 use mathlib.Core.Option.{Option, none, some}
-use mathlib.Core.List.{List}
+use mathlib.Core.List.{List, [], _∷_}
 use lib.Dec.{leb, ltb, eqb}
 use lib.IntN.{ℤ}
 use lib.ListN.{length}
 use Rattle.scope.specs.Numbers.{written}
 use Rattle.scope.specs.Limits.{mostFrame, mostWindows, mostTasks, mostCycle, mostLength, mostTicks, mostJobs}
 use Rattle.scope.specs.Ticks.{perFrame, leastSupply}
-use Rattle.scope.specs.Windows.{Board, windowsOf, supplied, badWindow}
+use Rattle.scope.specs.Windows.{Board, Window, windowsOf, supplied, badWindow}
 use Rattle.scope.specs.Partition.{critical, delay, outage}
-use Rattle.scope.specs.Tasks.{tasksOf, badTask, demand, margin}
+use Rattle.scope.specs.Tasks.{Task, tasksOf, badTask, demand, margin}
 use Rattle.scope.specs.Cycle.{cycle}
 use Rattle.scope.specs.Verdict.{Verdict, verdict}
 use Rattle.scope.specs.Bound.{Bound, response}
@@ -107,7 +107,24 @@ tableFault b ws = windowListFault ws orElse frameFault b orElse windowFault b ws
 unfoldable pub groupFault : List ℕ → Fault
 groupFault ts = taskListFault ts orElse taskFault ts
 
+-- ---- one value alone, as a constructor takes it
+
+unfoldable pub boardAnswer : ℕ → Answer Board
+boardAnswer P = unless (frameFault (record { frame = P })) (record { frame = P })
+
+unfoldable pub windowAnswer : Board → Window → Answer Window
+windowAnswer b w = unless (faultAt 3 (badWindow b (w ∷ []))) w
+
+unfoldable pub taskAnswer : Task → Answer Task
+taskAnswer x = unless (faultAt 5 (badTask (x ∷ []))) x
+
+unfoldable pub lengthAnswer : ℕ → Answer ℕ
+lengthAnswer t = unless (lengthFault t) t
+
 -- ---- entries. Windows ws, tasks ts and jobs js are lists of numbers
+
+unfoldable pub suppliedAnswer : Board → List ℕ → ℕ → Answer Bool
+suppliedAnswer b ws k = unless (tableFault b ws) (supplied b ws k)
 
 unfoldable pub leastSupplyAnswer : Board → List ℕ → ℕ → Answer ℕ
 leastSupplyAnswer b ws t = unless (tableFault b ws orElse lengthFault t) (leastSupply (supplied b ws) (b .frame) t)

@@ -39,11 +39,13 @@ covers (w ∷ ws) k = inWindow w k || covers ws k
 unfoldable pub supplied : Board → List ℕ → ℕ → Bool
 supplied b ws k = covers (windowsOf ws) (k % b .frame)
 
--- start < end ≤ P, and the start is strictly greater than the previous end
+-- start < end ≤ P
+abbrev pub windowFits : Board → Window → Bool
+windowFits b w = ltb (w .start) (w .end) && leb (w .end) (b .frame)
+
+-- and the start is strictly greater than the previous end
 unfoldable pub windowLegal : Board → List Window → ℕ → Bool
-windowLegal b ws i =
-    ltb ((windowAt ws i) .start) ((windowAt ws i) .end) && leb ((windowAt ws i) .end) (b .frame)
-    && (eqb i 0 || ltb ((windowAt ws (i - 1)) .end) ((windowAt ws i) .start))
+windowLegal b ws i = windowFits b (windowAt ws i) && (eqb i 0 || ltb ((windowAt ws (i - 1)) .end) ((windowAt ws i) .start))
 
 -- the lowest index of a window that breaks its rule
 unfoldable pub badWindow : Board → List Window → Option ℕ

@@ -1,0 +1,61 @@
+// What the entries answer. specs/Told.antt gives document 01's number, place and values for every case, and the promises go through it.
+
+// Why an input is refused.
+pub enum Refusal {
+    WindowList,
+    Frame,
+    Window(u32),
+    TaskList,
+    Task(u32),
+    Cycle,
+    Asked,
+    Room(u32),
+}
+
+// Whether a check passes.
+pub enum Checked {
+    Fine,
+    Bad(Refusal),
+}
+
+// Whether a tick is supplied.
+pub enum Supplied {
+    Is(bool),
+    Refused(Refusal),
+}
+
+// A least supply, an outage, a demand, a number of windows.
+pub enum Amount {
+    Of(u64),
+    Refused(Refusal),
+}
+
+// The delay times A, with A beside it.
+pub enum Delay {
+    Of { delay: u64, per_frame: u32 },
+    Refused(Refusal),
+}
+
+pub enum Margin {
+    Of(i64),
+    Refused(Refusal),
+}
+
+pub enum Verdict {
+    Meets {
+        cycle: u32,
+    },
+    Miss {
+        length: u32,
+        start: u32,
+        demand: u64,
+        supply: u32,
+    },
+    Refused(Refusal),
+}
+
+pub enum Bound {
+    Of(u32),
+    NoBound,
+    Refused(Refusal),
+}

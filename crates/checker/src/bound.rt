@@ -1,0 +1,76 @@
+use crate::answer::Bound;
+use crate::answer::Checked;
+use crate::answer::Refusal;
+use crate::board::Board;
+use crate::supply::least_of;
+use crate::task::check_group;
+use crate::task::task_at;
+ghost use mathlib.Core.Path.{_≡_};
+ghost use Prim.Native.Nat.{_≤_, _<_, _/_};
+ghost use lib.ListN.{length as lengthOf};
+ghost use Rattle.scope.specs.Windows.{supplied as suppliedBy};
+ghost use Rattle.scope.specs.Tasks.{tasksOf};
+ghost use Rattle.scope.specs.Bound.{ceil, asked, response};
+ghost use Rattle.scope.specs.Answers.{boundAnswer, Answer.given};
+ghost use Rattle.theory.specs.Answers.{LegalGroup};
+ghost use Rattle.checker.specs.Told.{boardOf, toldBound};
+
+// ceil(length / period).
+fn rounded_up(length: u32, period: u32) -> u32
+    requires { ⌜ (length ≤ 1000000) × (1 ≤ period) × (period ≤ 1000000) ⌝ }
+    ensures { λ r. ⌜ r ≡ ceil length period ⌝ }
+{
+    (length + (period - 1)) / period
+}
+
+// What task `index` and those above it ask for in `length` ticks.
+fn asked_of(tasks: &[u32], index: usize, length: u32) -> u64
+    requires { ⌜ LegalGroup (now tasks) × (index < lengthOf (tasksOf (now tasks))) × (length ≤ 1000000) ⌝ }
+    ensures { λ r. ⌜ r ≡ asked (tasksOf (now (tasks .entry))) index length ⌝ }
+{
+    let task = task_at(tasks, index);
+    let mut sum = task.work as u64;
+    let mut j = 0;
+    while j < index {
+        let above = task_at(tasks, j);
+        let jobs = rounded_up(length, above.period);
+        sum += (jobs as u64) * (above.work as u64);
+        j += 1;
+    }
+    sum
+}
+
+// The least length up to the deadline whose least supply is at least what is asked.
+fn response_of(board: Board, windows: &[u32], tasks: &[u32], index: usize) -> Bound
+    requires { ⌜ (0 < board .frame) × (board .frame ≤ 65536) × LegalGroup (now tasks) × (index < lengthOf (tasksOf (now tasks))) ⌝ }
+    ensures { λ r. ⌜ toldBound r ≡ given (response (suppliedBy (boardOf board) (now (windows .entry))) (board .frame) (tasksOf (now (tasks .entry))) index) ⌝ }
+{
+    let task = task_at(tasks, index);
+    let deadline = task.deadline;
+    let mut length = 1;
+    while length <= deadline {
+        let least = least_of(board, windows, length);
+        if asked_of(tasks, index, length) <= least as u64 {
+            return Bound::Of(length);
+        }
+        length += 1;
+    }
+    Bound::NoBound
+}
+
+// The response bound of task `index` under fixed priority, lower index first. Refusals 1 2 3 4 5 7.
+pub fn bound(board: Board, windows: &[u32], tasks: &[u32], index: u32) -> Bound
+    ensures { λ r. ⌜ toldBound r ≡ boundAnswer (boardOf board) (now (windows .entry)) (now (tasks .entry)) index ⌝ }
+{
+    match check_group(board, windows, tasks) {
+        Checked::Bad(r) => Bound::Refused(r),
+        Checked::Fine => {
+            let i = index as usize;
+            if tasks.len() / 3 <= i {
+                Bound::Refused(Refusal::Asked)
+            } else {
+                response_of(board, windows, tasks, i)
+            }
+        }
+    }
+}

@@ -1,0 +1,39 @@
+use crate::answer::Checked;
+use crate::answer::Refusal;
+ghost use mathlib.Core.Path.{_≡_};
+ghost use Rattle.scope.specs.Answers.{lengthFault, lengthAnswer};
+ghost use Rattle.checker.specs.Told.{faultOf, toldLength};
+
+// A length that is asked for.
+pub struct Length {
+    pub ticks: u32,
+}
+
+pub enum MadeLength {
+    Is(Length),
+    Refused(Refusal),
+}
+
+impl Length {
+    // An asked length: at most 1,000,000.
+    pub const LONGEST: u32 = 1000000;
+
+    pub fn new(ticks: u32) -> MadeLength
+        ensures { λ r. ⌜ toldLength r ≡ lengthAnswer ticks ⌝ }
+    {
+        match check_length(ticks) {
+            Checked::Bad(r) => MadeLength::Refused(r),
+            Checked::Fine => MadeLength::Is(Length { ticks }),
+        }
+    }
+}
+
+// Refusal 7 of a length.
+pub(crate) fn check_length(ticks: u32) -> Checked
+    ensures { λ r. ⌜ faultOf r ≡ lengthFault ticks ⌝ }
+{
+    if Length::LONGEST < ticks {
+        return Checked::Bad(Refusal::Asked);
+    }
+    Checked::Fine
+}

@@ -1,0 +1,145 @@
+use crate::answer::Checked;
+use crate::answer::Refusal;
+use crate::board::Board;
+use crate::window::check_table;
+ghost use mathlib.Core.Path.{_≡_};
+ghost use Prim.Native.Nat.{_+_, _*_, _<_, _≤_};
+ghost use lib.ListN.{length};
+ghost use Rattle.scope.specs.Tasks.{tasksOf, taskAt, taskNumber, taskLegal, taskDemand};
+ghost use Rattle.scope.specs.Answers.{taskListFault, taskFault, tableFault, groupFault, taskAnswer, _orElse_};
+ghost use Rattle.checker.specs.Told.{boardOf, taskOf, faultOf, toldTask};
+
+// A task: C is the work, T the period (least distance of releases), D the deadline after release.
+pub struct Task {
+    pub work: u32,
+    pub period: u32,
+    pub deadline: u32,
+}
+
+pub enum MadeTask {
+    Is(Task),
+    Refused(Refusal),
+}
+
+impl Task {
+    // Tasks of a group: 0 to 32.
+    pub const MOST: usize = 32;
+
+    // C, T and D: 1 to 1,000,000.
+    pub const LARGEST: u32 = 1000000;
+
+    // The cycle of a frame and a group: at most 1,000,000.
+    pub const LONGEST_CYCLE: u64 = 1000000;
+
+    pub fn new(work: u32, period: u32, deadline: u32) -> MadeTask
+        ensures { λ r. ⌜ toldTask r ≡ taskAnswer (record { C = work; T = period; D = deadline }) ⌝ }
+    {
+        let task = Task {
+            work,
+            period,
+            deadline,
+        };
+        if task.legal() {
+            return MadeTask::Is(task);
+        }
+        MadeTask::Refused(Refusal::Task(0))
+    }
+
+    // Whether the task keeps its rule.
+    fn legal(self) -> bool
+        ensures { λ r. ⌜ r ≡ taskLegal (taskOf self) ⌝ }
+    {
+        let period = self.period;
+        let deadline = self.deadline;
+        in_range(self.work) && in_range(period) && in_range(deadline) && deadline <= period
+    }
+
+    // The demand of a length.
+    pub(crate) fn demand(self, length: u32) -> u64
+        requires { ⌜ 1 ≤ self .period ⌝ }
+        ensures { λ r. ⌜ r ≡ taskDemand (taskOf self) length ⌝ }
+    {
+        let deadline = self.deadline;
+        let period = self.period;
+        let work = self.work;
+        if length < deadline {
+            return 0;
+        }
+        let jobs = ((length - deadline) / period) as u64 + 1;
+        jobs * work as u64
+    }
+}
+
+// 1 to 1,000,000.
+fn in_range(x: u32) -> bool
+    ensures { λ r. ⌜ r ≡ taskNumber x ⌝ }
+{
+    1 <= x && x <= Task::LARGEST
+}
+
+// Task i of a list of threes.
+pub(crate) fn task_at(tasks: &[u32], i: usize) -> Task
+    requires { ⌜ 3 * i + 2 < length (now tasks) ⌝ }
+    ensures { λ r. ⌜ taskOf r ≡ taskAt (tasksOf (now (tasks .entry))) i ⌝ }
+{
+    let work = tasks[3 * i];
+    let period = tasks[3 * i + 1];
+    let deadline = tasks[3 * i + 2];
+    Task {
+        work,
+        period,
+        deadline,
+    }
+}
+
+// Refusal 4.
+fn check_task_list(tasks: &[u32]) -> Checked
+    ensures { λ r. ⌜ faultOf r ≡ taskListFault (now (tasks .entry)) ⌝ }
+{
+    let numbers = tasks.len();
+    if numbers % 3 != 0 {
+        return Checked::Bad(Refusal::TaskList);
+    }
+    if 3 * Task::MOST < numbers {
+        return Checked::Bad(Refusal::TaskList);
+    }
+    Checked::Fine
+}
+
+// Refusal 5, at the lowest index.
+fn check_each_task(tasks: &[u32]) -> Checked
+    requires { ⌜ length (now tasks) < 4294967296 ⌝ }
+    ensures { λ r. ⌜ faultOf r ≡ taskFault (now (tasks .entry)) ⌝ }
+{
+    let count = tasks.len() / 3;
+    let mut i = 0;
+    while i < count {
+        let task = task_at(tasks, i);
+        if !task.legal() {
+            let place = i as u32;
+            return Checked::Bad(Refusal::Task(place));
+        }
+        i += 1;
+    }
+    Checked::Fine
+}
+
+// Refusals 4 and 5.
+pub fn check_tasks(tasks: &[u32]) -> Checked
+    ensures { λ r. ⌜ faultOf r ≡ groupFault (now (tasks .entry)) ⌝ }
+{
+    match check_task_list(tasks) {
+        Checked::Bad(r) => Checked::Bad(r),
+        Checked::Fine => check_each_task(tasks),
+    }
+}
+
+// Refusals 1 to 5.
+pub fn check_group(board: Board, windows: &[u32], tasks: &[u32]) -> Checked
+    ensures { λ r. ⌜ faultOf r ≡ (tableFault (boardOf board) (now (windows .entry)) orElse groupFault (now (tasks .entry))) ⌝ }
+{
+    match check_table(board, windows) {
+        Checked::Bad(r) => Checked::Bad(r),
+        Checked::Fine => check_tasks(tasks),
+    }
+}

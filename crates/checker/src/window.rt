@@ -1,0 +1,128 @@
+use crate::answer::Checked;
+use crate::answer::Refusal;
+use crate::board::Board;
+use crate::board::check_frame;
+ghost use mathlib.Core.Path.{_≡_};
+ghost use Prim.Native.Nat.{_+_, _*_, _<_, _≤_};
+ghost use lib.ListN.{length};
+ghost use Rattle.scope.specs.Windows.{windowsOf, windowAt, windowFits, inWindow, windowLegal};
+ghost use Rattle.scope.specs.Answers.{windowListFault, windowFault, tableFault, windowAnswer};
+ghost use Rattle.checker.specs.Told.{boardOf, windowOf, faultOf, toldWindow};
+
+// The ticks `start` up to but not including `end`.
+pub struct Window {
+    pub start: u32,
+    pub end: u32,
+}
+
+pub enum MadeWindow {
+    Is(Window),
+    Refused(Refusal),
+}
+
+impl Window {
+    // Windows of a table: 1 to 64.
+    pub const MOST: usize = 64;
+
+    pub fn new(board: Board, start: u32, end: u32) -> MadeWindow
+        ensures { λ r. ⌜ toldWindow r ≡ windowAnswer (boardOf board) (record { start = start; end = end }) ⌝ }
+    {
+        let window = Window { start, end };
+        if window.fits(board) {
+            return MadeWindow::Is(window);
+        }
+        MadeWindow::Refused(Refusal::Window(0))
+    }
+
+    // Start before end, and end within the frame.
+    fn fits(self, board: Board) -> bool
+        ensures { λ r. ⌜ r ≡ windowFits (boardOf board) (windowOf self) ⌝ }
+    {
+        let start = self.start;
+        let end = self.end;
+        let frame = board.frame;
+        start < end && end <= frame
+    }
+
+    // Whether tick k of a frame lies in the window.
+    pub(crate) fn holds(self, k: u32) -> bool
+        ensures { λ r. ⌜ r ≡ inWindow (windowOf self) k ⌝ }
+    {
+        let start = self.start;
+        let end = self.end;
+        start <= k && k < end
+    }
+}
+
+// Window i of a list of pairs.
+pub(crate) fn window_at(windows: &[u32], i: usize) -> Window
+    requires { ⌜ 2 * i + 1 < length (now windows) ⌝ }
+    ensures { λ r. ⌜ windowOf r ≡ windowAt (windowsOf (now (windows .entry))) i ⌝ }
+{
+    let start = windows[2 * i];
+    let end = windows[2 * i + 1];
+    Window { start, end }
+}
+
+// Whether window i keeps its rule.
+fn window_legal(board: Board, windows: &[u32], i: usize) -> bool
+    requires { ⌜ 2 * i + 1 < length (now windows) ⌝ }
+    ensures { λ r. ⌜ r ≡ windowLegal (boardOf board) (windowsOf (now (windows .entry))) i ⌝ }
+{
+    let window = window_at(windows, i);
+    if !window.fits(board) {
+        return false;
+    }
+    if i == 0 {
+        return true;
+    }
+    let previous = window_at(windows, i - 1);
+    previous.end < window.start
+}
+
+// Refusal 1.
+fn check_window_list(windows: &[u32]) -> Checked
+    ensures { λ r. ⌜ faultOf r ≡ windowListFault (now (windows .entry)) ⌝ }
+{
+    let numbers = windows.len();
+    if numbers % 2 != 0 {
+        return Checked::Bad(Refusal::WindowList);
+    }
+    if numbers == 0 {
+        return Checked::Bad(Refusal::WindowList);
+    }
+    if 2 * Window::MOST < numbers {
+        return Checked::Bad(Refusal::WindowList);
+    }
+    Checked::Fine
+}
+
+// Refusal 3, at the lowest index.
+fn check_windows(board: Board, windows: &[u32]) -> Checked
+    requires { ⌜ length (now windows) < 4294967296 ⌝ }
+    ensures { λ r. ⌜ faultOf r ≡ windowFault (boardOf board) (now (windows .entry)) ⌝ }
+{
+    let count = windows.len() / 2;
+    let mut i = 0;
+    while i < count {
+        if !window_legal(board, windows, i) {
+            let place = i as u32;
+            return Checked::Bad(Refusal::Window(place));
+        }
+        i += 1;
+    }
+    Checked::Fine
+}
+
+// Refusals 1, 2 and 3.
+pub fn check_table(board: Board, windows: &[u32]) -> Checked
+    ensures { λ r. ⌜ faultOf r ≡ tableFault (boardOf board) (now (windows .entry)) ⌝ }
+{
+    match check_window_list(windows) {
+        Checked::Bad(r) => Checked::Bad(r),
+        Checked::Fine => match check_frame(board) {
+            Checked::Bad(r) => Checked::Bad(r),
+            Checked::Fine => check_windows(board, windows),
+        },
+    }
+}
