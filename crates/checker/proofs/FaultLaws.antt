@@ -1,0 +1,35 @@
+-- Faults as the code meets them: one check after the other, then the value
+use mathlib.Core.Path.{_≡_, refl, sym, _∙_}
+use mathlib.Core.Bool.{Bool, true, false}
+use mathlib.Core.List.{List}
+use Prim.Native.Nat.{ℕ}
+use Rattle.scope.specs.Answers.{Fault, Fault.fine, Fault.fault, Answer.given, Answer.refused, faultIf, _orElse_, unless, unlessKept}
+
+module _ {n p : ℕ} where
+  pub if-true : (b : Bool) → b ≡ true → fault n p ≡ faultIf b n p
+  if-true b e = rw e
+
+  pub if-false : (b : Bool) → b ≡ false → fine ≡ faultIf b n p
+  if-false b e = rw e
+
+  -- the first fault of two
+  pub or-fault : (f g : Fault) → f ≡ fault n p → (f orElse g) ≡ fault n p
+  or-fault f g e = rw e
+
+  -- a fault is answered, and nothing is written
+  pub refused-by : {A : Type 0} (f : Fault) (a : A) → f ≡ fault n p → refused n p ≡ unless f a
+  refused-by f a e = rw e
+
+  pub kept-by : (f : Fault) (new old : List ℕ) → f ≡ fault n p → old ≡ unlessKept f new old
+  kept-by f new old e = rw e
+
+-- the second of two, where the first is fine
+pub or-fine : (f g : Fault) → f ≡ fine → (f orElse g) ≡ g
+or-fine f g e = rw e
+
+-- no fault: the value, and the buffer as it is to be
+pub given-by : {A : Type 0} (f : Fault) (a : A) → f ≡ fine → given a ≡ unless f a
+given-by f a e = rw e
+
+pub written-by : (f : Fault) (new old : List ℕ) → f ≡ fine → new ≡ unlessKept f new old
+written-by f new old e = rw e

@@ -1,0 +1,33 @@
+use native.Mathlib.Omega.{arith}
+use Prim.Native.Nat.{ℕ, _+_, _-_, _*_, _≤_, _<_}
+use lib.ListN.{length}
+use mathlib.Core.Path.{_≡_}
+use borrow.Author.Needs.{needs}
+use Rattle.checker.proofs.board.Board.new.Statement.{statement}
+use Rattle.checker.proofs.board.Board.new.Tie as tie
+use Rattle.checker.proofs.board.Board.new.Reads as reads
+use Rattle.checker.proofs.board.Board.new.Lts as lts
+use Rattle.checker.proofs.board.check_frame.Reads as check-frame-reads
+
+-- src/board.rt:25:15
+check-frame-requires : tie.Need-check-frame-requires
+check-frame-requires c κs = search needs
+
+-- src/board.rt:26:26
+enum-known-r : tie.Need-enum-known-r
+enum-known-r c = search needs
+
+-- src/board.rt:27:30
+enum-told : tie.Need-enum-told
+enum-told c = search needs
+
+-- src/board.rt:21:5
+returns : tie.Need-returns
+returns c = search needs
+
+-- src/board.rt:21:5
+returns-2 : tie.Need-returns-2
+returns-2 c = search needs
+
+pub new-spec : {M : Type 1} → statement M
+new-spec = tie.close (tie.spec check-frame-requires enum-known-r enum-told returns returns-2)

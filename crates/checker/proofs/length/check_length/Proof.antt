@@ -1,0 +1,20 @@
+use borrow.Author.Needs.{needs}
+use native.Mathlib.Omega.{arith}
+use Prim.Native.Nat.{ℕ, _+_, _-_, _*_, _≤_, _<_}
+use lib.ListN.{length}
+use mathlib.Core.Path.{_≡_}
+use Rattle.checker.proofs.length.check_length.Statement.{statement}
+use Rattle.checker.proofs.length.check_length.Tie as tie
+use Rattle.checker.proofs.length.check_length.Reads as reads
+use Rattle.checker.proofs.length.check_length.Lts as lts
+
+-- src/length.rt:36:9
+returns : tie.Need-returns
+returns c = search needs
+
+-- src/length.rt:32:1
+returns-2 : tie.Need-returns-2
+returns-2 c = search needs
+
+pub check-length-spec : {M : Type 1} → statement M
+check-length-spec = tie.close (tie.spec returns returns-2)

@@ -1,0 +1,25 @@
+use native.Mathlib.Omega.{arith}
+use Prim.Native.Nat.{ℕ, _+_, _-_, _*_, _≤_, _<_}
+use lib.ListN.{length}
+use mathlib.Core.Path.{_≡_}
+use borrow.Author.Needs.{needs}
+use Rattle.checker.proofs.task.Task.new.Statement.{statement}
+use Rattle.checker.proofs.task.Task.new.Tie as tie
+use Rattle.checker.proofs.task.Task.new.Reads as reads
+use Rattle.checker.proofs.task.Task.new.Lts as lts
+use Rattle.checker.proofs.task.Task.legal.Reads as legal-reads
+
+-- src/task.rt:42:12
+legal-requires : tie.Need-legal-requires
+legal-requires c κs = search needs
+
+-- src/task.rt:43:13
+returns : tie.Need-returns
+returns c = search needs
+
+-- src/task.rt:34:5
+returns-2 : tie.Need-returns-2
+returns-2 c = search needs
+
+pub new-spec : {M : Type 1} → statement M
+new-spec = tie.close (tie.spec legal-requires returns returns-2)

@@ -1,0 +1,28 @@
+use native.Mathlib.Omega.{arith}
+use Prim.Native.Nat.{ℕ, _+_, _-_, _*_, _≤_, _<_}
+use lib.ListN.{length}
+use mathlib.Core.Path.{_≡_}
+use borrow.Author.Needs.{needs}
+use Rattle.checker.proofs.task.check_task_list.Statement.{statement}
+use Rattle.checker.proofs.task.check_task_list.Tie as tie
+use Rattle.checker.proofs.task.check_task_list.Reads as reads
+use Rattle.checker.proofs.task.check_task_list.Lts as lts
+
+-- src/task.rt:101:9
+returns : tie.Need-returns
+returns c = search needs
+
+-- src/task.rt:103:8
+mul-if2 : tie.Need-mul-if2
+mul-if2 c = search needs
+
+-- src/task.rt:104:9
+returns-2 : tie.Need-returns-2
+returns-2 c = search needs
+
+-- src/task.rt:96:1
+returns-3 : tie.Need-returns-3
+returns-3 c = search needs
+
+pub check-task-list-spec : {M : Type 1} → statement M
+check-task-list-spec = tie.close (tie.spec returns mul-if2 returns-2 returns-3)

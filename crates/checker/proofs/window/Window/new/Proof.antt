@@ -1,0 +1,25 @@
+use native.Mathlib.Omega.{arith}
+use Prim.Native.Nat.{ℕ, _+_, _-_, _*_, _≤_, _<_}
+use lib.ListN.{length}
+use mathlib.Core.Path.{_≡_}
+use borrow.Author.Needs.{needs}
+use Rattle.checker.proofs.window.Window.new.Statement.{statement}
+use Rattle.checker.proofs.window.Window.new.Tie as tie
+use Rattle.checker.proofs.window.Window.new.Reads as reads
+use Rattle.checker.proofs.window.Window.new.Lts as lts
+use Rattle.checker.proofs.window.Window.fits.Reads as fits-reads
+
+-- src/window.rt:31:12
+fits-requires : tie.Need-fits-requires
+fits-requires c κs = search needs
+
+-- src/window.rt:32:13
+returns : tie.Need-returns
+returns c = search needs
+
+-- src/window.rt:27:5
+returns-2 : tie.Need-returns-2
+returns-2 c = search needs
+
+pub new-spec : {M : Type 1} → statement M
+new-spec = tie.close (tie.spec fits-requires returns returns-2)

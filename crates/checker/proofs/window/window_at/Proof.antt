@@ -1,0 +1,54 @@
+use native.Mathlib.Omega.{arith}
+use Prim.Native.Nat.{ℕ, _+_, _-_, _*_, _≤_, _<_}
+use lib.ListN.{length}
+use mathlib.Core.Path.{_≡_}
+use borrow.Author.Needs.{needs}
+use Rattle.checker.proofs.window.window_at.Statement.{statement}
+use Rattle.checker.proofs.window.window_at.Tie as tie
+use Rattle.checker.proofs.window.window_at.Reads as reads
+use Rattle.checker.proofs.window.window_at.Lts as lts
+
+-- src/window.rt:62:25
+mul-start : tie.Need-mul-start
+mul-start c = search needs
+
+-- src/window.rt:62:17
+mul-start-2 : tie.Need-mul-start-2
+mul-start-2 c = search needs
+
+-- src/window.rt:62:17
+shared-slice-read-start : tie.Need-shared-slice-read-start
+shared-slice-read-start c = search needs
+
+-- src/window.rt:63:23
+mul-end : tie.Need-mul-end
+mul-end c = search needs
+
+-- src/window.rt:63:23
+add-end : tie.Need-add-end
+add-end c = search needs
+
+-- src/window.rt:63:15
+mul-end-2 : tie.Need-mul-end-2
+mul-end-2 c = search needs
+
+-- src/window.rt:63:15
+shared-slice-read-end : tie.Need-shared-slice-read-end
+shared-slice-read-end c = search needs
+
+-- src/window.rt:58:1
+returns : tie.Need-returns
+returns c = search needs
+
+pub window-at-spec : {M : Type 1} → statement M
+window-at-spec =
+    tie.close
+    (tie.spec
+    mul-start
+    mul-start-2
+    shared-slice-read-start
+    mul-end
+    add-end
+    mul-end-2
+    shared-slice-read-end
+    returns)
