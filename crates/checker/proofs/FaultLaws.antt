@@ -5,13 +5,13 @@ use mathlib.Core.List.{List}
 use Prim.Native.Nat.{ℕ}
 use Rattle.scope.specs.Answers.{Fault, Fault.fine, Fault.fault, Answer.given, Answer.refused, faultIf, _orElse_, unless, unlessKept}
 
+pub if-true : (b : Bool) (n p : ℕ) → b ≡ true → fault n p ≡ faultIf b n p
+if-true b n p e = rw e
+
+pub if-false : (b : Bool) (n p : ℕ) → b ≡ false → fine ≡ faultIf b n p
+if-false b n p e = rw e
+
 module _ {n p : ℕ} where
-  pub if-true : (b : Bool) → b ≡ true → fault n p ≡ faultIf b n p
-  if-true b e = rw e
-
-  pub if-false : (b : Bool) → b ≡ false → fine ≡ faultIf b n p
-  if-false b e = rw e
-
   -- the first fault of two
   pub or-fault : (f g : Fault) → f ≡ fault n p → (f orElse g) ≡ fault n p
   or-fault f g e = rw e
