@@ -1,9 +1,11 @@
 -- Faults as the code meets them: one check after the other, then the value
-use mathlib.Core.Path.{_≡_, refl, sym, _∙_}
-use mathlib.Core.Bool.{Bool, true, false}
+use mathlib.Core.Path.{_≡_, sym, ap}
+use mathlib.Core.Bool.{Bool, true, false, not}
 use mathlib.Core.List.{List}
-use Prim.Native.Nat.{ℕ}
-use Rattle.scope.specs.Answers.{Fault, Fault.fine, Fault.fault, Answer.given, Answer.refused, faultIf, _orElse_, unless, unlessKept}
+use Prim.Native.Nat.{ℕ, _<_}
+use Rattle.scope.specs.Numbers.{first}
+use Rattle.scope.specs.Answers.{Fault, Fault.fine, Fault.fault, Answer.given, Answer.refused, faultIf, faultAt, _orElse_, unless, unlessKept}
+use Rattle.theory.specs.Numbers.{some-first, none-first}
 
 pub if-true : (b : Bool) (n p : ℕ) → b ≡ true → fault n p ≡ faultIf b n p
 if-true b n p e = rw e
@@ -33,3 +35,12 @@ given-by f a e = rw e
 
 pub written-by : (f : Fault) (new old : List ℕ) → f ≡ fine → new ≡ unlessKept f new old
 written-by f new old e = rw e
+
+-- ---- the lowest index at which a rule breaks
+
+module _ (number : ℕ) (rule : ℕ → Bool) (n : ℕ) where
+  pub breaks-at : (i : ℕ) → i < n → ((k : ℕ) → k < i → rule k ≡ true) → rule i ≡ false → fault number i ≡ faultAt number (first (λ k. not (rule k)) n)
+  breaks-at i l kept broken = ap (faultAt number) (sym (some-first (λ k. not (rule k)) n i l (ap not broken) (λ k h. ap not (kept k h))))
+
+  pub breaks-nowhere : ((k : ℕ) → k < n → rule k ≡ true) → fine ≡ faultAt number (first (λ k. not (rule k)) n)
+  breaks-nowhere kept = ap (faultAt number) (sym (none-first (λ k. not (rule k)) n (λ k h. ap not (kept k h))))

@@ -7,7 +7,7 @@ use Prim.Native.Nat.{ℕ, _*_, _%_, _≤_, _<_}
 use native.Mathlib.Omega.{arith}
 use lib.Dec.{ltb, eqb}
 use lib.ListN.{length}
-use borrow.Author.Tests.{ltb-false, leb-false, eqb-true, eqb-false}
+use borrow.Author.Tests.{ltb-false, leb-false, eqb-true, eqb-false, not-false}
 use Rattle.scope.specs.Limits.{mostFrame, mostWindows, mostTasks, mostCycle, mostTicks, mostJobs}
 use Rattle.scope.specs.Windows.{Board, windowsOf, supplied, badWindow}
 use Rattle.scope.specs.Tasks.{tasksOf, badTask}
@@ -18,7 +18,6 @@ use Rattle.scope.specs.Jobs.{jobsOf, badJob}
 use Rattle.scope.specs.Machine.{edf}
 use Rattle.scope.specs.Run.{Ran, ran}
 use Rattle.scope.specs.Answers.{Fault, Fault.fine, Fault.fault, Answer.given, faultIf, faultAt, _orElse_, unless, windowListFault, frameFault, windowFault, taskListFault, taskFault, cycleFault, absentFault, tableFault, groupFault, verdictAnswer, boundAnswer, jobListFault, jobFault, roomFault, runFault, runAnswer}
-use Rattle.theory.specs.Numbers.{not-false}
 use Rattle.theory.specs.Tasks.{TaskRules, Within, task-rules}
 
 -- ---- faults
@@ -57,23 +56,29 @@ pub record LegalTable (b : Board) (ws : List ℕ) : Type 0 where
   pub few : length ws ≤ 2 * mostWindows
   pub windows : badWindow b (windowsOf ws) ≡ none
 
+pub window-list-legal : (ws : List ℕ) → windowListFault ws ≡ fine → (length ws % 2 ≡ 0) × (0 < length ws) × (length ws ≤ 2 * mostWindows)
+unfolding windowListFault
+window-list-legal ws e =
+    let odd = not (eqb (length ws % 2) 0) in
+    let l = or-false (odd || eqb (length ws) 0) (ltb (2 * mostWindows) (length ws)) (faultIf-fine _ 1 0 e) in
+    let m = or-false odd (eqb (length ws) 0) (l .0) in
+    let filled = eqb-false (length ws) 0 (m .1) in
+    (eqb-true (length ws % 2) 0 (not-false _ (m .0)), omega (arith, filled), ltb-false (2 * mostWindows) (length ws) (l .1))
+
 pub table-legal : (b : Board) (ws : List ℕ) → tableFault b ws ≡ fine → LegalTable b ws
-unfolding tableFault windowListFault frameFault windowFault
+unfolding tableFault frameFault windowFault
 table-legal b ws e =
     let p = orElse-fine (windowListFault ws) (frameFault b orElse windowFault b ws) e in
     let q = orElse-fine (frameFault b) (windowFault b ws) (p .1) in
-    let odd = not (eqb (length ws % 2) 0) in
-    let l = or-false (odd || eqb (length ws) 0) (ltb (2 * mostWindows) (length ws)) (faultIf-fine _ 1 0 (p .0)) in
-    let l′ = or-false odd (eqb (length ws) 0) (l .0) in
+    let l = window-list-legal ws (p .0) in
     let f = or-false (eqb (b .frame) 0) (ltb mostFrame (b .frame)) (faultIf-fine _ 2 0 (q .0)) in
-    let filled = eqb-false (length ws) 0 (l′ .1) in
     let framed = eqb-false (b .frame) 0 (f .0) in
     record {
       frame = omega (arith, framed);
       frame-most = ltb-false mostFrame (b .frame) (f .1);
-      even = eqb-true (length ws % 2) 0 (not-false _ (l′ .0));
-      some = omega (arith, filled);
-      few = ltb-false (2 * mostWindows) (length ws) (l .1);
+      even = l .0;
+      some = l .1;
+      few = l .2;
       windows = faultAt-fine 3 (badWindow b (windowsOf ws)) (q .1);
     }
 

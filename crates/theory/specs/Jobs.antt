@@ -6,10 +6,10 @@ use mathlib.Core.List.{List}
 use Prim.Native.Nat.{ℕ, _+_, _≤_, _<_}
 use lib.Dec.{leb, ltb, eqb}
 use lib.ListN.{length}
-use borrow.Author.Tests.{leb-true, ltb-true, eq-eqb}
+use borrow.Author.Tests.{leb-true, ltb-true, eq-eqb, not-false}
 use Rattle.scope.specs.Tasks.{Task, taskAt}
 use Rattle.scope.specs.Jobs.{Job, releaseOf, taskOf, workOf, inOrder, apart, jobLegal, badJob}
-use Rattle.theory.specs.Numbers.{and-both, not-false, first-none, all-true}
+use Rattle.theory.specs.Numbers.{and-both, first-none, all-true}
 use Rattle.theory.specs.Spaced.{Legal}
 
 pub record JobRule (ts : List Task) (n : ℕ) (js : List Job) (j : ℕ) : Type 0 where

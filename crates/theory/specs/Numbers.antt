@@ -23,10 +23,6 @@ pub bool-cases : (b : Bool) → (b ≡ true) ⊎ (b ≡ false)
 bool-cases true = inl refl
 bool-cases false = inr refl
 
-pub not-false : (b : Bool) → not b ≡ false → b ≡ true
-not-false true e = refl
-not-false false e = sym e
-
 -- a ≤ x and y ≤ e, as a test
 abbrev pub fits : ℕ → ℕ → ℕ → ℕ → Bool
 fits a x y e = leb a x && leb y e

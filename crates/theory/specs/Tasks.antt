@@ -9,11 +9,11 @@ use native.Mathlib.Nat.{zero-add, add-div-right, add-mul-div-right, div-lt-iff-l
 use native.Mathlib.Decide.{decLt}
 use lib.Dec.{leb, ltb}
 use lib.ListN.{length}
-use borrow.Author.Tests.{lt-ltb, le-ltb, leb-true}
+use borrow.Author.Tests.{lt-ltb, le-ltb, leb-true, not-false}
 use Rattle.scope.specs.Numbers.{sum}
 use Rattle.scope.specs.Limits.{mostOfTask}
 use Rattle.scope.specs.Tasks.{Task, taskAt, taskNumber, taskLegal, badTask, taskDemand, demand}
-use Rattle.theory.specs.Numbers.{and-both, not-false, first-none, sum-first, sum-le, sum-eq, sum-zero, sum-add}
+use Rattle.theory.specs.Numbers.{and-both, first-none, sum-first, sum-le, sum-eq, sum-zero, sum-add}
 
 -- ---- what a legal task keeps. That D ≤ T stands apart: few laws need it
 

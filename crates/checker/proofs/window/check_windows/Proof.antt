@@ -1,8 +1,16 @@
+use Rattle.checker.proofs.FaultLaws.{breaks-at, breaks-nowhere}
+use Rattle.checker.specs.Told.{boardOf}
+use Rattle.theory.specs.Lists.{twos-length}
+use Rattle.scope.specs.Answers.{windowFault}
+use Rattle.scope.specs.Windows.{window, windowsOf, windowLegal, badWindow}
+use borrow.Author.Count.{below-none, below-more}
+use borrow.Author.Tests.{not-true, not-false}
+use mathlib.Core.Bool.{true}
+use mathlib.Core.Path.{_≡_, refl, sym, ap, _∙_}
 use borrow.Author.Needs.{needs}
 use native.Mathlib.Omega.{arith}
-use Prim.Native.Nat.{ℕ, _+_, _-_, _*_, _≤_, _<_}
+use Prim.Native.Nat.{ℕ, _+_, _-_, _*_, _/_, _≤_, _<_}
 use lib.ListN.{length}
-use mathlib.Core.Path.{_≡_}
 use Rattle.checker.proofs.window.check_windows.Statement.{statement}
 use Rattle.checker.proofs.window.check_windows.Tie as tie
 use Rattle.checker.proofs.window.check_windows.Reads as reads
@@ -10,26 +18,32 @@ use Rattle.checker.proofs.window.check_windows.Lts as lts
 use Rattle.checker.proofs.window.window_legal.Reads as window-legal-reads
 
 abbrev Inv-loop : tie.InvT-loop
-Inv-loop board windows count i₀ i = ?
+Inv-loop board windows count i₀ i =
+    (i ≤ count) × (count ≡ length windows / 2) × ((k : ℕ) → k < i → windowLegal (boardOf board) (windowsOf windows) k ≡ true)
 
 abbrev μ-loop : tie.MeasureT-loop
-μ-loop board windows count i₀ i = ?
+μ-loop board windows count i₀ i = count - i
 
 -- src/window.rt:107:5
 loop-holds : tie.Need-loop-holds Inv-loop μ-loop
-loop-holds c = search needs
+loop-holds c = (omega arith, refl, below-none _)
 
 -- src/window.rt:108:13
 window-legal-requires : tie.Need-window-legal-requires Inv-loop μ-loop
-window-legal-requires c κs = search needs
+window-legal-requires c κs = omega arith
 
 -- src/window.rt:109:25
 cast-place : tie.Need-cast-place Inv-loop μ-loop
-cast-place c = search needs
+cast-place c = omega arith
 
 -- src/window.rt:110:13
 returns : tie.Need-returns Inv-loop μ-loop
-returns c = search needs
+unfolding windowFault badWindow
+returns c =
+    let a = c .before .before .before .before .before .args in
+    let l = c .before .before .before .loop in
+    breaks-at 3 (windowLegal (boardOf (a .board)) (windowsOf (a .windows .now))) _ (l .i) (omega (arith, twos-length window (a .windows .now))) (l .inv .2)
+    (sym (c .before .window-legal .ensures) ∙ not-true _ (c .if1 .taken))
 
 -- src/window.rt:112:9
 add-i : tie.Need-add-i Inv-loop μ-loop
@@ -41,11 +55,15 @@ loop-less c = search needs
 
 -- src/window.rt:107:5
 loop-again : tie.Need-loop-again Inv-loop μ-loop
-loop-again c = search needs
+loop-again c = (omega arith, omega arith, below-more _ _ (c .before .before .before .loop .inv .2) (sym (c .before .window-legal .ensures) ∙ not-false _ (c .if1 .left)))
 
 -- src/window.rt:101:1
 returns-2 : tie.Need-returns-2 Inv-loop μ-loop
-returns-2 c = search needs
+unfolding windowFault badWindow
+returns-2 c =
+    let a = c .before .before .before .args in
+    let l = c .before .loop in
+    breaks-nowhere 3 (windowLegal (boardOf (a .board)) (windowsOf (a .windows .now))) _ (λ k h. l .inv .2 k (omega (arith, twos-length window (a .windows .now))))
 
 pub check-windows-spec : {M : Type 1} → statement M
 check-windows-spec =

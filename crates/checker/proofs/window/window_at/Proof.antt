@@ -1,7 +1,9 @@
+use Rattle.theory.specs.Lists.{twos-at}
+use Rattle.scope.specs.Windows.{window}
+use mathlib.Core.Path.{_≡_, sym}
 use native.Mathlib.Omega.{arith}
 use Prim.Native.Nat.{ℕ, _+_, _-_, _*_, _≤_, _<_}
 use lib.ListN.{length}
-use mathlib.Core.Path.{_≡_}
 use borrow.Author.Needs.{needs}
 use Rattle.checker.proofs.window.window_at.Statement.{statement}
 use Rattle.checker.proofs.window.window_at.Tie as tie
@@ -38,7 +40,7 @@ shared-slice-read-end c = search needs
 
 -- src/window.rt:58:1
 returns : tie.Need-returns
-returns c = search needs
+returns c = sym (twos-at window (window 0 0) _ _ (c .before .before .pre))
 
 pub window-at-spec : {M : Type 1} → statement M
 window-at-spec =

@@ -1,7 +1,10 @@
+use Rattle.checker.proofs.FaultLaws.{refused-by, given-by}
+use Rattle.checker.specs.Told.{faultOf}
+use Rattle.scope.specs.Answers.{lengthAnswer}
+use mathlib.Core.Path.{_≡_, sym, ap, _∙_}
 use native.Mathlib.Omega.{arith}
 use Prim.Native.Nat.{ℕ, _+_, _-_, _*_, _≤_, _<_}
 use lib.ListN.{length}
-use mathlib.Core.Path.{_≡_}
 use borrow.Author.Needs.{needs}
 use Rattle.checker.proofs.length.Length.new.Statement.{statement}
 use Rattle.checker.proofs.length.Length.new.Tie as tie
@@ -23,11 +26,13 @@ enum-told c = search needs
 
 -- src/length.rt:21:5
 returns : tie.Need-returns
-returns c = search needs
+unfolding lengthAnswer
+returns c = refused-by _ _ (sym (c .before .before .before .check-length .ensures) ∙ ap faultOf (c .before .r .given .1))
 
 -- src/length.rt:21:5
 returns-2 : tie.Need-returns-2
-returns-2 c = search needs
+unfolding lengthAnswer
+returns-2 c = given-by _ _ (sym (c .before .before .check-length .ensures) ∙ ap faultOf (c .enum-told .given .1))
 
 pub new-spec : {M : Type 1} → statement M
 new-spec = tie.close (tie.spec check-length-requires enum-known-r enum-told returns returns-2)

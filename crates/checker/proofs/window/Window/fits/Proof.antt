@@ -1,3 +1,4 @@
+use borrow.Author.Tests.{lt-ltb, le-ltb}
 use borrow.Author.Needs.{needs}
 use native.Mathlib.Omega.{arith}
 use Prim.Native.Nat.{ℕ, _+_, _-_, _*_, _≤_, _<_}
@@ -10,11 +11,11 @@ use Rattle.checker.proofs.window.Window.fits.Lts as lts
 
 -- src/window.rt:38:5
 returns : tie.Need-returns
-returns c = search needs
+returns c = rw (lt-ltb _ _ (c .if1 .taken))
 
 -- src/window.rt:38:5
 returns-2 : tie.Need-returns-2
-returns-2 c = search needs
+returns-2 c = rw (le-ltb _ _ (c .if1 .left))
 
 pub fits-spec : {M : Type 1} → statement M
 fits-spec = tie.close (tie.spec returns returns-2)

@@ -1,20 +1,19 @@
-use borrow.Author.Needs.{needs}
-use native.Mathlib.Omega.{arith}
-use Prim.Native.Nat.{ℕ, _+_, _-_, _*_, _≤_, _<_}
-use lib.ListN.{length}
-use mathlib.Core.Path.{_≡_}
+use borrow.Author.Tests.{le-leb, lt-leb}
+use Rattle.scope.specs.Windows.{inWindow}
 use Rattle.checker.proofs.window.Window.holds.Statement.{statement}
 use Rattle.checker.proofs.window.Window.holds.Tie as tie
 use Rattle.checker.proofs.window.Window.holds.Reads as reads
 use Rattle.checker.proofs.window.Window.holds.Lts as lts
 
--- src/window.rt:48:5
+-- src/window.rt:52:9
 returns : tie.Need-returns
-returns c = search needs
+unfolding inWindow
+returns c = rw (le-leb _ _ (c .if1 .taken))
 
--- src/window.rt:48:5
+-- src/window.rt:46:5
 returns-2 : tie.Need-returns-2
-returns-2 c = search needs
+unfolding inWindow
+returns-2 c = rw (lt-leb _ _ (c .if1 .left))
 
 pub holds-spec : {M : Type 1} → statement M
 holds-spec = tie.close (tie.spec returns returns-2)

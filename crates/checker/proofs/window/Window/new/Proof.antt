@@ -1,7 +1,9 @@
+use Rattle.checker.proofs.WindowLaws.{window-alone}
+use mathlib.Core.Bool.{true, false}
+use mathlib.Core.Path.{sym, _∙_}
 use native.Mathlib.Omega.{arith}
 use Prim.Native.Nat.{ℕ, _+_, _-_, _*_, _≤_, _<_}
 use lib.ListN.{length}
-use mathlib.Core.Path.{_≡_}
 use borrow.Author.Needs.{needs}
 use Rattle.checker.proofs.window.Window.new.Statement.{statement}
 use Rattle.checker.proofs.window.Window.new.Tie as tie
@@ -15,11 +17,11 @@ fits-requires c κs = search needs
 
 -- src/window.rt:32:13
 returns : tie.Need-returns
-returns c = search needs
+returns c = window-alone _ _ true (sym (c .before .fits2 .ensures) ∙ c .if1 .taken)
 
 -- src/window.rt:27:5
 returns-2 : tie.Need-returns-2
-returns-2 c = search needs
+returns-2 c = window-alone _ _ false (sym (c .before .fits2 .ensures) ∙ c .if1 .left)
 
 pub new-spec : {M : Type 1} → statement M
 new-spec = tie.close (tie.spec fits-requires returns returns-2)
