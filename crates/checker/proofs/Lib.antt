@@ -1,2 +1,4 @@
 pub mod FaultLaws
 pub mod WindowLaws
+pub mod SupplyLaws
+pub mod PartitionLaws

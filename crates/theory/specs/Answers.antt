@@ -8,7 +8,7 @@ use native.Mathlib.Omega.{arith}
 use lib.Dec.{ltb, eqb}
 use lib.ListN.{length}
 use borrow.Author.Tests.{ltb-false, leb-false, eqb-true, eqb-false, not-false}
-use Rattle.scope.specs.Limits.{mostFrame, mostWindows, mostTasks, mostCycle, mostTicks, mostJobs}
+use Rattle.scope.specs.Limits.{mostFrame, mostWindows, mostTasks, mostCycle, mostLength, mostTicks, mostJobs}
 use Rattle.scope.specs.Windows.{Board, windowsOf, supplied, badWindow}
 use Rattle.scope.specs.Tasks.{tasksOf, badTask}
 use Rattle.scope.specs.Cycle.{cycle}
@@ -17,7 +17,7 @@ use Rattle.scope.specs.Bound.{Bound, response}
 use Rattle.scope.specs.Jobs.{jobsOf, badJob}
 use Rattle.scope.specs.Machine.{edf}
 use Rattle.scope.specs.Run.{Ran, ran}
-use Rattle.scope.specs.Answers.{Fault, Fault.fine, Fault.fault, Answer.given, faultIf, faultAt, _orElse_, unless, windowListFault, frameFault, windowFault, taskListFault, taskFault, cycleFault, absentFault, tableFault, groupFault, verdictAnswer, boundAnswer, jobListFault, jobFault, roomFault, runFault, runAnswer}
+use Rattle.scope.specs.Answers.{Fault, Fault.fine, Fault.fault, Answer.given, faultIf, faultAt, _orElse_, unless, windowListFault, frameFault, windowFault, taskListFault, taskFault, cycleFault, lengthFault, absentFault, tableFault, groupFault, verdictAnswer, boundAnswer, jobListFault, jobFault, roomFault, runFault, runAnswer}
 use Rattle.theory.specs.Tasks.{TaskRules, Within, task-rules}
 
 -- ---- faults
@@ -46,7 +46,7 @@ or-false : (a b : Bool) → (a || b) ≡ false → (a ≡ false) × (b ≡ false
 or-false true b e = (e, elim b [ true ↦ e | false ↦ refl ])
 or-false false b e = (refl, e)
 
--- ---- tables and groups that pass their checks
+-- ---- tables, groups and lengths that pass their checks
 
 pub record LegalTable (b : Board) (ws : List ℕ) : Type 0 where
   pub frame : 1 ≤ b .frame
@@ -103,6 +103,10 @@ group-legal ts e =
       rules = r .0;
       within = r .1;
     }
+
+pub length-legal : (t : ℕ) → lengthFault t ≡ fine → t ≤ mostLength
+unfolding lengthFault
+length-legal t e = ltb-false mostLength t (faultIf-fine (ltb mostLength t) 7 0 e)
 
 -- ---- entries that answer
 

@@ -1,5 +1,6 @@
 pub mod Numbers
 pub mod Lists
+pub mod Buffers
 pub mod Ticks
 pub mod Windows
 pub mod Finer

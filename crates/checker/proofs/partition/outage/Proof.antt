@@ -1,0 +1,59 @@
+use mathlib.Core.Path.{_≡_, sym, ap, _∙_}
+use Rattle.scope.specs.Answers.{Fault.fine, Answer.given, tableFault, outageAnswer}
+use Rattle.theory.specs.Answers.{table-legal}
+use Rattle.checker.specs.Told.{boardOf, faultOf}
+use native.Mathlib.Omega.{arith}
+use borrow.Author.Needs.{needs}
+use Rattle.checker.proofs.FaultLaws.{refused-by, given-by}
+use Rattle.checker.proofs.partition.outage.Statement.{statement}
+use Rattle.checker.proofs.partition.outage.Tie as tie
+use Rattle.checker.proofs.partition.outage.Reads as reads
+use Rattle.checker.proofs.partition.outage.Lts as lts
+use Rattle.checker.proofs.partition.outage_of.Reads as outage-of-reads
+use Rattle.checker.proofs.window.check_table.Reads as check-table-reads
+
+-- past the match the table has no fault
+fine-at : (c : tie.After-enum-told) → let a = c .before .before .before .before .args in tableFault (boardOf (a .board)) (a .windows .now) ≡ fine
+fine-at c = sym (c .before .before .check-table .ensures) ∙ ap faultOf (c .enum-told .given .1)
+
+-- src/partition.rt:174:11
+check-table-requires : tie.Need-check-table-requires
+check-table-requires c κs = search needs
+
+-- src/partition.rt:175:22
+enum-known-r : tie.Need-enum-known-r
+enum-known-r c = search needs
+
+-- src/partition.rt:177:17
+enum-told : tie.Need-enum-told
+enum-told c = search needs
+
+-- src/partition.rt:177:17
+outage-of-requires : tie.Need-outage-of-requires
+outage-of-requires c κs = let w = table-legal _ _ (fine-at c) in omega arith
+
+-- src/partition.rt:178:24
+cast-t7 : tie.Need-cast-t7
+cast-t7 c = search needs
+
+-- src/partition.rt:171:1
+returns : tie.Need-returns
+unfolding outageAnswer
+returns c = refused-by _ _ (sym (c .before .before .before .check-table .ensures) ∙ ap faultOf (c .before .r .given .1))
+
+-- src/partition.rt:171:1
+returns-2 : tie.Need-returns-2
+unfolding outageAnswer
+returns-2 c = ap given (c .outage-of .ensures) ∙ given-by _ _ (fine-at (c .before))
+
+pub outage-spec : {M : Type 1} → statement M
+outage-spec =
+    tie.close
+    (tie.spec
+    check-table-requires
+    enum-known-r
+    enum-told
+    outage-of-requires
+    cast-t7
+    returns
+    returns-2)

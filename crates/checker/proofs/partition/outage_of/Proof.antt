@@ -1,0 +1,89 @@
+use mathlib.Core.Path.{_≡_, sym, ap, ap₂, _∙_}
+use mathlib.Core.Bool.{Bool, cond}
+use Prim.Native.Nat.{ℕ, _+_, _-_, _≤_, max}
+use Rattle.scope.specs.Numbers.{greatest}
+use Rattle.scope.specs.Windows.{supplied}
+use Rattle.scope.specs.Partition.{outageBefore, outage}
+use Rattle.checker.specs.Told.{boardOf}
+use native.Mathlib.Omega.{arith}
+use borrow.Author.Needs.{needs}
+use Rattle.checker.proofs.PartitionLaws.{greatest-more, outage-none, outage-more, outage-le, longest-none}
+use Rattle.checker.proofs.partition.outage_of.Statement.{statement}
+use Rattle.checker.proofs.partition.outage_of.Tie as tie
+use Rattle.checker.proofs.partition.outage_of.Reads as reads
+use Rattle.checker.proofs.partition.outage_of.Lts as lts
+use Rattle.checker.proofs.partition.larger.Reads as larger-reads
+use Rattle.checker.proofs.partition.run_on.Reads as run-on-reads
+use Rattle.checker.proofs.supply.is_supplied.Reads as is-supplied-reads
+
+abbrev Inv-loop : tie.InvT-loop
+Inv-loop board windows frame run₀ most₀ k₀ run most k =
+    (k ≤ frame)
+    × (run ≡ outageBefore (supplied (boardOf board) windows) k)
+    × (most ≡ greatest (outageBefore (supplied (boardOf board) windows)) (k + 1))
+
+abbrev μ-loop : tie.MeasureT-loop
+μ-loop board windows frame run₀ most₀ k₀ run most k = frame - k
+
+-- src/partition.rt:161:5
+loop-holds : tie.Need-loop-holds Inv-loop μ-loop
+loop-holds c = (omega arith, sym (outage-none _), sym (longest-none _))
+
+-- src/partition.rt:162:13
+is-supplied-requires : tie.Need-is-supplied-requires Inv-loop μ-loop
+is-supplied-requires c κs = search needs
+
+-- src/partition.rt:163:9
+run-on-requires : tie.Need-run-on-requires Inv-loop μ-loop
+run-on-requires c κs =
+    let a = c .before .before .before .before .args in
+    let l = c .before .before .loop in
+    omega (arith, l .inv .1, outage-le (supplied (boardOf (a .board)) (a .windows .now)) (l .k))
+
+-- src/partition.rt:164:9
+larger-requires : tie.Need-larger-requires Inv-loop μ-loop
+larger-requires c κs = search needs
+
+-- src/partition.rt:165:9
+add-k : tie.Need-add-k Inv-loop μ-loop
+add-k c = search needs
+
+-- src/partition.rt:161:5
+loop-less : tie.Need-loop-less Inv-loop μ-loop
+loop-less c = search needs
+
+-- src/partition.rt:161:5
+loop-again : tie.Need-loop-again Inv-loop μ-loop
+loop-again c =
+    let a = c .before .before .before .before .before .before .args in
+    let l = c .before .before .before .before .loop in
+    let σ = supplied (boardOf (a .board)) (a .windows .now) in
+    let r : c .before .run-on .result ≡ outageBefore σ (l .k + 1) =
+    c .before .run-on .ensures
+    ∙ ap₂ (λ (on : Bool) (n : ℕ). cond on 0 (n + 1)) (c .before .before .is-supplied .ensures) (l .inv .1)
+    ∙ sym (outage-more σ (l .k)) in
+    (omega arith, r, c .larger .ensures ∙ ap₂ max (l .inv .2) r ∙ sym (greatest-more (outageBefore σ) (l .k + 1)))
+
+-- src/partition.rt:153:1
+returns : tie.Need-returns Inv-loop μ-loop
+unfolding outage
+returns c =
+    let a = c .before .before .before .args in
+    let l = c .before .loop in
+    let e : l .k ≡ a .board .frame = omega arith in
+    l .inv .2 ∙ ap (λ (k : ℕ). greatest (outageBefore (supplied (boardOf (a .board)) (a .windows .now))) (k + 1)) e
+
+pub outage-of-spec : {M : Type 1} → statement M
+outage-of-spec =
+    tie.close
+    (tie.spec
+    Inv-loop
+    μ-loop
+    loop-holds
+    is-supplied-requires
+    run-on-requires
+    larger-requires
+    add-k
+    loop-less
+    loop-again
+    returns)

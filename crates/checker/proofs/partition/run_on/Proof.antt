@@ -1,0 +1,23 @@
+use mathlib.Core.Path.{sym, ap}
+use mathlib.Core.Bool.{Bool, cond}
+use Prim.Native.Nat.{_+_}
+use borrow.Author.Needs.{needs}
+use Rattle.checker.proofs.partition.run_on.Statement.{statement}
+use Rattle.checker.proofs.partition.run_on.Tie as tie
+use Rattle.checker.proofs.partition.run_on.Reads as reads
+use Rattle.checker.proofs.partition.run_on.Lts as lts
+
+-- src/partition.rt:149:24
+add-result : tie.Need-add-result
+add-result c = search needs
+
+-- src/partition.rt:145:1
+returns : tie.Need-returns
+returns c = search needs
+
+-- src/partition.rt:145:1
+returns-2 : tie.Need-returns-2
+returns-2 c = sym (ap (λ (b : Bool). cond b 0 (c .before .args .n + 1)) (c .if1 .left))
+
+pub run-on-spec : {M : Type 1} → statement M
+run-on-spec = tie.close (tie.spec add-result returns returns-2)

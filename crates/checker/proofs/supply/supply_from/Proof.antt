@@ -1,0 +1,82 @@
+use borrow.Author.Needs.{needs}
+use native.Mathlib.Omega.{arith}
+use Prim.Native.Nat.{_+_, _-_, _≤_}
+use mathlib.Core.Path.{_≡_, sym, ap, _∙_}
+use Rattle.scope.specs.Ticks.{supply}
+use Rattle.scope.specs.Windows.{supplied}
+use Rattle.theory.specs.Ticks.{supply-le}
+use Rattle.checker.specs.Told.{boardOf}
+use Rattle.checker.proofs.SupplyLaws.{supply-none, supply-more}
+use Rattle.checker.proofs.supply.supply_from.Statement.{statement}
+use Rattle.checker.proofs.supply.supply_from.Tie as tie
+use Rattle.checker.proofs.supply.supply_from.Reads as reads
+use Rattle.checker.proofs.supply.supply_from.Lts as lts
+use Rattle.checker.proofs.supply.tick_of.Reads as tick-of-reads
+
+abbrev Inv-loop : tie.InvT-loop
+Inv-loop board windows start length n₀ i₀ n i = (i ≤ length) × (n ≡ supply (supplied (boardOf board) windows) start i)
+
+abbrev μ-loop : tie.MeasureT-loop
+μ-loop board windows start length n₀ i₀ n i = length - i
+
+-- src/supply.rt:57:5
+loop-holds : tie.Need-loop-holds Inv-loop μ-loop
+loop-holds c = (omega arith, sym (supply-none _ _))
+
+-- src/supply.rt:58:38
+add-tick-of : tie.Need-add-tick-of Inv-loop μ-loop
+add-tick-of c = search needs
+
+-- src/supply.rt:58:14
+tick-of-requires : tie.Need-tick-of-requires Inv-loop μ-loop
+tick-of-requires c κs = search needs
+
+-- with this tick the number is the supply of i + 1 ticks, and so at most i + 1
+counted : (c : tie.After-tick-of Inv-loop μ-loop) →
+    let a = c .before .before .before .before .args in
+    let l = c .before .before .loop in
+    let σ = supplied (boardOf (a .board)) (a .windows .now) in
+    (l .n + c .tick-of .result ≡ supply σ (a .start) (l .i + 1)) × (supply σ (a .start) (l .i + 1) ≤ l .i + 1)
+counted c =
+    let a = c .before .before .before .before .args in
+    let l = c .before .before .loop in
+    let σ = supplied (boardOf (a .board)) (a .windows .now) in
+    (omega (arith, l .inv .1, c .tick-of .ensures, supply-more σ (a .start) (l .i)), supply-le σ (a .start) (l .i + 1))
+
+-- src/supply.rt:58:9
+add-n : tie.Need-add-n Inv-loop μ-loop
+add-n c = omega (arith, counted c)
+
+-- src/supply.rt:59:9
+add-i : tie.Need-add-i Inv-loop μ-loop
+add-i c = search needs
+
+-- src/supply.rt:57:5
+loop-less : tie.Need-loop-less Inv-loop μ-loop
+loop-less c = search needs
+
+-- src/supply.rt:57:5
+loop-again : tie.Need-loop-again Inv-loop μ-loop
+loop-again c = (omega arith, omega (arith, counted c))
+
+-- src/supply.rt:51:1
+returns : tie.Need-returns Inv-loop μ-loop
+returns c =
+    let l = c .before .loop in
+    let e : l .i ≡ c .before .before .before .args .length = omega arith in
+    l .inv .1 ∙ ap (supply _ _) e
+
+pub supply-from-spec : {M : Type 1} → statement M
+supply-from-spec =
+    tie.close
+    (tie.spec
+    Inv-loop
+    μ-loop
+    loop-holds
+    add-tick-of
+    tick-of-requires
+    add-n
+    add-i
+    loop-less
+    loop-again
+    returns)
