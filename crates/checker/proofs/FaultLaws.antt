@@ -1,5 +1,5 @@
 -- Faults as the code meets them: one check after the other, then the value
-use mathlib.Core.Path.{_≡_, sym, ap}
+use mathlib.Core.Path.{_≡_, refl, sym, ap, _∙_}
 use mathlib.Core.Bool.{Bool, true, false, not}
 use mathlib.Core.List.{List}
 use Prim.Native.Nat.{ℕ, _<_}
@@ -44,3 +44,19 @@ module _ (number : ℕ) (rule : ℕ → Bool) (n : ℕ) where
 
   pub breaks-nowhere : ((k : ℕ) → k < n → rule k ≡ true) → fine ≡ faultAt number (first (λ k. not (rule k)) n)
   breaks-nowhere kept = ap (faultAt number) (sym (none-first (λ k. not (rule k)) n (λ k h. ap not (kept k h))))
+
+-- ---- two checks made together, then a third, then the value
+
+or-assoc : (f g h : Fault) → ((f orElse g) orElse h) ≡ (f orElse g orElse h)
+or-assoc fine g h = refl
+or-assoc (fault n p) g h = refl
+
+module _ {A : Type 0} (f g h : Fault) (a : A) where
+  pub refused-first : {n p : ℕ} → (f orElse g) ≡ fault n p → refused n p ≡ unless (f orElse g orElse h) a
+  refused-first e = refused-by (f orElse g orElse h) a (sym (or-assoc f g h) ∙ or-fault (f orElse g) h e)
+
+  pub refused-then : {n p : ℕ} → (f orElse g) ≡ fine → h ≡ fault n p → refused n p ≡ unless (f orElse g orElse h) a
+  refused-then e e′ = refused-by (f orElse g orElse h) a (sym (or-assoc f g h) ∙ or-fine (f orElse g) h e ∙ e′)
+
+  pub given-then : (f orElse g) ≡ fine → h ≡ fine → given a ≡ unless (f orElse g orElse h) a
+  given-then e e′ = given-by (f orElse g orElse h) a (sym (or-assoc f g h) ∙ or-fine (f orElse g) h e ∙ e′)

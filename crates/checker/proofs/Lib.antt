@@ -2,3 +2,8 @@ pub mod FaultLaws
 pub mod WindowLaws
 pub mod SupplyLaws
 pub mod PartitionLaws
+pub mod TaskLaws
+pub mod CycleLaws
+pub mod DemandLaws
+pub mod VerdictLaws
+pub mod BoundLaws

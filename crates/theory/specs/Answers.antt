@@ -104,6 +104,9 @@ group-legal ts e =
       within = r .1;
     }
 
+pub checked-legal : (b : Board) (ws ts : List ℕ) → (tableFault b ws orElse groupFault ts) ≡ fine → LegalTable b ws × LegalGroup ts
+checked-legal b ws ts e = let p = orElse-fine (tableFault b ws) (groupFault ts) e in (table-legal b ws (p .0), group-legal ts (p .1))
+
 pub length-legal : (t : ℕ) → lengthFault t ≡ fine → t ≤ mostLength
 unfolding lengthFault
 length-legal t e = ltb-false mostLength t (faultIf-fine (ltb mostLength t) 7 0 e)

@@ -31,7 +31,7 @@ module _ (σ : ℕ → Bool) (P : ℕ) (ts : List Task) (i : ℕ) where
   unfolding suffices
   enough-test t e = fits-true 1 t (asked ts i t) (leastSupply σ P t) e
 
-  test-enough : (t : ℕ) → 1 ≤ t → Enough t → test t ≡ true
+  pub test-enough : (t : ℕ) → 1 ≤ t → Enough t → test t ≡ true
   unfolding suffices
   test-enough t l h = true-fits 1 t (asked ts i t) (leastSupply σ P t) l h
 
@@ -39,7 +39,7 @@ module _ (σ : ℕ → Bool) (P : ℕ) (ts : List Task) (i : ℕ) where
   no-test : (t : ℕ) → test t ≡ false → 1 ≤ t → Enough t → ⊥
   no-test t e l h = false≢true (sym e ∙ test-enough t l h)
 
-  test-no : (t : ℕ) → (1 ≤ t → Enough t → ⊥) → test t ≡ false
+  pub test-no : (t : ℕ) → (1 ≤ t → Enough t → ⊥) → test t ≡ false
   test-no t h = go (test t) refl
     where
       go : (c : Bool) → test t ≡ c → test t ≡ false

@@ -1,0 +1,108 @@
+-- The response bound as its loops find it: what is asked, task by task, and the first length that suffices
+use mathlib.Core.Path.{_≡_, refl, sym, ap, _∙_}
+use mathlib.Core.Bool.{Bool, true, false}
+use mathlib.Core.List.{List}
+use Prim.Native.Nat.{ℕ, suc, _+_, _-_, _*_, _/_, _≤_, _<_}
+use native.Mathlib.Omega.{arith}
+use native.Mathlib.Nat.{div-le-self, mul-le-mul}
+use native.Mathlib.Numerals.{add-one}
+use lib.ListN.{length}
+use borrow.Author.Count.{below-more}
+use borrow.Author.Tests.{le-leb, lt-leb}
+use Rattle.scope.specs.Numbers.{sum}
+use Rattle.scope.specs.Ticks.{leastSupply}
+use Rattle.scope.specs.Windows.{Board, supplied}
+use Rattle.scope.specs.Tasks.{Task, task, tasksOf, taskAt}
+use Rattle.scope.specs.Bound.{Bound.bound, Bound.noBound, ceil, asked, suffices, orNoBound, response}
+use Rattle.scope.specs.Answers.{Fault.fine, Fault.fault, Answer.given, Answer.refused, _orElse_, tableFault, groupFault, absentFault, boundAnswer}
+use Rattle.theory.specs.Numbers.{sum-le, sum-same, none-first, some-first}
+use Rattle.theory.specs.Lists.{threes-length}
+use Rattle.theory.specs.Answers.{LegalGroup}
+use Rattle.theory.specs.Tasks.{TaskRule}
+use Rattle.theory.specs.Bound.{test-enough, test-no}
+use Rattle.checker.proofs.FaultLaws.{if-true, if-false, refused-first, refused-then, given-then}
+use Rattle.checker.proofs.TaskLaws.{read-rule}
+
+-- ---- what is asked
+
+-- ceil(t/T)·C of a task
+abbrev pub askedBy : ℕ → Task → ℕ
+askedBy t x = ceil t (x .T) * x .C
+
+-- by task i and the first j of those above it
+unfoldable pub askedTo : List Task → ℕ → ℕ → ℕ → ℕ
+askedTo ts i t j = (taskAt ts i) .C + sum (λ k. askedBy t (taskAt ts k)) j
+
+module _ (ts : List Task) (i t : ℕ) where
+  pub askedTo-none : askedTo ts i t 0 ≡ (taskAt ts i) .C
+  unfolding askedTo sum
+  askedTo-none = omega arith
+
+  pub askedTo-next : (j : ℕ) → askedTo ts i t (j + 1) ≡ askedTo ts i t j + askedBy t (taskAt ts j)
+  unfolding askedTo sum
+  askedTo-next j = rw (add-one j) (omega arith)
+
+  pub askedTo-whole : askedTo ts i t i ≡ asked ts i t
+  unfolding askedTo asked
+  askedTo-whole = refl
+
+-- ceil(t/T) is at most t + T
+pub asked-most : (x : Task) (t : ℕ) → TaskRule x → t ≤ 1000000 → askedBy t x ≤ 2000000000000
+asked-most x t ok h =
+    mul-le-mul {n₂ = 2000000} {m₂ = 1000000} (omega (arith, div-le-self (t + (x .T - 1)) (x .T), ok .period-most)) (ok .work-most)
+
+pub askedTo-most : (ts : List ℕ) (i t j : ℕ) → LegalGroup ts → t ≤ 1000000 → i < length ts / 3 → j ≤ length ts / 3 → askedTo (tasksOf ts) i t j ≤ 64000001000000
+unfolding askedTo
+askedTo-most ts i t j ok h l m =
+    let x : ℕ → Task = taskAt (tasksOf ts) in
+    omega (
+      arith,
+      ok .few,
+      read-rule ts i (x i) ok l refl .work-most,
+      sum-same 2000000000000 j,
+      sum-le (λ k. askedBy t (x k)) (λ k. 2000000000000) j (λ k u. asked-most (x k) t (read-rule ts k (x k) ok (omega arith) refl) h),
+    )
+
+-- ---- the first length that suffices
+
+-- no length below t suffices
+abbrev pub Short : (ℕ → Bool) → ℕ → List Task → ℕ → ℕ → Type 0
+Short σ P ts i t = (u : ℕ) → u < t → suffices σ P ts i u ≡ false
+
+module _ (σ : ℕ → Bool) (P : ℕ) (ts : List Task) (i : ℕ) where
+  -- length 0 is none
+  pub short-first : Short σ P ts i 1
+  short-first u l = test-no σ P ts i u (λ h. absurd (omega arith))
+
+  pub short-next : (t n a : ℕ) → n ≡ leastSupply σ P t → a ≡ asked ts i t → n < a → Short σ P ts i t → Short σ P ts i (t + 1)
+  short-next t n a en ea h low = below-more (λ (u : ℕ). suffices σ P ts i u ≡ false) t low (test-no σ P ts i t (λ l e. omega (arith, e)))
+
+  pub bound-found : (t n a d : ℕ) → 1 ≤ t → t ≤ d → d ≡ (taskAt ts i) .D → n ≡ leastSupply σ P t → a ≡ asked ts i t → a ≤ n → Short σ P ts i t →
+      bound t ≡ response σ P ts i
+  unfolding response
+  bound-found t n a d l m ed en ea h low =
+      sym (ap orNoBound (some-first (suffices σ P ts i) (suc ((taskAt ts i) .D)) t (omega arith) (test-enough σ P ts i t l (omega arith)) low))
+
+  pub no-bound-found : (t d : ℕ) → d < t → d ≡ (taskAt ts i) .D → Short σ P ts i t → noBound ≡ response σ P ts i
+  unfolding response
+  no-bound-found t d h ed low = sym (ap orNoBound (none-first (suffices σ P ts i) (suc ((taskAt ts i) .D)) (λ u l. low u (omega arith))))
+
+-- ---- the answers of `bound`: the table and the group are checked together, then whether the task is there
+
+module _ (b : Board) (ws ts : List ℕ) (i : ℕ) where
+  pub bound-refused : {n p : ℕ} → (tableFault b ws orElse groupFault ts) ≡ fault n p → refused n p ≡ boundAnswer b ws ts i
+  unfolding boundAnswer
+  bound-refused e = refused-first (tableFault b ws) (groupFault ts) (absentFault ts i) _ e
+
+  module _ (e : (tableFault b ws orElse groupFault ts) ≡ fine) where
+    pub bound-absent : length ts / 3 ≤ i → refused 7 0 ≡ boundAnswer b ws ts i
+    unfolding boundAnswer absentFault
+    bound-absent h =
+        refused-then (tableFault b ws) (groupFault ts) (absentFault ts i) _ e
+        (sym (if-true _ 7 0 (le-leb (length (tasksOf ts)) i (omega (arith, threes-length task ts)))))
+
+    pub bound-given : i < length ts / 3 → given (response (supplied b ws) (b .frame) (tasksOf ts) i) ≡ boundAnswer b ws ts i
+    unfolding boundAnswer absentFault
+    bound-given h =
+        given-then (tableFault b ws) (groupFault ts) (absentFault ts i) _ e
+        (sym (if-false _ 7 0 (lt-leb (length (tasksOf ts)) i (omega (arith, threes-length task ts)))))

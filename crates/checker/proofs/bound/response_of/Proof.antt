@@ -1,0 +1,103 @@
+use borrow.Author.Needs.{needs}
+use Rattle.scope.specs.Windows.{supplied}
+use Rattle.scope.specs.Tasks.{Task, task, tasksOf, taskAt}
+use Rattle.scope.specs.Answers.{Answer.given}
+use Rattle.theory.specs.Lists.{threes-length}
+use Rattle.checker.specs.Told.{boardOf, taskOf}
+use Rattle.checker.proofs.TaskLaws.{read-rule}
+use Rattle.checker.proofs.BoundLaws.{Short, short-first, short-next, bound-found, no-bound-found}
+use native.Mathlib.Omega.{arith}
+use Prim.Native.Nat.{ℕ, _+_, _-_, _*_, _≤_, _<_}
+use lib.ListN.{length as lengthOf}
+use mathlib.Core.Path.{_≡_, sym, ap, _∙_}
+use Rattle.checker.proofs.bound.response_of.Statement.{statement}
+use Rattle.checker.proofs.bound.response_of.Tie as tie
+use Rattle.checker.proofs.bound.response_of.Reads as reads
+use Rattle.checker.proofs.bound.response_of.Lts as lts
+use Rattle.checker.proofs.bound.asked_of.Reads as asked-of-reads
+use Rattle.checker.proofs.supply.least_of.Reads as least-of-reads
+use Rattle.checker.proofs.task.task_at.Reads as task-at-reads
+
+abbrev Inv-loop : tie.InvT-loop
+Inv-loop board windows tasks index deadline length₀ length =
+    (1 ≤ length) × (length ≤ deadline + 1) × Short (supplied (boardOf board) windows) (board .frame) (tasksOf tasks) index length
+
+abbrev μ-loop : tie.MeasureT-loop
+μ-loop board windows tasks index deadline length₀ length = deadline + 1 - length
+
+-- src/bound.rt:48:9
+task-at-requires : tie.Need-task-at-requires Inv-loop μ-loop
+task-at-requires c κs = omega (arith, threes-length task (c .before .before .args .tasks .now))
+
+-- src/bound.rt:51:5
+-- the deadline is the task's, and small
+due : (c : tie.After-task-at Inv-loop μ-loop) → let a = c .before .before .before .args in
+    (c .task-at .result .deadline ≡ (taskAt (tasksOf (a .tasks .now)) (a .index)) .D) × (c .task-at .result .deadline ≤ 1000000)
+due c =
+    let a = c .before .before .before in
+    (
+      ap (λ (x : Task). x .D) (c .task-at .ensures),
+      read-rule (a .args .tasks .now) (a .args .index) _ (a .pre .2) (omega (arith, threes-length task (a .args .tasks .now))) (c .task-at .ensures) .due-most,
+    )
+
+loop-holds : tie.Need-loop-holds Inv-loop μ-loop
+loop-holds c = (omega arith, omega arith, short-first _ _ _ _)
+
+-- src/bound.rt:52:13
+least-of-requires : tie.Need-least-of-requires Inv-loop μ-loop
+least-of-requires c κs =
+    let p = c .before .before .before .before .before .pre in
+    (p .0, p .1, omega (arith, due (c .before .before)))
+
+-- src/bound.rt:53:12
+asked-of-requires : tie.Need-asked-of-requires Inv-loop μ-loop
+asked-of-requires c κs =
+    let p = c .before .before .before .before .before .before .pre in
+    (p .2, p .3, omega (arith, due (c .before .before .before)))
+
+-- src/bound.rt:53:46
+cast-if1 : tie.Need-cast-if1 Inv-loop μ-loop
+cast-if1 c = search needs
+
+-- src/bound.rt:54:13
+returns : tie.Need-returns Inv-loop μ-loop
+returns c =
+    let l = c .before .before .before .before .loop in
+    ap given
+    (bound-found _ _ _ _ (l .length) _ _ _ (l .inv .0) (omega arith) (due (c .before .before .before .before .before) .0)
+    (c .before .before .least-of .ensures) (c .before .asked-of .ensures) (c .if1 .taken) (l .inv .2))
+
+-- src/bound.rt:56:9
+add-length : tie.Need-add-length Inv-loop μ-loop
+add-length c = omega (arith, due (c .before .before .before .before .before))
+
+-- src/bound.rt:51:5
+loop-less : tie.Need-loop-less Inv-loop μ-loop
+loop-less c = search needs
+
+-- src/bound.rt:51:5
+loop-again : tie.Need-loop-again Inv-loop μ-loop
+loop-again c =
+    (omega arith, omega arith, short-next _ _ _ _ _ _ _ (c .before .before .least-of .ensures) (c .before .asked-of .ensures) (c .if1 .left) (c .before .before .before .before .loop .inv .2))
+
+-- src/bound.rt:44:1
+returns-2 : tie.Need-returns-2 Inv-loop μ-loop
+returns-2 c =
+    let l = c .before .loop in ap given (no-bound-found _ _ _ _ (l .length) _ (omega arith) (due (c .before .before) .0) (l .inv .2))
+
+pub response-of-spec : {M : Type 1} → statement M
+response-of-spec =
+    tie.close
+    (tie.spec
+    Inv-loop
+    μ-loop
+    task-at-requires
+    loop-holds
+    least-of-requires
+    asked-of-requires
+    cast-if1
+    returns
+    add-length
+    loop-less
+    loop-again
+    returns-2)

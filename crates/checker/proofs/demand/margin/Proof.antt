@@ -1,0 +1,100 @@
+use mathlib.Core.Path.{_≡_, sym, ap, _∙_}
+use Prim.Native.Nat.{_≤_}
+use Rattle.scope.specs.Answers.{Fault.fine, _orElse_, Answer.given, tableFault, groupFault, lengthFault}
+use Rattle.theory.specs.Answers.{LegalTable, LegalGroup, checked-legal, length-legal}
+use Rattle.checker.specs.Told.{boardOf, faultOf}
+use Rattle.checker.proofs.DemandLaws.{margin-is, margin-refused, margin-late, margin-given}
+use native.Mathlib.Omega.{arith}
+use borrow.Author.Needs.{needs}
+use Rattle.checker.proofs.demand.margin.Statement.{statement}
+use Rattle.checker.proofs.demand.margin.Tie as tie
+use Rattle.checker.proofs.demand.margin.Reads as reads
+use Rattle.checker.proofs.demand.margin.Lts as lts
+use Rattle.checker.proofs.demand.demand_of.Reads as demand-of-reads
+use Rattle.checker.proofs.demand.difference.Reads as difference-reads
+use Rattle.checker.proofs.length.check_length.Reads as check-length-reads
+use Rattle.checker.proofs.supply.least_of.Reads as least-of-reads
+use Rattle.checker.proofs.task.check_group.Reads as check-group-reads
+
+-- src/demand.rt:60:11
+check-group-requires : tie.Need-check-group-requires
+check-group-requires c κs = search needs
+
+-- src/demand.rt:61:22
+enum-known-r : tie.Need-enum-known-r
+enum-known-r c = search needs
+
+-- src/demand.rt:62:32
+enum-told : tie.Need-enum-told
+enum-told c = search needs
+
+-- src/demand.rt:62:32
+check-length-requires : tie.Need-check-length-requires
+check-length-requires c κs = search needs
+
+-- src/demand.rt:63:26
+enum-known-r-2 : tie.Need-enum-known-r-2
+enum-known-r-2 c = search needs
+
+-- src/demand.rt:65:21
+enum-told-2 : tie.Need-enum-told-2
+enum-told-2 c = search needs
+
+-- both checks have passed
+group-fine : (c : tie.After-enum-told) → let a = c .before .before .before .before .before .args in
+    (tableFault (boardOf (a .board)) (a .windows .now) orElse groupFault (a .tasks .now)) ≡ fine
+group-fine c = sym (c .before .before .check-group .ensures) ∙ ap faultOf (c .enum-told .given .1)
+
+length-fine : (c : tie.After-enum-told2) → lengthFault (c .before .before .before .before .before .before .before .before .args .length) ≡ fine
+length-fine c = sym (c .before .before .check-length .ensures) ∙ ap faultOf (c .enum-told2 .given .1)
+
+-- what they say of the table, the group and the length
+known : (c : tie.After-enum-told2) → let a = c .before .before .before .before .before .before .before .before .args in
+    LegalTable (boardOf (a .board)) (a .windows .now) × LegalGroup (a .tasks .now) × (a .length ≤ 1000000)
+known c =
+    let p = checked-legal _ _ _ (group-fine (c .before .before .before)) in (p .0, p .1, length-legal _ (length-fine c))
+
+-- src/demand.rt:65:21
+least-of-requires : tie.Need-least-of-requires
+least-of-requires c κs = let k = known c in (k .0 .frame, k .0 .frame-most, k .2)
+
+-- src/demand.rt:66:21
+demand-of-requires : tie.Need-demand-of-requires
+demand-of-requires c κs = let k = known (c .before) in (k .1, k .2)
+
+-- src/demand.rt:67:28
+difference-requires : tie.Need-difference-requires
+difference-requires c κs = c .demand-of .ensures .1
+
+-- src/demand.rt:57:1
+returns : tie.Need-returns
+returns c = margin-refused _ _ _ _ (sym (c .before .before .before .check-group .ensures) ∙ ap faultOf (c .before .r .given .1))
+
+-- src/demand.rt:57:1
+returns-2 : tie.Need-returns-2
+returns-2 c = margin-late _ _ _ _ (group-fine (c .before .before .before .before)) (sym (c .before .before .before .check-length .ensures) ∙ ap faultOf (c .before .r2 .given .1))
+
+-- src/demand.rt:57:1
+returns-3 : tie.Need-returns-3
+returns-3 c =
+    let s = c .before .before .least-of in
+    let d = c .before .demand-of in
+    let e = margin-is _ _ _ _ (s .result) (d .result) _ (omega arith) (omega (arith, d .ensures .1)) (s .ensures) (d .ensures .0) (c .difference .ensures) in
+    ap given e ∙ margin-given _ _ _ _ (group-fine (c .before .before .before .before .before .before)) (length-fine (c .before .before .before))
+
+pub margin-spec : {M : Type 1} → statement M
+margin-spec =
+    tie.close
+    (tie.spec
+    check-group-requires
+    enum-known-r
+    enum-told
+    check-length-requires
+    enum-known-r-2
+    enum-told-2
+    least-of-requires
+    demand-of-requires
+    difference-requires
+    returns
+    returns-2
+    returns-3)

@@ -1,0 +1,159 @@
+use Rattle.scope.specs.Answers.{Answer.given}
+use mathlib.Core.Logic.{⊎-elim}
+use Rattle.scope.specs.Ticks.{leastSupply, supply as supplyOf}
+use Rattle.scope.specs.Windows.{supplied}
+use Rattle.scope.specs.Tasks.{tasksOf}
+use Rattle.theory.specs.Windows.{supplied-periodic}
+use Rattle.checker.specs.declared.answer.Verdict.the-variants.{Meets, Miss}
+use Rattle.checker.specs.Told.{boardOf, toldVerdict}
+use Rattle.checker.proofs.VerdictLaws.{Carried, carried-first, carried-next, carried-on, search-meets, Above, above-next, not-all-above, search-misses}
+use borrow.Author.Needs.{needs}
+use native.Mathlib.Omega.{arith}
+use Prim.Native.Nat.{ℕ, _+_, _-_, _*_, _≤_, _<_}
+use mathlib.Core.Path.{_≡_, refl, sym, ap, _∙_}
+use Rattle.checker.proofs.verdict.search.Statement.{statement}
+use Rattle.checker.proofs.verdict.search.Tie as tie
+use Rattle.checker.proofs.verdict.search.Reads as reads
+use Rattle.checker.proofs.verdict.search.Lts as lts
+use Rattle.checker.proofs.demand.demand_of.Reads as demand-of-reads
+use Rattle.checker.proofs.supply.least_of.Reads as least-of-reads
+use Rattle.checker.proofs.supply.slid.Reads as slid-reads
+use Rattle.checker.proofs.supply.supply_from.Reads as supply-from-reads
+use Rattle.checker.proofs.verdict.exceeds.Reads as exceeds-reads
+
+abbrev Inv-loop : tie.InvT-loop
+Inv-loop board windows tasks cycle frame found₀ before length demand supply start₀ n₀ found start n =
+    let σ = supplied (boardOf board) windows in
+    (start ≤ board .frame) × (found ≡ Meets cycle) × (n ≡ supplyOf σ start length) × Above σ (board .frame) length start
+
+abbrev μ-loop : tie.MeasureT-loop
+μ-loop board windows tasks cycle frame found₀ before length demand supply start₀ n₀ found start n = board .frame - start
+
+abbrev Inv-search : tie.InvT-search
+Inv-search board windows tasks cycle frame found₀ before₀ length₀ found before length =
+    let σ = supplied (boardOf board) windows in
+    (1 ≤ length) × (length ≤ cycle + 1) × (found ≡ Meets cycle) × (before ≤ leastSupply σ (board .frame) length)
+    × Carried σ (board .frame) (tasksOf tasks) length
+
+abbrev μ-search : tie.MeasureT-search
+μ-search board windows tasks cycle frame found₀ before₀ length₀ found before length = cycle + 1 - length
+
+-- src/verdict.rt:44:5
+search-holds : tie.Need-search-holds Inv-loop μ-loop Inv-search μ-search
+search-holds c =
+    let a = c .before .before in
+    (omega arith, omega arith, refl, omega arith, carried-first _ _ (supplied-periodic (boardOf (a .args .board)) (a .args .windows .now) (a .pre .0)) _ (a .pre .2 .rules))
+
+-- src/verdict.rt:45:13
+demand-of-requires : tie.Need-demand-of-requires Inv-loop μ-loop Inv-search μ-search
+demand-of-requires c κs = search needs
+
+-- src/verdict.rt:46:12
+exceeds-requires : tie.Need-exceeds-requires Inv-loop μ-loop Inv-search μ-search
+exceeds-requires c κs =
+    let p = c .before .before .before .before .before .pre in
+    (p .0, p .1, omega arith, c .before .before .search .inv .3)
+
+-- src/verdict.rt:47:17
+least-of-requires : tie.Need-least-of-requires Inv-loop μ-loop Inv-search μ-search
+least-of-requires c κs = search needs
+
+-- src/verdict.rt:49:17
+supply-from-requires : tie.Need-supply-from-requires Inv-loop μ-loop Inv-search μ-search
+supply-from-requires c κs = search needs
+
+-- src/verdict.rt:50:13
+loop-holds : tie.Need-loop-holds Inv-loop μ-loop Inv-search μ-search
+loop-holds c =
+    (omega arith, c .before .before .before .before .before .before .search .inv .2, c .supply-from .ensures, λ r l. absurd (omega arith))
+
+-- src/verdict.rt:60:17
+slid-requires : tie.Need-slid-requires Inv-loop μ-loop Inv-search μ-search
+slid-requires c κs =
+    (c .before .before .before .before .before .before .before .before .before .before .before .before .pre .0, omega arith, c .before .before .loop .inv .2)
+
+-- src/verdict.rt:61:17
+add-start : tie.Need-add-start Inv-loop μ-loop Inv-search μ-search
+add-start c = search needs
+
+-- src/verdict.rt:50:13
+loop-less : tie.Need-loop-less Inv-loop μ-loop Inv-search μ-search
+loop-less c = search needs
+
+-- src/verdict.rt:50:13
+loop-again : tie.Need-loop-again Inv-loop μ-loop Inv-search μ-search
+loop-again c =
+    let d = c .before .before .before in
+    let a = d .before .before .before .before .before .before .before .before .before .before in
+    let per = supplied-periodic (boardOf (a .args .board)) (a .args .windows .now) (a .pre .0) in
+    (
+      omega arith,
+      d .loop .inv .1,
+      c .slid .ensures,
+      above-next _ _ per (tasksOf (a .args .tasks .now)) _ _ _ _ (d .before .before .least-of .ensures) (d .loop .inv .2) (c .before .if2 .left) (d .loop .inv .3),
+    )
+
+-- src/verdict.rt:65:9
+add-length : tie.Need-add-length Inv-loop μ-loop Inv-search μ-search
+add-length c = search needs
+
+-- src/verdict.rt:44:5
+search-less : tie.Need-search-less Inv-loop μ-loop Inv-search μ-search
+search-less c = search needs
+
+-- src/verdict.rt:44:5
+search-again : tie.Need-search-again Inv-loop μ-loop Inv-search μ-search
+search-again c =
+    let a = c .before .before .before .before .before .before .before in
+    let per = supplied-periodic (boardOf (a .args .board)) (a .args .windows .now) (a .pre .0) in
+    let l = c .before .before .before .before .search in
+    let e = c .before .before .demand-of .ensures .0 in
+    ⊎-elim (λ w. absurd (not-all-above _ _ per (tasksOf (a .args .tasks .now)) _ _ (w .4 .left) (w .3 .inv .3)))
+    (λ w.
+    let fits = sym (c .before .exceeds .ensures) ∙ w .0 .left in
+    (omega arith, omega arith, w .1 ∙ l .inv .2, carried-on _ _ per _ _ _ e fits, carried-next _ _ per _ _ _ e fits (l .inv .4)))
+    (c .if1 .came)
+
+-- src/verdict.rt:36:1
+returns : tie.Need-returns Inv-loop μ-loop Inv-search μ-search
+returns c =
+    let a = c .before .before .before .before in
+    let per = supplied-periodic (boardOf (a .args .board)) (a .args .windows .now) (a .pre .0) in
+    let l = c .before .search in
+    ap toldVerdict (l .inv .2) ∙ ap given (search-meets _ _ per _ _ (l .length) (omega arith) (l .inv .4))
+
+-- src/verdict.rt:36:1
+returns-2 : tie.Need-returns-2 Inv-loop μ-loop Inv-search μ-search
+returns-2 c =
+    let d = c .before .before in
+    let s = d .before .before .before .before .before .before .before in
+    let a = s .before .before .before in
+    let per = supplied-periodic (boardOf (a .args .board)) (a .args .windows .now) (a .pre .0) in
+    ap given
+    (search-misses _ _ per _ _ _ _ _ _ _ (omega arith) (s .search .inv .4) (d .before .before .before .before .before .demand-of .ensures .0)
+    (d .before .before .least-of .ensures) (sym (d .before .before .before .before .exceeds .ensures) ∙ d .before .before .before .if1 .taken)
+    (d .loop .inv .2) (c .if2 .taken) (d .loop .inv .3))
+
+pub search-spec : {M : Type 1} → statement M
+search-spec =
+    tie.close
+    (tie.spec
+    Inv-loop
+    μ-loop
+    Inv-search
+    μ-search
+    search-holds
+    demand-of-requires
+    exceeds-requires
+    least-of-requires
+    supply-from-requires
+    loop-holds
+    slid-requires
+    add-start
+    loop-less
+    loop-again
+    add-length
+    search-less
+    search-again
+    returns
+    returns-2)

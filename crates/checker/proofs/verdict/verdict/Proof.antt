@@ -1,0 +1,97 @@
+use Rattle.checker.proofs.VerdictLaws.{verdict-refused, verdict-over, verdict-given}
+use Rattle.checker.proofs.CycleLaws.{was-over, was-found}
+use Rattle.checker.specs.Told.{boardOf, faultOf}
+use Rattle.theory.specs.Answers.{checked-legal}
+use Rattle.scope.specs.Ticks.{leastSupply}
+use Rattle.scope.specs.Windows.{supplied}
+use Rattle.scope.specs.Tasks.{tasksOf}
+use Rattle.scope.specs.Cycle.{cycle}
+use Rattle.scope.specs.Verdict.{verdict}
+use Rattle.scope.specs.Answers.{Fault.fine, Answer.given, _orElse_, tableFault, groupFault}
+use mathlib.Core.Path.{sym, ap, _∙_}
+use native.Mathlib.Omega.{arith}
+use Prim.Native.Nat.{ℕ, _+_, _-_, _*_, _≤_, _<_}
+use lib.ListN.{length}
+use mathlib.Core.Path.{_≡_}
+use borrow.Author.Needs.{needs}
+use Rattle.checker.proofs.verdict.verdict.Statement.{statement}
+use Rattle.checker.proofs.verdict.verdict.Tie as tie
+use Rattle.checker.proofs.verdict.verdict.Reads as reads
+use Rattle.checker.proofs.verdict.verdict.Lts as lts
+use Rattle.checker.proofs.cycle.cycle_of.Reads as cycle-of-reads
+use Rattle.checker.proofs.task.check_group.Reads as check-group-reads
+use Rattle.checker.proofs.verdict.search.Reads as search-reads
+
+-- src/verdict.rt:74:11
+check-group-requires : tie.Need-check-group-requires
+check-group-requires c κs = search needs
+
+-- src/verdict.rt:75:22
+enum-known-r : tie.Need-enum-known-r
+enum-known-r c = search needs
+
+-- src/verdict.rt:76:32
+enum-told : tie.Need-enum-told
+enum-told c = search needs
+
+-- src/verdict.rt:76:32
+-- both checks have passed
+group-fine : (c : tie.After-enum-told) → let a = c .before .before .before .before .before .args in
+    (tableFault (boardOf (a .board)) (a .windows .now) orElse groupFault (a .tasks .now)) ≡ fine
+group-fine c = sym (c .before .before .check-group .ensures) ∙ ap faultOf (c .enum-told .given .1)
+
+-- and the cycle is within its limit
+cycle-fine : (c : tie.After-known-told2) → let a = c .before .before .before .before .before .before .before .before .before .args in
+    (cycle (a .board .frame) (tasksOf (a .tasks .now)) ≡ c .before .cycle .given .0 .0) × (cycle (a .board .frame) (tasksOf (a .tasks .now)) ≤ 1000000)
+cycle-fine c = was-found _ _ (sym (c .before .before .before .cycle-of .ensures) ∙ c .before .cycle .given .1)
+
+cycle-of-requires : tie.Need-cycle-of-requires
+cycle-of-requires c κs = let k = checked-legal _ _ _ (group-fine c) in (k .0 .frame, k .0 .frame-most, k .1)
+
+-- src/verdict.rt:77:45
+enum-told-2 : tie.Need-enum-told-2
+enum-told-2 c = search needs
+
+-- src/verdict.rt:78:23
+enum-known-cycle : tie.Need-enum-known-cycle
+enum-known-cycle c = search needs
+
+-- src/verdict.rt:78:33
+search-requires : tie.Need-search-requires
+search-requires c κs =
+    let k = checked-legal _ _ _ (group-fine (c .before .before .before .before)) in
+    let h = cycle-fine c in
+    (k .0 .frame, k .0 .frame-most, k .1, omega (arith, h))
+
+-- src/verdict.rt:71:1
+returns : tie.Need-returns
+returns c = verdict-refused _ _ _ (sym (c .before .before .before .check-group .ensures) ∙ ap faultOf (c .before .r .given .1))
+
+-- src/verdict.rt:71:1
+returns-2 : tie.Need-returns-2
+returns-2 c =
+    verdict-over _ _ _ (group-fine (c .before .before .before)) (was-over _ (sym (c .before .before .cycle-of .ensures) ∙ c .enum-told2 .given .1))
+
+-- src/verdict.rt:71:1
+returns-3 : tie.Need-returns-3
+returns-3 c =
+    let d = c .before in
+    let h = cycle-fine d in
+    let a = d .before .before .before .before .before .before .before .before .before .args in
+    c .search .ensures ∙ ap (λ (n : ℕ). given (verdict (supplied (boardOf (a .board)) (a .windows .now)) (a .board .frame) (tasksOf (a .tasks .now)) n)) (sym (h .0))
+    ∙ verdict-given _ _ _ (group-fine (d .before .before .before .before)) (h .1)
+
+pub verdict-spec : {M : Type 1} → statement M
+verdict-spec =
+    tie.close
+    (tie.spec
+    check-group-requires
+    enum-known-r
+    enum-told
+    cycle-of-requires
+    enum-told-2
+    enum-known-cycle
+    search-requires
+    returns
+    returns-2
+    returns-3)
