@@ -1,9 +1,8 @@
 -- Two answers of which the promises say the same are equal: each definition of Told tells all cases apart, for it can be undone
 use Prim.Native.Nat.{ℕ}
 use mathlib.Core.Path.{_≡_, refl, sym, ap, _∙_}
-use mathlib.Core.Bool.{Bool, cond}
+use mathlib.Core.Bool.{cond}
 use lib.Dec.{eqb}
-use lib.IntN.{ℤ}
 use Rattle.scope.specs.Windows as Windows
 use Rattle.scope.specs.Tasks as Tasks
 use Rattle.scope.specs.Verdict as Verdicts

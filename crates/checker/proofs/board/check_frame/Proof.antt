@@ -1,10 +1,5 @@
 use Rattle.scope.specs.Answers.{frameFault}
 use borrow.Author.Tests.{eq-eqb, ne-eqb, lt-ltb, le-ltb}
-use borrow.Author.Needs.{needs}
-use native.Mathlib.Omega.{arith}
-use Prim.Native.Nat.{ℕ, _+_, _-_, _*_, _≤_, _<_}
-use lib.ListN.{length}
-use mathlib.Core.Path.{_≡_}
 use Rattle.checker.proofs.board.check_frame.Statement.{statement}
 use Rattle.checker.proofs.board.check_frame.Tie as tie
 use Rattle.checker.proofs.board.check_frame.Reads as reads

@@ -6,9 +6,8 @@ use Rattle.checker.specs.Told.{taskOf}
 use Rattle.checker.proofs.TaskLaws.{read-rule}
 use Rattle.checker.proofs.BoundLaws.{askedBy, askedTo, askedTo-none, askedTo-next, askedTo-whole, asked-most, askedTo-most}
 use native.Mathlib.Omega.{arith}
-use Prim.Native.Nat.{ℕ, _+_, _-_, _*_, _≤_, _<_}
-use lib.ListN.{length as lengthOf}
-use mathlib.Core.Path.{_≡_, sym, ap, ap₂, _∙_}
+use Prim.Native.Nat.{ℕ, _+_, _-_, _*_, _≤_}
+use mathlib.Core.Path.{_≡_, sym, ap, _∙_}
 use Rattle.checker.proofs.bound.asked_of.Statement.{statement}
 use Rattle.checker.proofs.bound.asked_of.Tie as tie
 use Rattle.checker.proofs.bound.asked_of.Reads as reads
@@ -56,8 +55,7 @@ term c =
     let ts = a .args .tasks .now in
     let t = a .args .length in
     let e : c .before .rounded-up .result * r .result .work ≡ askedBy t (taskOf (r .result)) = ap (λ (n : ℕ). n * r .result .work) (c .before .rounded-up .ensures) in
-    let f : askedBy t (taskOf (r .result)) ≡ askedBy t (taskAt (tasksOf ts) (l .j)) = ap (askedBy t) (r .ensures) in
-    (
+    let f : askedBy t (taskOf (r .result)) ≡ askedBy t (taskAt (tasksOf ts) (l .j)) = ap (askedBy t) (r .ensures) in (
       omega (arith, e, asked-most (taskOf (r .result)) t (rule (c .before .before)) (a .pre .2)),
       omega (arith, l .inv .1, askedTo-most ts (a .args .index) t (l .j) (a .pre .0) (a .pre .2) (omega (arith, threes-length task ts)) (omega (arith, threes-length task ts))),
       omega (arith, l .inv .1, askedTo-next (tasksOf ts) (a .args .index) t (l .j), e, f),

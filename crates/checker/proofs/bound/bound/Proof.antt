@@ -6,8 +6,6 @@ use Rattle.scope.specs.Answers.{Fault.fine, _orElse_, tableFault, groupFault}
 use Rattle.scope.specs.Tasks.{task}
 use mathlib.Core.Path.{sym, ap, _∙_}
 use native.Mathlib.Omega.{arith}
-use Prim.Native.Nat.{ℕ, _+_, _-_, _*_, _≤_, _<_}
-use lib.ListN.{length}
 use mathlib.Core.Path.{_≡_}
 use borrow.Author.Needs.{needs}
 use Rattle.checker.proofs.bound.bound.Statement.{statement}

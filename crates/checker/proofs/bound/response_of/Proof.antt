@@ -3,13 +3,12 @@ use Rattle.scope.specs.Windows.{supplied}
 use Rattle.scope.specs.Tasks.{Task, task, tasksOf, taskAt}
 use Rattle.scope.specs.Answers.{Answer.given}
 use Rattle.theory.specs.Lists.{threes-length}
-use Rattle.checker.specs.Told.{boardOf, taskOf}
+use Rattle.checker.specs.Told.{boardOf}
 use Rattle.checker.proofs.TaskLaws.{read-rule}
 use Rattle.checker.proofs.BoundLaws.{Short, short-first, short-next, bound-found, no-bound-found}
 use native.Mathlib.Omega.{arith}
-use Prim.Native.Nat.{ℕ, _+_, _-_, _*_, _≤_, _<_}
-use lib.ListN.{length as lengthOf}
-use mathlib.Core.Path.{_≡_, sym, ap, _∙_}
+use Prim.Native.Nat.{_+_, _-_, _≤_}
+use mathlib.Core.Path.{_≡_, ap}
 use Rattle.checker.proofs.bound.response_of.Statement.{statement}
 use Rattle.checker.proofs.bound.response_of.Tie as tie
 use Rattle.checker.proofs.bound.response_of.Reads as reads
@@ -34,8 +33,7 @@ task-at-requires c κs = omega (arith, threes-length task (c .before .before .ar
 due : (c : tie.After-task-at Inv-loop μ-loop) → let a = c .before .before .before .args in
     (c .task-at .result .deadline ≡ (taskAt (tasksOf (a .tasks .now)) (a .index)) .D) × (c .task-at .result .deadline ≤ 1000000)
 due c =
-    let a = c .before .before .before in
-    (
+    let a = c .before .before .before in (
       ap (λ (x : Task). x .D) (c .task-at .ensures),
       read-rule (a .args .tasks .now) (a .args .index) _ (a .pre .2) (omega (arith, threes-length task (a .args .tasks .now))) (c .task-at .ensures) .due-most,
     )

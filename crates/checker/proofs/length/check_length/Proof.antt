@@ -1,10 +1,5 @@
 use Rattle.scope.specs.Answers.{lengthFault}
 use borrow.Author.Tests.{lt-ltb, le-ltb}
-use borrow.Author.Needs.{needs}
-use native.Mathlib.Omega.{arith}
-use Prim.Native.Nat.{ℕ, _+_, _-_, _*_, _≤_, _<_}
-use lib.ListN.{length}
-use mathlib.Core.Path.{_≡_}
 use Rattle.checker.proofs.length.check_length.Statement.{statement}
 use Rattle.checker.proofs.length.check_length.Tie as tie
 use Rattle.checker.proofs.length.check_length.Reads as reads

@@ -4,7 +4,6 @@ use Rattle.scope.specs.Answers.{Fault.fine, Answer.given, tableFault, lengthFau
 use Rattle.theory.specs.Answers.{table-legal, length-legal}
 use Rattle.checker.specs.Told.{boardOf, faultOf}
 use Rattle.checker.proofs.FaultLaws.{or-fault, or-fine, refused-by, given-by}
-
 use borrow.Author.Needs.{needs}
 use Rattle.checker.proofs.supply.least_supply.Statement.{statement}
 use Rattle.checker.proofs.supply.least_supply.Tie as tie

@@ -3,11 +3,10 @@ use Rattle.scope.specs.Windows.{supplied}
 use lib.Dec.{ltb}
 use Rattle.scope.specs.Ticks.{leastSupply}
 use borrow.Author.Tests.{le-ltb}
-use mathlib.Core.Path.{_≡_, sym, ap, _∙_}
+use mathlib.Core.Path.{sym, ap}
 use native.Mathlib.Omega.{arith}
-use Prim.Native.Nat.{ℕ, _+_, _-_, _*_, _≤_, _<_}
+use Prim.Native.Nat.{ℕ}
 use lib.ListN.{length}
-use mathlib.Core.Path.{_≡_}
 use borrow.Author.Needs.{needs}
 use Rattle.checker.proofs.verdict.exceeds.Statement.{statement}
 use Rattle.checker.proofs.verdict.exceeds.Tie as tie

@@ -4,12 +4,12 @@ use Rattle.scope.specs.Ticks.{leastSupply, supply as supplyOf}
 use Rattle.scope.specs.Windows.{supplied}
 use Rattle.scope.specs.Tasks.{tasksOf}
 use Rattle.theory.specs.Windows.{supplied-periodic}
-use Rattle.checker.specs.declared.answer.Verdict.the-variants.{Meets, Miss}
+use Rattle.checker.specs.declared.answer.Verdict.the-variants.{Meets}
 use Rattle.checker.specs.Told.{boardOf, toldVerdict}
 use Rattle.checker.proofs.VerdictLaws.{Carried, carried-first, carried-next, carried-on, search-meets, Above, above-next, not-all-above, search-misses}
 use borrow.Author.Needs.{needs}
 use native.Mathlib.Omega.{arith}
-use Prim.Native.Nat.{ℕ, _+_, _-_, _*_, _≤_, _<_}
+use Prim.Native.Nat.{_+_, _-_, _≤_}
 use mathlib.Core.Path.{_≡_, refl, sym, ap, _∙_}
 use Rattle.checker.proofs.verdict.search.Statement.{statement}
 use Rattle.checker.proofs.verdict.search.Tie as tie
@@ -85,8 +85,7 @@ loop-again : tie.Need-loop-again Inv-loop μ-loop Inv-search μ-search
 loop-again c =
     let d = c .before .before .before in
     let a = d .before .before .before .before .before .before .before .before .before .before in
-    let per = supplied-periodic (boardOf (a .args .board)) (a .args .windows .now) (a .pre .0) in
-    (
+    let per = supplied-periodic (boardOf (a .args .board)) (a .args .windows .now) (a .pre .0) in (
       omega arith,
       d .loop .inv .1,
       c .slid .ensures,

@@ -2,7 +2,6 @@ use Rattle.checker.proofs.VerdictLaws.{verdict-refused, verdict-over, v
 use Rattle.checker.proofs.CycleLaws.{was-over, was-found}
 use Rattle.checker.specs.Told.{boardOf, faultOf}
 use Rattle.theory.specs.Answers.{checked-legal}
-use Rattle.scope.specs.Ticks.{leastSupply}
 use Rattle.scope.specs.Windows.{supplied}
 use Rattle.scope.specs.Tasks.{tasksOf}
 use Rattle.scope.specs.Cycle.{cycle}
@@ -10,8 +9,7 @@ use Rattle.scope.specs.Verdict.{verdict}
 use Rattle.scope.specs.Answers.{Fault.fine, Answer.given, _orElse_, tableFault, groupFault}
 use mathlib.Core.Path.{sym, ap, _∙_}
 use native.Mathlib.Omega.{arith}
-use Prim.Native.Nat.{ℕ, _+_, _-_, _*_, _≤_, _<_}
-use lib.ListN.{length}
+use Prim.Native.Nat.{ℕ, _≤_}
 use mathlib.Core.Path.{_≡_}
 use borrow.Author.Needs.{needs}
 use Rattle.checker.proofs.verdict.verdict.Statement.{statement}

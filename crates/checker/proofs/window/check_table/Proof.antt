@@ -1,12 +1,9 @@
 use Rattle.theory.specs.Answers.{window-list-legal}
 use Rattle.checker.proofs.FaultLaws.{or-fault, or-fine}
 use Rattle.checker.specs.Told.{faultOf}
-use Rattle.scope.specs.Answers.{tableFault, windowListFault, Fault.fine}
+use Rattle.scope.specs.Answers.{tableFault}
 use mathlib.Core.Path.{sym, ap, _∙_}
 use native.Mathlib.Omega.{arith}
-use Prim.Native.Nat.{ℕ, _+_, _-_, _*_, _≤_, _<_}
-use lib.ListN.{length}
-use mathlib.Core.Path.{_≡_}
 use borrow.Author.Needs.{needs}
 use Rattle.checker.proofs.window.check_table.Statement.{statement}
 use Rattle.checker.proofs.window.check_table.Tie as tie

@@ -1,9 +1,7 @@
 use Rattle.scope.specs.Answers.{windowListFault}
 use borrow.Author.Tests.{eq-eqb, ne-eqb, lt-ltb, le-ltb}
-use native.Mathlib.Omega.{arith}
-use Prim.Native.Nat.{ℕ, _+_, _-_, _*_, _%_, _≤_, _<_}
+use Prim.Native.Nat.{_%_}
 use lib.ListN.{length}
-use mathlib.Core.Path.{_≡_}
 use borrow.Author.Needs.{needs}
 use Rattle.checker.proofs.window.check_window_list.Statement.{statement}
 use Rattle.checker.proofs.window.check_window_list.Tie as tie

@@ -6,10 +6,10 @@ use Rattle.scope.specs.Windows.{window, windowsOf, windowLegal, badWindow}
 use borrow.Author.Count.{below-none, below-more}
 use borrow.Author.Tests.{not-true, not-false}
 use mathlib.Core.Bool.{true}
-use mathlib.Core.Path.{_≡_, refl, sym, ap, _∙_}
+use mathlib.Core.Path.{_≡_, refl, sym, _∙_}
 use borrow.Author.Needs.{needs}
 use native.Mathlib.Omega.{arith}
-use Prim.Native.Nat.{ℕ, _+_, _-_, _*_, _/_, _≤_, _<_}
+use Prim.Native.Nat.{ℕ, _-_, _/_, _≤_, _<_}
 use lib.ListN.{length}
 use Rattle.checker.proofs.window.check_windows.Statement.{statement}
 use Rattle.checker.proofs.window.check_windows.Tie as tie

@@ -1,9 +1,6 @@
 use Rattle.theory.specs.Lists.{twos-at}
 use Rattle.scope.specs.Windows.{window}
-use mathlib.Core.Path.{_≡_, sym}
-use native.Mathlib.Omega.{arith}
-use Prim.Native.Nat.{ℕ, _+_, _-_, _*_, _≤_, _<_}
-use lib.ListN.{length}
+use mathlib.Core.Path.{sym}
 use borrow.Author.Needs.{needs}
 use Rattle.checker.proofs.window.window_at.Statement.{statement}
 use Rattle.checker.proofs.window.window_at.Tie as tie

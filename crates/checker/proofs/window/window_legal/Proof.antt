@@ -1,12 +1,8 @@
 use Rattle.checker.proofs.WindowLaws.{misfit, first-window, next-window}
-use Rattle.checker.specs.Told.{boardOf}
 use Rattle.scope.specs.Windows.{Window, windowFits}
 use lib.Dec.{ltb}
 use borrow.Author.Tests.{not-true, not-false}
 use mathlib.Core.Path.{sym, ap, ap₂, _∙_}
-use native.Mathlib.Omega.{arith}
-use Prim.Native.Nat.{ℕ, _+_, _-_, _*_, _≤_, _<_}
-use lib.ListN.{length}
 use borrow.Author.Needs.{needs}
 use Rattle.checker.proofs.window.window_legal.Statement.{statement}
 use Rattle.checker.proofs.window.window_legal.Tie as tie

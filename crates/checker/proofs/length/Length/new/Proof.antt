@@ -1,10 +1,7 @@
 use Rattle.checker.proofs.FaultLaws.{refused-by, given-by}
 use Rattle.checker.specs.Told.{faultOf}
 use Rattle.scope.specs.Answers.{lengthAnswer}
-use mathlib.Core.Path.{_≡_, sym, ap, _∙_}
-use native.Mathlib.Omega.{arith}
-use Prim.Native.Nat.{ℕ, _+_, _-_, _*_, _≤_, _<_}
-use lib.ListN.{length}
+use mathlib.Core.Path.{sym, ap, _∙_}
 use borrow.Author.Needs.{needs}
 use Rattle.checker.proofs.length.Length.new.Statement.{statement}
 use Rattle.checker.proofs.length.Length.new.Tie as tie

@@ -1,9 +1,4 @@
 use borrow.Author.Tests.{lt-ltb, le-ltb}
-use borrow.Author.Needs.{needs}
-use native.Mathlib.Omega.{arith}
-use Prim.Native.Nat.{ℕ, _+_, _-_, _*_, _≤_, _<_}
-use lib.ListN.{length}
-use mathlib.Core.Path.{_≡_}
 use Rattle.checker.proofs.window.Window.fits.Statement.{statement}
 use Rattle.checker.proofs.window.Window.fits.Tie as tie
 use Rattle.checker.proofs.window.Window.fits.Reads as reads

@@ -1,9 +1,6 @@
 use Rattle.checker.proofs.WindowLaws.{window-alone}
 use mathlib.Core.Bool.{true, false}
 use mathlib.Core.Path.{sym, _∙_}
-use native.Mathlib.Omega.{arith}
-use Prim.Native.Nat.{ℕ, _+_, _-_, _*_, _≤_, _<_}
-use lib.ListN.{length}
 use borrow.Author.Needs.{needs}
 use Rattle.checker.proofs.window.Window.new.Statement.{statement}
 use Rattle.checker.proofs.window.Window.new.Tie as tie
