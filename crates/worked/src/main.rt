@@ -1,12 +1,6 @@
 // Document 01's worked examples, limits and errors, run over the checker's code: one line an answer. `stdout` was worked out by hand and by a
 // second reading of document 01, never taken from this program.
-use checker::answer::Amount;
-use checker::answer::Bound;
-use checker::answer::Delay;
-use checker::answer::Margin;
-use checker::answer::Refusal;
 use checker::answer::Supplied;
-use checker::answer::Verdict;
 use checker::board::Board;
 use checker::board::MadeBoard;
 use checker::length::Length;
@@ -15,177 +9,116 @@ use checker::task::MadeTask;
 use checker::task::Task;
 use checker::window::MadeWindow;
 use checker::window::Window;
-use libc::STDOUT_FILENO;
 
-fn word(text: &[u8]) {
-    io::write_all(STDOUT_FILENO, text);
-}
-
-// A word, a number.
-fn part(text: &[u8], n: u64) {
-    word(text);
-    io::print_decimal(STDOUT_FILENO, n);
-}
-
-fn refused(r: Refusal) {
-    match r {
-        Refusal::WindowList => word(b"REFUSED 1 at 0"),
-        Refusal::Frame => word(b"REFUSED 2 at 0"),
-        Refusal::Window(i) => part(b"REFUSED 3 at ", i as u64),
-        Refusal::TaskList => word(b"REFUSED 4 at 0"),
-        Refusal::Task(i) => part(b"REFUSED 5 at ", i as u64),
-        Refusal::Cycle => word(b"REFUSED 6 at 0"),
-        Refusal::Asked => word(b"REFUSED 7 at 0"),
-        Refusal::Room(n) => part(b"REFUSED 8 at ", n as u64),
-    }
-}
-
-fn amount(a: Amount) {
-    match a {
-        Amount::Of(n) => part(b"AMOUNT ", n),
-        Amount::Refused(r) => refused(r),
-    }
-    word(b"\n");
+fn end() {
+    lines::word(b"\n");
 }
 
 fn supplied(frame: u32, windows: &[u32], tick: u32) {
     match checker::supply::supplied(Board { frame }, windows, tick) {
         Supplied::Is(on) => {
             if on {
-                word(b"SUPPLIED");
+                lines::word(b"SUPPLIED");
             } else {
-                word(b"UNSUPPLIED");
+                lines::word(b"UNSUPPLIED");
             }
         }
-        Supplied::Refused(r) => refused(r),
+        Supplied::Refused(r) => lines::refused(r),
     }
-    word(b"\n");
+    end();
 }
 
 fn least(frame: u32, windows: &[u32], length: u32) {
-    amount(checker::supply::least_supply(Board { frame }, windows, length));
-}
-
-fn numbers(text: &[u8], out: &[u32]) {
-    word(text);
-    let mut i = 0;
-    while i < out.len() {
-        let n = out[i];
-        part(b" ", n as u64);
-        i += 1;
-    }
-    word(b"\n");
+    lines::amount(
+        b"AMOUNT ",
+        checker::supply::least_supply(Board { frame }, windows, length),
+    );
+    end();
 }
 
 fn critical(frame: u32, windows: &[u32], out: &mut [u32]) {
-    match checker::partition::critical(Board { frame }, windows, out) {
-        Amount::Of(n) => part(b"WINDOWS ", n),
-        Amount::Refused(r) => refused(r),
-    }
+    lines::amount(
+        b"WINDOWS ",
+        checker::partition::critical(Board { frame }, windows, out),
+    );
+}
+
+fn buffer(out: &[u32]) {
+    lines::word(b" BUFFER");
+    lines::numbers(out);
+    end();
 }
 
 fn delay(frame: u32, windows: &[u32]) {
-    match checker::partition::delay(Board { frame }, windows) {
-        Delay::Of { delay, per_frame } => {
-            part(b"DELAY ", delay);
-            part(b" of ", per_frame as u64);
-        }
-        Delay::Refused(r) => refused(r),
-    }
-    word(b"\n");
+    lines::delay(checker::partition::delay(Board { frame }, windows));
+    end();
 }
 
 fn outage(frame: u32, windows: &[u32]) {
-    amount(checker::partition::outage(Board { frame }, windows));
+    lines::amount(
+        b"OUTAGE ",
+        checker::partition::outage(Board { frame }, windows),
+    );
+    end();
 }
 
 fn demand(tasks: &[u32], length: u32) {
-    amount(checker::demand::demand(tasks, length));
-}
-
-// -(m + 1) is not negative, whatever the negative m.
-fn signed(m: i64) {
-    if m < 0 {
-        let below = 0 - (m + 1);
-        part(b"MARGIN -", below as u64 + 1);
-    } else {
-        part(b"MARGIN ", m as u64);
-    }
+    lines::amount(b"DEMAND ", checker::demand::demand(tasks, length));
+    end();
 }
 
 fn margin(frame: u32, windows: &[u32], tasks: &[u32], length: u32) {
-    match checker::demand::margin(Board { frame }, windows, tasks, length) {
-        Margin::Of(m) => signed(m),
-        Margin::Refused(r) => refused(r),
-    }
-    word(b"\n");
+    lines::margin(checker::demand::margin(Board { frame }, windows, tasks, length));
+    end();
 }
 
 fn verdict(frame: u32, windows: &[u32], tasks: &[u32]) {
-    match checker::verdict::verdict(Board { frame }, windows, tasks) {
-        Verdict::Meets { cycle } => part(b"MEETS cycle ", cycle as u64),
-        Verdict::Miss {
-            length,
-            start,
-            demand,
-            supply,
-        } => {
-            part(b"MISS length ", length as u64);
-            part(b" start ", start as u64);
-            part(b" demand ", demand);
-            part(b" supply ", supply as u64);
-        }
-        Verdict::Refused(r) => refused(r),
-    }
-    word(b"\n");
+    lines::verdict(checker::verdict::verdict(Board { frame }, windows, tasks));
+    end();
 }
 
 fn bound(frame: u32, windows: &[u32], tasks: &[u32], index: u32) {
-    match checker::bound::bound(Board { frame }, windows, tasks, index) {
-        Bound::Of(t) => part(b"BOUND ", t as u64),
-        Bound::NoBound => word(b"NO BOUND"),
-        Bound::Refused(r) => refused(r),
-    }
-    word(b"\n");
+    lines::bound(checker::bound::bound(Board { frame }, windows, tasks, index));
+    end();
 }
 
 fn new_board(frame: u32) {
     match Board::new(frame) {
-        MadeBoard::Is(b) => part(b"BOARD ", b.frame as u64),
-        MadeBoard::Refused(r) => refused(r),
+        MadeBoard::Is(b) => lines::part(b"BOARD ", b.frame as u64),
+        MadeBoard::Refused(r) => lines::refused(r),
     }
-    word(b"\n");
+    end();
 }
 
-fn new_window(frame: u32, start: u32, end: u32) {
-    match Window::new(Board { frame }, start, end) {
+fn new_window(frame: u32, start: u32, to: u32) {
+    match Window::new(Board { frame }, start, to) {
         MadeWindow::Is(w) => {
-            part(b"WINDOW ", w.start as u64);
-            part(b" ", w.end as u64);
+            lines::part(b"WINDOW ", w.start as u64);
+            lines::part(b" ", w.end as u64);
         }
-        MadeWindow::Refused(r) => refused(r),
+        MadeWindow::Refused(r) => lines::refused(r),
     }
-    word(b"\n");
+    end();
 }
 
 fn new_task(work: u32, period: u32, deadline: u32) {
     match Task::new(work, period, deadline) {
         MadeTask::Is(t) => {
-            part(b"TASK ", t.work as u64);
-            part(b" ", t.period as u64);
-            part(b" ", t.deadline as u64);
+            lines::part(b"TASK ", t.work as u64);
+            lines::part(b" ", t.period as u64);
+            lines::part(b" ", t.deadline as u64);
         }
-        MadeTask::Refused(r) => refused(r),
+        MadeTask::Refused(r) => lines::refused(r),
     }
-    word(b"\n");
+    end();
 }
 
 fn new_length(ticks: u32) {
     match Length::new(ticks) {
-        MadeLength::Is(t) => part(b"LENGTH ", t.ticks as u64),
-        MadeLength::Refused(r) => refused(r),
+        MadeLength::Is(t) => lines::part(b"LENGTH ", t.ticks as u64),
+        MadeLength::Refused(r) => lines::refused(r),
     }
-    word(b"\n");
+    end();
 }
 
 fn w1(x: &[u32]) {
@@ -204,10 +137,10 @@ fn w1(x: &[u32]) {
 fn w2(x: &[u32]) {
     let mut out: [u32; 5] = [7; 5];
     critical(8, x, &mut out);
-    numbers(b" BUFFER", &out);
+    buffer(&out);
     let mut short: [u32; 3] = [7; 3];
     critical(8, x, &mut short);
-    numbers(b" BUFFER", &short);
+    buffer(&short);
 }
 
 fn w4_to_w10(x: &[u32]) {
@@ -253,7 +186,7 @@ fn errors_seen(x: &[u32]) {
 fn ten_ticks() {
     let mut out: [u32; 9] = [7; 9];
     critical(10, &[0, 2, 4, 6, 7, 8], &mut out);
-    numbers(b" BUFFER", &out);
+    buffer(&out);
     delay(10, &[0, 2, 4, 6, 7, 8]);
 }
 
@@ -391,10 +324,10 @@ fn more_than_64() {
     ];
     let mut out: [u32; 176] = [7; 176];
     critical(228, &table, &mut out);
-    word(b"\n");
+    end();
     let mut short: [u32; 2] = [7; 2];
     critical(228, &table, &mut short);
-    numbers(b" BUFFER", &short);
+    buffer(&short);
     delay(228, &table);
 }
 
