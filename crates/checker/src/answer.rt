@@ -1,21 +1,36 @@
 // What the entries answer. specs/Told.antt gives document 01's number, place and values for every case, and the promises go through it.
+ghost use mathlib.Core.Path.{_≡_};
+ghost use Rattle.scope.specs.Answers.{_orElse_};
+ghost use Rattle.checker.specs.Told.{faultOf};
 
 // Why an input is refused.
 pub enum Refusal {
     WindowList,
     Frame,
-    Window(u32),
+    Window(u64),
     TaskList,
-    Task(u32),
+    Task(u64),
     Cycle,
     Asked,
-    Room(u32),
+    Room(u64),
 }
 
 // Whether a check passes.
 pub enum Checked {
     Fine,
     Bad(Refusal),
+}
+
+impl Checked {
+    // The first fault of two: checks are made in the order in which they are written.
+    pub(crate) fn or_else(self, later: Checked) -> Checked
+        ensures { λ r. ⌜ faultOf r ≡ (faultOf self orElse faultOf later) ⌝ }
+    {
+        match self {
+            Checked::Fine => later,
+            Checked::Bad(r) => Checked::Bad(r),
+        }
+    }
 }
 
 // Whether a tick is supplied.

@@ -80,13 +80,13 @@ pub fn critical(board: Board, windows: &[u32], out: &mut [u32]) -> Amount
     match check_table(board, windows) {
         Checked::Bad(r) => Amount::Refused(r),
         Checked::Fine => {
-            let numbers = count_edges(board, windows);
-            if out.len() < numbers as usize {
+            let numbers = count_edges(board, windows) as u64;
+            let count = numbers / 2;
+            if (out.len() as u64) < numbers {
                 Amount::Refused(Refusal::Room(numbers))
             } else {
                 write_edges(board, windows, out);
-                let count = numbers / 2;
-                Amount::Of(count as u64)
+                Amount::Of(count)
             }
         }
     }

@@ -108,7 +108,6 @@ fn check_task_list(tasks: &[u32]) -> Checked
 
 // Refusal 5, at the lowest index.
 fn check_each_task(tasks: &[u32]) -> Checked
-    requires { ⌜ length (now tasks) < 4294967296 ⌝ }
     ensures { λ r. ⌜ faultOf r ≡ taskFault (now (tasks .entry)) ⌝ }
 {
     let count = tasks.len() / 3;
@@ -116,7 +115,7 @@ fn check_each_task(tasks: &[u32]) -> Checked
     while i < count {
         let task = task_at(tasks, i);
         if !task.legal() {
-            let place = i as u32;
+            let place = i as u64;
             return Checked::Bad(Refusal::Task(place));
         }
         i += 1;
@@ -128,18 +127,16 @@ fn check_each_task(tasks: &[u32]) -> Checked
 pub fn check_tasks(tasks: &[u32]) -> Checked
     ensures { λ r. ⌜ faultOf r ≡ groupFault (now (tasks .entry)) ⌝ }
 {
-    match check_task_list(tasks) {
-        Checked::Bad(r) => Checked::Bad(r),
-        Checked::Fine => check_each_task(tasks),
-    }
+    let list = check_task_list(tasks);
+    let each = check_each_task(tasks);
+    list.or_else(each)
 }
 
 // Refusals 1 to 5.
 pub fn check_group(board: Board, windows: &[u32], tasks: &[u32]) -> Checked
     ensures { λ r. ⌜ faultOf r ≡ (tableFault (boardOf board) (now (windows .entry)) orElse groupFault (now (tasks .entry))) ⌝ }
 {
-    match check_table(board, windows) {
-        Checked::Bad(r) => Checked::Bad(r),
-        Checked::Fine => check_tasks(tasks),
-    }
+    let table = check_table(board, windows);
+    let group = check_tasks(tasks);
+    table.or_else(group)
 }

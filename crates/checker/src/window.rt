@@ -99,14 +99,13 @@ fn check_window_list(windows: &[u32]) -> Checked
 
 // Refusal 3, at the lowest index.
 fn check_windows(board: Board, windows: &[u32]) -> Checked
-    requires { ⌜ length (now windows) < 4294967296 ⌝ }
     ensures { λ r. ⌜ faultOf r ≡ windowFault (boardOf board) (now (windows .entry)) ⌝ }
 {
     let count = windows.len() / 2;
     let mut i = 0;
     while i < count {
         if !window_legal(board, windows, i) {
-            let place = i as u32;
+            let place = i as u64;
             return Checked::Bad(Refusal::Window(place));
         }
         i += 1;
@@ -118,11 +117,8 @@ fn check_windows(board: Board, windows: &[u32]) -> Checked
 pub fn check_table(board: Board, windows: &[u32]) -> Checked
     ensures { λ r. ⌜ faultOf r ≡ tableFault (boardOf board) (now (windows .entry)) ⌝ }
 {
-    match check_window_list(windows) {
-        Checked::Bad(r) => Checked::Bad(r),
-        Checked::Fine => match check_frame(board) {
-            Checked::Bad(r) => Checked::Bad(r),
-            Checked::Fine => check_windows(board, windows),
-        },
-    }
+    let list = check_window_list(windows);
+    let frame = check_frame(board);
+    let each = check_windows(board, windows);
+    list.or_else(frame.or_else(each))
 }

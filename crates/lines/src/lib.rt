@@ -36,12 +36,12 @@ pub fn refused(r: Refusal) {
     match r {
         Refusal::WindowList => word(b"REFUSED 1 at 0"),
         Refusal::Frame => word(b"REFUSED 2 at 0"),
-        Refusal::Window(i) => part(b"REFUSED 3 at ", i as u64),
+        Refusal::Window(i) => part(b"REFUSED 3 at ", i),
         Refusal::TaskList => word(b"REFUSED 4 at 0"),
-        Refusal::Task(i) => part(b"REFUSED 5 at ", i as u64),
+        Refusal::Task(i) => part(b"REFUSED 5 at ", i),
         Refusal::Cycle => word(b"REFUSED 6 at 0"),
         Refusal::Asked => word(b"REFUSED 7 at 0"),
-        Refusal::Room(n) => part(b"REFUSED 8 at ", n as u64),
+        Refusal::Room(n) => part(b"REFUSED 8 at ", n),
     }
 }
 

@@ -5,7 +5,6 @@ use mir.Syntax.{w64}
 use lib.IntN.{natAbs}
 use mathlib.Core.Path.{_≡_, ap}
 use native.Mathlib.Omega.{arith}
-use mathlib.Core.Path.{_≡_}
 use Rattle.lines.proofs.size.Statement.{statement}
 use Rattle.lines.proofs.size.Tie as tie
 use Rattle.lines.proofs.size.Reads as reads

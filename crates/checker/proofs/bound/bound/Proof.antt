@@ -4,9 +4,8 @@ use Rattle.theory.specs.Answers.{checked-legal}
 use Rattle.theory.specs.Lists.{threes-length}
 use Rattle.scope.specs.Answers.{Fault.fine, _orElse_, tableFault, groupFault}
 use Rattle.scope.specs.Tasks.{task}
-use mathlib.Core.Path.{sym, ap, _∙_}
+use mathlib.Core.Path.{sym, ap, _∙_, _≡_}
 use native.Mathlib.Omega.{arith}
-use mathlib.Core.Path.{_≡_}
 use borrow.Author.Needs.{needs}
 use Rattle.checker.proofs.bound.bound.Statement.{statement}
 use Rattle.checker.proofs.bound.bound.Tie as tie

@@ -37,18 +37,14 @@ count-edges-requires : tie.Need-count-edges-requires
 count-edges-requires c κs = let w = table-legal _ _ (fine-at c) in omega arith
 
 -- src/partition.rt:84:28
-cast-if1 : tie.Need-cast-if1
-cast-if1 c = search needs
+cast-numbers : tie.Need-cast-numbers
+cast-numbers c = search needs
 
 -- src/partition.rt:87:17
 write-edges-requires : tie.Need-write-edges-requires
 write-edges-requires c κs =
     let w = table-legal _ _ (fine-at (c .before .before .before)) in
     (omega arith, omega arith, omega (arith, c .before .before .count-edges .ensures, c .before .if1 .left))
-
--- src/partition.rt:89:28
-cast-t17 : tie.Need-cast-t17
-cast-t17 c = search needs
 
 -- src/partition.rt:76:1
 returns : tie.Need-returns
@@ -91,9 +87,8 @@ critical-spec =
     enum-known-r
     enum-told
     count-edges-requires
-    cast-if1
+    cast-numbers
     write-edges-requires
-    cast-t17
     returns
     returns-2
     same-length

@@ -36,10 +36,6 @@ legal-requires c κs = search needs
 tested : (c : tie.After-legal Inv-loop μ-loop) → kept (c .before .before .before .before .before .args .tasks .now) (c .before .before .before .loop .i) ≡ not (not (c .legal .result))
 tested c = ap taskLegal (sym (c .before .task-at .ensures)) ∙ sym (c .legal .ensures) ∙ sym (Bool·not-not (c .legal .result))
 
--- src/task.rt:119:25
-cast-place : tie.Need-cast-place Inv-loop μ-loop
-cast-place c = search needs
-
 -- src/task.rt:120:13
 returns : tie.Need-returns Inv-loop μ-loop
 returns c = let l = c .before .before .before .before .loop in
@@ -71,7 +67,6 @@ check-each-task-spec =
     loop-holds
     task-at-requires
     legal-requires
-    cast-place
     returns
     add-i
     loop-less

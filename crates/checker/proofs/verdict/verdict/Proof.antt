@@ -7,10 +7,9 @@ use Rattle.scope.specs.Tasks.{tasksOf}
 use Rattle.scope.specs.Cycle.{cycle}
 use Rattle.scope.specs.Verdict.{verdict}
 use Rattle.scope.specs.Answers.{Fault.fine, Answer.given, _orElse_, tableFault, groupFault}
-use mathlib.Core.Path.{sym, ap, _∙_}
+use mathlib.Core.Path.{sym, ap, _∙_, _≡_}
 use native.Mathlib.Omega.{arith}
 use Prim.Native.Nat.{ℕ, _≤_}
-use mathlib.Core.Path.{_≡_}
 use borrow.Author.Needs.{needs}
 use Rattle.checker.proofs.verdict.verdict.Statement.{statement}
 use Rattle.checker.proofs.verdict.verdict.Tie as tie

@@ -32,10 +32,6 @@ loop-holds c = (omega arith, refl, below-none _)
 window-legal-requires : tie.Need-window-legal-requires Inv-loop μ-loop
 window-legal-requires c κs = omega arith
 
--- src/window.rt:109:25
-cast-place : tie.Need-cast-place Inv-loop μ-loop
-cast-place c = omega arith
-
 -- src/window.rt:110:13
 returns : tie.Need-returns Inv-loop μ-loop
 unfolding windowFault badWindow
@@ -73,7 +69,6 @@ check-windows-spec =
     μ-loop
     loop-holds
     window-legal-requires
-    cast-place
     returns
     add-i
     loop-less
