@@ -47,7 +47,7 @@ module _ (number : ℕ) (rule : ℕ → Bool) (n : ℕ) where
 
 -- ---- two checks made together, then a third, then the value
 
-or-assoc : (f g h : Fault) → ((f orElse g) orElse h) ≡ (f orElse g orElse h)
+pub or-assoc : (f g h : Fault) → ((f orElse g) orElse h) ≡ (f orElse g orElse h)
 or-assoc fine g h = refl
 or-assoc (fault n p) g h = refl
 

@@ -10,7 +10,7 @@ use Rattle.scope.specs.Bound as Bounds
 use Rattle.scope.specs.Answers as Answers
 use Rattle.scope.specs.Answers.{Fault, Fault.fine, Fault.fault, Answer, Answer.given, Answer.refused}
 use Rattle.checker.specs.declared.answer.Refusal.{Refusal}
-use Rattle.checker.specs.declared.answer.Refusal.the-variants.{WindowList, Frame, Window, TaskList, Task, Cycle, Asked, Room}
+use Rattle.checker.specs.declared.answer.Refusal.the-variants.{WindowList, Frame, Window, TaskList, Task, Cycle, Asked, Room, JobList, Job}
 use Rattle.checker.specs.declared.answer.Checked.{Checked}
 use Rattle.checker.specs.declared.answer.Checked.the-variants.{Fine, Bad}
 use Rattle.checker.specs.declared.answer.Supplied as supplied
@@ -31,7 +31,7 @@ undone f g back a b e = sym (back a) ∙ ap g e ∙ back b
 
 -- ---- refusals: by number and place
 
-abbrev refusalOf : ℕ → ℕ → Refusal
+abbrev pub refusalOf : ℕ → ℕ → Refusal
 refusalOf n p =
     cond (eqb n 1) WindowList
     (cond (eqb n 2) Frame
@@ -40,7 +40,9 @@ refusalOf n p =
     (cond (eqb n 5) (Task p)
     (cond (eqb n 6) Cycle
     (cond (eqb n 7) Asked
-    (Room p)))))))
+    (cond (eqb n 8) (Room p)
+    (cond (eqb n 10) JobList
+    (Job p)))))))))
 
 pub refusal-back : (r : Refusal) → refusalOf (number r) (place r) ≡ r
 refusal-back WindowList = refl
@@ -51,6 +53,8 @@ refusal-back (Task i) = refl
 refusal-back Cycle = refl
 refusal-back Asked = refl
 refusal-back (Room n) = refl
+refusal-back JobList = refl
+refusal-back (Job i) = refl
 
 abbrev checkedOf : Fault → Checked
 checkedOf fine = Fine
@@ -66,7 +70,7 @@ checked-determined = undone faultOf checkedOf back
 -- ---- answers: a value is made back into its case, a refusal into its own
 
 -- an answer made back, given how a value and a refusal are
-abbrev made : {A B : Type 0} → (A → B) → (Refusal → B) → Answer A → B
+abbrev pub made : {A B : Type 0} → (A → B) → (Refusal → B) → Answer A → B
 made value refusal (given a) = value a
 made value refusal (refused n p) = refusal (refusalOf n p)
 

@@ -13,6 +13,8 @@ pub enum Refusal {
     Cycle,
     Asked,
     Room(u64),
+    JobList,
+    Job(u64),
 }
 
 // Whether a check passes.

@@ -121,6 +121,10 @@ taskAnswer x = unless (faultAt 5 (badTask (x ∷ []))) x
 unfoldable pub lengthAnswer : ℕ → Answer ℕ
 lengthAnswer t = unless (lengthFault t) t
 
+-- the ticks of a run
+unfoldable pub runTicksAnswer : ℕ → Answer ℕ
+runTicksAnswer n = unless (jobListFault n []) n
+
 -- ---- entries. Windows ws, tasks ts and jobs js are lists of numbers
 
 unfoldable pub suppliedAnswer : Board → List ℕ → ℕ → Answer Bool

@@ -111,6 +111,14 @@ pub length-legal : (t : ℕ) → lengthFault t ≡ fine → t ≤ mostLength
 unfolding lengthFault
 length-legal t e = ltb-false mostLength t (faultIf-fine (ltb mostLength t) 7 0 e)
 
+pub job-list-legal : (n : ℕ) (js : List ℕ) → jobListFault n js ≡ fine → (length js % 3 ≡ 0) × (length js ≤ 3 * mostJobs) × (n ≤ mostTicks)
+unfolding jobListFault
+job-list-legal n js e =
+    let odd = not (eqb (length js % 3) 0) in
+    let l = or-false (odd || ltb (3 * mostJobs) (length js)) (ltb mostTicks n) (faultIf-fine _ 10 0 e) in
+    let m = or-false odd (ltb (3 * mostJobs) (length js)) (l .0) in
+    (eqb-true (length js % 3) 0 (not-false _ (m .0)), ltb-false (3 * mostJobs) (length js) (m .1), ltb-false mostTicks n (l .1))
+
 -- ---- entries that answer
 
 pub record Judged (b : Board) (ws ts : List ℕ) (v : Verdict) : Type 0 where
@@ -162,22 +170,20 @@ pub record Runs (b : Board) (ws ts : List ℕ) (n : ℕ) (js : List ℕ) (room :
   pub is : ran (supplied b ws) (edf (tasksOf ts) (jobsOf js)) (tasksOf ts) (jobsOf js) n ≡ r
 
 pub runs : (b : Board) (ws ts : List ℕ) (n : ℕ) (js : List ℕ) (room : ℕ) (r : Ran) → runAnswer b ws ts n js room ≡ given r → Runs b ws ts n js room r
-unfolding runAnswer runFault jobListFault jobFault roomFault
+unfolding runAnswer runFault jobFault roomFault
 runs b ws ts n js room r e =
     let u = unless-given (runFault b ws ts n js room) _ r e in
     let p₁ = orElse-fine (tableFault b ws) (groupFault ts orElse jobListFault n js orElse jobFault ts n js orElse roomFault (length (jobsOf js)) room) (u .0) in
     let p₂ = orElse-fine (groupFault ts) (jobListFault n js orElse jobFault ts n js orElse roomFault (length (jobsOf js)) room) (p₁ .1) in
     let p₃ = orElse-fine (jobListFault n js) (jobFault ts n js orElse roomFault (length (jobsOf js)) room) (p₂ .1) in
     let p₄ = orElse-fine (jobFault ts n js) (roomFault (length (jobsOf js)) room) (p₃ .1) in
-    let odd = not (eqb (length js % 3) 0) in
-    let l = or-false (odd || ltb (3 * mostJobs) (length js)) (ltb mostTicks n) (faultIf-fine _ 10 0 (p₃ .0)) in
-    let l′ = or-false odd (ltb (3 * mostJobs) (length js)) (l .0) in
+    let l = job-list-legal n js (p₃ .0) in
     record {
       table = table-legal b ws (p₁ .0);
       group = group-legal ts (p₂ .0);
-      threes = eqb-true (length js % 3) 0 (not-false _ (l′ .0));
-      few = ltb-false (3 * mostJobs) (length js) (l′ .1);
-      ticks = ltb-false mostTicks n (l .1);
+      threes = l .0;
+      few = l .1;
+      ticks = l .2;
       jobs = faultAt-fine 11 (badJob (tasksOf ts) n (jobsOf js)) (p₄ .0);
       roomy = ltb-false room (length (jobsOf js)) (faultIf-fine _ 8 (length (jobsOf js)) (p₄ .1));
       is = u .1;
