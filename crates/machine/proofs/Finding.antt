@@ -1,0 +1,140 @@
+-- The late job that the code finds is the lowest late one of the machine
+use mathlib.Core.Path.{_≡_, refl, sym, ap, _∙_}
+use mathlib.Core.Bool.{Bool, true, false, _&&_, cond, false≢true}
+use mathlib.Core.Logic.{_⊎_, inl, inr}
+use mathlib.Core.Option.{none, some}
+use mathlib.Core.List.{List}
+use Prim.Native.Nat.{ℕ, zero, suc, _≤_, _<_}
+use native.Mathlib.Omega.{arith}
+use native.Mathlib.Decide.{decLt}
+use lib.Dec.{leb, ltb}
+use lib.ListN.{length, getD}
+use borrow.Author.Tests.{ltb-true, ltb-false, leb-true, le-leb}
+use Rattle.scope.specs.Numbers.{first}
+use Rattle.scope.specs.Tasks.{Task, taskAt}
+use Rattle.scope.specs.Jobs.{Job, taskOf, deadline}
+use Rattle.scope.specs.Run.{late}
+use Rattle.theory.specs.Numbers.{below-suc, and-both, both-and, bool-cases, fits-true, true-fits, none-first, some-first}
+use Rattle.machine.specs.declared.state.RunState.{RunState}
+use Rattle.machine.specs.Bits.{mem}
+use Rattle.machine.specs.Slots.{noJob, lowerIn, lateTo}
+use Rattle.machine.specs.Relation.{Tasks, Jobs, Holds, Split}
+
+-- ---- the lowest late job of the tasks below n
+
+module _ (s : RunState) (t : ℕ) where
+  -- task i is pending, and its job is due at instant t or before
+  abbrev lateTask : ℕ → Bool
+  lateTask i = mem (s .pending) i && leb (getD (s .due) i 0) t
+
+  abbrev jobAt : ℕ → ℕ
+  jobAt i = getD (s .job) i 0
+
+  -- r is the lowest job of the late tasks below n
+  record Lowest (n r : ℕ) : Type 0 where
+    at : ℕ
+    bound : at < n
+    is : lateTask at ≡ true
+    job : jobAt at ≡ r
+    least : (i : ℕ) → i < n → lateTask i ≡ true → r ≤ jobAt i
+
+  abbrev Found : ℕ → ℕ → Type 0
+  Found n r = ((r ≡ noJob) × ((i : ℕ) → i < n → lateTask i ≡ true → ⊥)) ⊎ ((r < noJob) × Lowest n r)
+
+  -- a task more that is not late, or not lower
+  lowest-keep : (n r : ℕ) → (lateTask n ≡ true → r ≤ jobAt n) → Lowest n r → Lowest (suc n) r
+  lowest-keep n r h q = record {
+    at = q .at;
+    bound = omega (arith, q .bound);
+    is = q .is;
+    job = q .job;
+    least = below-suc (λ i. lateTask i ≡ true → r ≤ jobAt i) n (q .least) h;
+  }
+
+  -- a task more that is late and lower
+  lowest-take : (n : ℕ) → lateTask n ≡ true → ((i : ℕ) → i < n → lateTask i ≡ true → jobAt n ≤ jobAt i) → Lowest (suc n) (jobAt n)
+  lowest-take n e h = record {
+    at = n;
+    bound = omega arith;
+    is = e;
+    job = refl;
+    least = below-suc (λ i. lateTask i ≡ true → jobAt n ≤ jobAt i) n h (λ z. omega arith);
+  }
+
+  module _ (small : (i : ℕ) → i < 32 → lateTask i ≡ true → jobAt i < noJob) where
+    late-found : (n : ℕ) → n ≤ 32 → Found n (lateTo s t n)
+    unfolding lateTo lowerIn
+    late-found zero l = inl (refl, λ i a e. absurd (omega arith))
+    late-found (suc n) l = go (late-found n (omega arith)) (lateTask n) refl
+      where
+        best : ℕ
+        best = lateTo s t n
+
+        two : Found n best → lateTask n ≡ true → (b : Bool) → ltb (jobAt n) best ≡ b → Found (suc n) (cond b (jobAt n) best)
+        two (inl p) e true q = inr (small n (omega arith) e, lowest-take n e (λ i a z. absurd (p .1 i a z)))
+        two (inl p) e false q = absurd (omega (arith, ltb-false (jobAt n) best q, small n (omega arith) e, p .0))
+        two (inr p) e true q =
+            inr (small n (omega arith) e, lowest-take n e (λ i a z. omega (arith, p .1 .least i a z, ltb-true (jobAt n) best q)))
+        two (inr p) e false q = inr (p .0, lowest-keep n best (λ z. ltb-false (jobAt n) best q) (p .1))
+
+        go : Found n best → (b : Bool) → lateTask n ≡ b → Found (suc n) (cond (b && ltb (jobAt n) best) (jobAt n) best)
+        go p true e = two p e (ltb (jobAt n) best) refl
+        go (inl p) false e = inl (p .0, below-suc (λ i. lateTask i ≡ true → ⊥) n (p .1) (λ z. false≢true (sym e ∙ z)))
+        go (inr p) false e = inr (p .0, lowest-keep n best (λ z. absurd (false≢true (sym e ∙ z))) (p .1))
+
+-- ---- it is the machine's, in a state that shows the work left at instant t
+
+module _ (ts : List Task) (js : List Job) (tasks : Tasks ts) (legal : Jobs ts js) (work : List ℕ) (t : ℕ) (s : RunState)
+    (h : Holds ts js work s) (sp : Split js t t (s .next)) where
+  -- the job of a late task is late
+  task-late : (i : ℕ) → i < 32 → lateTask s t i ≡ true → (jobAt s t i < length js) × (late ts js t work (jobAt s t i) ≡ true)
+  unfolding late
+  task-late i l e =
+      let p = and-both (mem (s .pending) i) (leb (getD (s .due) i 0) t) e in
+      let z = h .slot i l (p .0) in
+      let c : ℕ = jobAt s t i in (
+        omega (arith, z .known, sp .bound),
+        true-fits (deadline ts js c) t 1 (getD work c 0) (omega (arith, z .due, leb-true (getD (s .due) i 0) t (p .1))) (omega (arith, z .left, z .some)),
+      )
+
+  -- a late job is that of a late task: it is released, for its deadline is after its release
+  late-task : (j : ℕ) → j < length js → late ts js t work j ≡ true → (taskOf js j < 32) × (lateTask s t (taskOf js j) ≡ true) × (jobAt s t (taskOf js j) ≡ j)
+  unfolding late
+  late-task j l e =
+      let p = fits-true (deadline ts js j) t 1 (getD work j 0) e in
+      let i : ℕ = taskOf js j in
+      let due : 1 ≤ (taskAt ts i) .D = tasks .rules i (legal .known j l) .due in
+      let low : i < 32 = omega (arith, legal .known j l, tasks .few) in
+      let a : j < s .next = elim (decLt j (s .next)) [ yes a ↦ a | no a ↦ absurd (omega (arith, sp .later j (omega arith) l, p .0)) ] in
+      let y = h .held j a (p .1) in
+      let z = h .slot i low (y .0) in
+      let d : deadline ts js (jobAt s t i) ≡ deadline ts js j = ap (deadline ts js) (y .1) in
+      (low, both-and {a = mem (s .pending) i} (y .0) (le-leb (getD (s .due) i 0) t (omega (arith, z .due, d, p .0))), y .1)
+
+  found : Found s t 32 (lateTo s t 32)
+  found = late-found s t (λ i l e. omega (arith, task-late i l e .0, legal .few)) 32 (omega arith)
+
+  pub none-late : noJob ≤ lateTo s t 32 → first (late ts js t work) (length js) ≡ none
+  none-late l = none-first (late ts js t work) (length js) (λ j a. elim (bool-cases (late ts js t work j)) [ inl e ↦ absurd (no j a e) | inr e ↦ e ])
+    where
+      no : (j : ℕ) → j < length js → late ts js t work j ≡ true → ⊥
+      no j a e = elim found [
+        | inl p ↦ let y = late-task j a e in p .1 (taskOf js j) (y .0) (y .1)
+        | inr p ↦ absurd (omega (arith, p .0))
+      ]
+
+  pub one-late : lateTo s t 32 < noJob → first (late ts js t work) (length js) ≡ some (lateTo s t 32)
+  one-late l = go (lateTo s t 32) l found
+    where
+      go : (r : ℕ) → r < noJob → Found s t 32 r → first (late ts js t work) (length js) ≡ some r
+      go r l (inl p) = absurd (omega (arith, p .0))
+      go r l (inr p) =
+          let q = p .1 in
+          let y = task-late (q .at) (q .bound) (q .is) in
+          some-first (late ts js t work) (length js) r (omega (arith, q .job, y .0)) (ap (late ts js t work) (sym (q .job)) ∙ y .1)
+          (λ j a. elim (bool-cases (late ts js t work j)) [
+            | inl e ↦
+                let z = late-task j (omega (arith, q .job, y .0)) e in
+                absurd (omega (arith, q .least (taskOf js j) (z .0) (z .1), z .2))
+            | inr e ↦ e
+          ])

@@ -1,0 +1,235 @@
+-- The rule of a legal job list: its test by cases, and what it gives
+use mathlib.Core.Path.{_≡_, refl, sym, ap, _∙_}
+use mathlib.Core.Bool.{Bool, true, false, not, cond, _&&_, _||_, or-true}
+use mathlib.Core.Logic.{_≢_, inl, inr}
+use mathlib.Core.Option.{none}
+use mathlib.Core.List.{List}
+use Prim.Native.Nat.{ℕ, zero, suc, _+_, _-_, _%_, _≤_, _<_, max}
+use native.Mathlib.Omega.{arith}
+use native.Mathlib.Numerals.{add-one}
+use native.Mathlib.Decide.{ℕ-discrete, decLe, le-ind}
+use lib.Dec.{leb, ltb, eqb}
+use lib.ListN.{length, getD, set, replicate, length-set}
+use lib.Seq.{getD-set-same, getD-set-other}
+use borrow.Author.Tests.{lt-ltb, le-ltb, leb-true, le-leb, lt-leb, eq-eqb, ne-eqb}
+use Rattle.scope.specs.Tasks.{Task, tasksOf, taskAt}
+use Rattle.scope.specs.Jobs.{Job, jobsOf, releaseOf, taskOf, workOf, inOrder, apart, jobLegal, badJob}
+use Rattle.scope.specs.Answers.{Fault.fine, Fault.fault, Answer.given, Answer.refused, jobListFault, jobFault, runTicksAnswer}
+use Rattle.theory.specs.Numbers.{bool-cases, all-true, true-all, by-lexically}
+use Rattle.theory.specs.Jobs.{JobRule, job-rules}
+use Rattle.checker.proofs.FaultLaws.{breaks-at, breaks-nowhere}
+use Rattle.machine.specs.Relation.{Jobs, freeAt, FreeTable}
+
+-- ---- the job list and the ticks, refusal 10
+
+module _ (n : ℕ) where
+  pub ticks-refused : 1100000 < n → refused 10 0 ≡ runTicksAnswer n
+  unfolding runTicksAnswer jobListFault
+  ticks-refused h = rw (lt-ltb 1100000 n h)
+
+  pub ticks-taken : n ≤ 1100000 → given n ≡ runTicksAnswer n
+  unfolding runTicksAnswer jobListFault
+  ticks-taken h = rw (le-ltb 1100000 n h)
+
+  module _ (js : List ℕ) where
+    pub not-threes : length js % 3 ≢ 0 → fault 10 0 ≡ jobListFault n js
+    unfolding jobListFault
+    not-threes h = rw (ne-eqb (length js % 3) 0 h)
+
+    pub too-many : 12288 < length js → fault 10 0 ≡ jobListFault n js
+    unfolding jobListFault
+    too-many h = rw (lt-ltb 12288 (length js) h, or-true (not (eqb (length js % 3) 0)))
+
+    pub too-long : 1100000 < n → fault 10 0 ≡ jobListFault n js
+    unfolding jobListFault
+    too-long h = rw (lt-ltb 1100000 n h, or-true (not (eqb (length js % 3) 0) || ltb 12288 (length js)))
+
+    pub list-fine : length js % 3 ≡ 0 → length js ≤ 12288 → n ≤ 1100000 → fine ≡ jobListFault n js
+    unfolding jobListFault
+    list-fine h k l = rw (h, le-ltb 12288 (length js) k, le-ltb 1100000 n l)
+
+-- ---- the order, by cases
+
+module _ (js : List Job) (j : ℕ) where
+  pub order-first : j ≡ 0 → true ≡ inOrder js j
+  order-first e = rw (eq-eqb j 0 e)
+
+  module _ (u : j ≢ 0) (a b : ℕ) (ea : a ≡ releaseOf js (j - 1)) (eb : b ≡ releaseOf js j) where
+    pub order-later : a < b → true ≡ inOrder js j
+    order-later h = rw (ne-eqb j 0 u, ← ea, ← eb, lt-ltb a b h)
+
+    pub order-back : b ≤ a → a ≢ b → false ≡ inOrder js j
+    order-back h e = rw (ne-eqb j 0 u, ← ea, ← eb, le-ltb a b h, ne-eqb a b e)
+
+    pub order-task : b ≤ a → a ≡ b → (c d : ℕ) → c ≡ taskOf js (j - 1) → d ≡ taskOf js j → ltb c d ≡ inOrder js j
+    order-task h e c d ec ed = rw (ne-eqb j 0 u, ← ea, ← eb, le-ltb a b h, eq-eqb a b e, ← ec, ← ed)
+
+-- ---- the first free tick of a task: the greatest of the earlier jobs' releases, T later each
+
+module _ (ts : List Task) (js : List Job) (t : ℕ) where
+  -- when the task is free after job i
+  abbrev after : ℕ → ℕ
+  after i = releaseOf js i + (taskAt ts t) .T
+
+  -- no earlier job of the task is freed later
+  free-above : (m i : ℕ) → i < m → taskOf js i ≡ t → after i ≤ freeAt ts js t m
+  unfolding freeAt
+  free-above zero i l e = absurd (omega arith)
+  free-above (suc m) i l e = elim (ℕ-discrete i m) [
+    | yes g ↦ rw (eq-eqb (taskOf js m) t (ap (taskOf js) (sym g) ∙ e)) (omega (arith, ap (releaseOf js) g))
+    | no g ↦ go (eqb (taskOf js m) t) (free-above m i (omega arith) e)
+  ]
+    where
+      go : (b : Bool) → after i ≤ freeAt ts js t m → after i ≤ cond b (max (freeAt ts js t m) (after m)) (freeAt ts js t m)
+      go true h = omega arith
+      go false h = h
+
+  -- it is no more than what all of them are below
+  free-below : (b m : ℕ) → ((i : ℕ) → i < m → taskOf js i ≡ t → after i ≤ b) → freeAt ts js t m ≤ b
+  unfolding freeAt
+  free-below b zero h = omega arith
+  free-below b (suc m) h =
+      let low = free-below b m (λ i l. h i (omega arith)) in
+      elim (ℕ-discrete (taskOf js m) t) [
+        | yes e ↦ rw (eq-eqb (taskOf js m) t e) (omega (arith, low, h m (omega arith) e))
+        | no u ↦ rw (ne-eqb (taskOf js m) t u) low
+      ]
+
+-- a job is apart from all earlier ones of its task exactly where the task is free
+module _ (ts : List Task) (js : List Job) (j : ℕ) where
+  abbrev i : ℕ
+  i = taskOf js j
+
+  abbrev r : ℕ
+  r = releaseOf js j
+
+  -- job k leaves room for job j
+  abbrev leaves : ℕ → Bool
+  leaves k = not (eqb (taskOf js k) i) || leb (releaseOf js k + (taskAt ts i) .T) r
+
+  leaves-room : (k : ℕ) → leaves k ≡ true → taskOf js k ≡ i → releaseOf js k + (taskAt ts i) .T ≤ r
+  leaves-room k h e = leb-true _ _ (rw (eq-eqb (taskOf js k) i e) at h)
+
+  room-leaves : (k : ℕ) → (taskOf js k ≡ i → releaseOf js k + (taskAt ts i) .T ≤ r) → leaves k ≡ true
+  room-leaves k h = elim (ℕ-discrete (taskOf js k) i) [
+    | yes e ↦ rw (eq-eqb (taskOf js k) i e) (le-leb _ _ (h e))
+    | no u ↦ rw (ne-eqb (taskOf js k) i u)
+  ]
+
+  pub apart-free : apart ts js j ≡ leb (freeAt ts js i j) r
+  apart-free = elim (decLe (freeAt ts js i j) r) [
+    | yes h ↦ true-all leaves j (λ k l. room-leaves k (λ e. omega (arith, free-above ts js i j k l e))) ∙ sym (le-leb _ _ h)
+    | no h ↦ elim (bool-cases (apart ts js j)) [
+      | inl e ↦ absurd (h (free-below ts js i r j (λ k l. leaves-room k (all-true leaves j e k l))))
+      | inr e ↦ e ∙ sym (lt-leb (freeAt ts js i j) r (omega arith))
+    ]
+  ]
+
+-- ---- the whole rule, by cases
+
+-- the parts of job j, as the code read them
+pub record Parts (js : List Job) (j r i w : ℕ) : Type 0 where
+  pub release : r ≡ releaseOf js j
+  pub task : i ≡ taskOf js j
+  pub work : w ≡ workOf js j
+
+module _ (ts : List Task) (n : ℕ) (js : List Job) (j : ℕ) where
+  pub bad-order : false ≡ inOrder js j → false ≡ jobLegal ts n js j
+  unfolding jobLegal
+  bad-order e = rw (← e)
+
+  module _ {r i w : ℕ} (q : Parts js j r i w) (e : true ≡ inOrder js j) where
+    pub bad-task : length ts ≤ i → false ≡ jobLegal ts n js j
+    unfolding jobLegal
+    bad-task h = rw (← e, ← q .task, le-ltb i (length ts) h)
+
+    module _ (a : i < length ts) where
+      pub bad-none : w ≡ 0 → false ≡ jobLegal ts n js j
+      unfolding jobLegal
+      bad-none h = rw (← e, ← q .task, lt-ltb i (length ts) a, ← q .work, lt-leb 1 w (omega arith))
+
+      module _ (p : w ≢ 0) where
+        pub bad-most : (taskAt ts i) .C < w → false ≡ jobLegal ts n js j
+        unfolding jobLegal
+        bad-most h = rw (← e, ← q .task, lt-ltb i (length ts) a, ← q .work, le-leb 1 w (omega arith), lt-leb w ((taskAt ts i) .C) h)
+
+        module _ (m : w ≤ (taskAt ts i) .C) where
+          -- all but the last two
+          first-four : jobLegal ts n js j ≡ ltb r n && apart ts js j
+          unfolding jobLegal
+          first-four =
+              rw (← e, ← q .task, lt-ltb i (length ts) a, ← q .work, le-leb 1 w (omega arith), le-leb w ((taskAt ts i) .C) m, ← q .release)
+
+          pub bad-late : n ≤ r → false ≡ jobLegal ts n js j
+          bad-late h = rw (first-four, le-ltb r n h)
+
+          pub by-free : r < n → (f : ℕ) → f ≡ freeAt ts js i j → leb f r ≡ jobLegal ts n js j
+          by-free h f ef = rw (first-four, lt-ltb r n h, apart-free ts js j, ← q .task, ← q .release, ← ef)
+
+-- ---- the table of the first free ticks
+
+getD-zeros : (n x : ℕ) → getD {A = ℕ} (replicate n 0) x 0 ≡ 0
+getD-zeros zero x = refl
+getD-zeros (suc n) zero = refl
+getD-zeros (suc n) (suc x) = getD-zeros n x
+
+pub free-first : (ts : List Task) (js : List Job) → FreeTable ts js 0 (replicate 32 0)
+unfolding freeAt
+free-first ts js = record { size = refl; is = λ x l. getD-zeros 32 x }
+
+-- one job further: a legal job's task is free, so that its next free tick is T after the release
+module _ (ts : List Task) (n : ℕ) (js : List Job) (j : ℕ) (rule : JobRule ts n js j) (free : List ℕ) (table : FreeTable ts js j free) (few : length ts ≤ 32) where
+  free-at : (i v : ℕ) → i ≡ taskOf js j → v ≡ releaseOf js j + (taskAt ts i) .T → (x : ℕ) → x < 32 → getD (set free i v) x 0 ≡ freeAt ts js x (j + 1)
+  unfolding freeAt
+  free-at i v ei ev x l =
+      rw (add-one j) (elim (ℕ-discrete x i) [
+        | yes g ↦
+            let q : max (freeAt ts js x j) (releaseOf js j + (taskAt ts x) .T) ≡ v =
+            omega (arith, free-below ts js (taskOf js j) (releaseOf js j) j (rule .apart), ap (λ (y : ℕ). freeAt ts js y j) (g ∙ ei), ap (λ (y : ℕ). (taskAt ts y) .T) g) in
+            rw (eq-eqb (taskOf js j) x (sym ei ∙ sym g), q) (rw g (getD-set-same free i v 0 (omega (arith, rule .known, table .size))))
+        | no g ↦ rw (ne-eqb (taskOf js j) x (λ e. g (sym e ∙ sym ei))) (getD-set-other free i x v 0 g ∙ table .is x l)
+      ])
+
+  pub free-next : (i r t : ℕ) → i ≡ taskOf js j → r ≡ releaseOf js j → t ≡ (taskAt ts i) .T → FreeTable ts js (j + 1) (set free i (r + t))
+  free-next i r t ei er et = record { size = length-set free i (r + t) ∙ table .size; is = λ x l. free-at i (r + t) ei (omega arith) x l }
+
+-- ---- the first job that breaks the rule, refusal 11
+
+module _ (tasks : List ℕ) (n : ℕ) (jobs : List ℕ) where
+  -- whether job k keeps its rule
+  abbrev pub kept : ℕ → Bool
+  kept k = jobLegal (tasksOf tasks) n (jobsOf jobs) k
+
+  pub job-bad : (j : ℕ) → j < length (jobsOf jobs) → ((k : ℕ) → k < j → kept k ≡ true) → kept j ≡ false → fault 11 j ≡ jobFault tasks n jobs
+  unfolding jobFault badJob
+  job-bad = breaks-at 11 kept (length (jobsOf jobs))
+
+  pub jobs-fine : ((k : ℕ) → k < length (jobsOf jobs) → kept k ≡ true) → fine ≡ jobFault tasks n jobs
+  unfolding jobFault badJob
+  jobs-fine = breaks-nowhere 11 kept (length (jobsOf jobs))
+
+-- ---- what a legal list keeps
+
+module _ (ts : List Task) (n : ℕ) (js : List Job) (legal : badJob ts n js ≡ none) where
+  -- from one job to the next, and so from any to any later
+  one-up : (j : ℕ) → suc j < length js → releaseOf js j ≤ releaseOf js (suc j)
+  one-up j l =
+      let e : suc j - 1 ≡ j = omega arith in
+      let order = rw (ne-eqb (suc j) 0 (omega arith), e) at (job-rules ts n js legal (suc j) l .order) in
+      by-lexically (releaseOf js) (λ a b. ltb (taskOf js a) (taskOf js b)) .ahead j (suc j) order
+
+  up : (i j : ℕ) → i ≤ j → j < length js → releaseOf js i ≤ releaseOf js j
+  up i j a = le-ind (λ (x : ℕ). x < length js → releaseOf js i ≤ releaseOf js x) (λ l. omega arith) (λ x b ih l. omega (arith, ih (omega arith), one-up x l)) j a
+
+  pub jobs-of : n ≤ 1100000 → length js ≤ 4096 → Jobs ts js
+  jobs-of small few =
+      let rule = job-rules ts n js legal in
+      record {
+        few = few;
+        known = λ j l. rule j l .known;
+        some = λ j l. rule j l .some;
+        most = λ j l. rule j l .most;
+        small = λ j l. omega (arith, rule j l .inside);
+        rises = up;
+        apart = λ i j a l e. rule j l .apart i a e;
+      }

@@ -1,0 +1,16 @@
+pub mod Buffer
+pub mod Counting
+pub mod Digits
+pub mod Finding
+pub mod Holding
+pub mod Legality
+pub mod Lent
+pub mod Lowest
+pub mod Pick
+pub mod Reading
+pub mod Running
+pub mod RunLaws
+pub mod Sets
+pub mod Stepping
+pub mod Ticking
+pub mod Walk

@@ -1,0 +1,16 @@
+use Rattle.machine.proofs.Legality.{ticks-refused, ticks-taken}
+use Rattle.machine.proofs.check.Run.new.Statement.{statement}
+use Rattle.machine.proofs.check.Run.new.Tie as tie
+use Rattle.machine.proofs.check.Run.new.Reads as reads
+use Rattle.machine.proofs.check.Run.new.Lts as lts
+
+-- src/check.rt:39:13
+returns : tie.Need-returns
+returns c = ticks-refused _ (c .if1 .taken)
+
+-- src/check.rt:35:5
+returns-2 : tie.Need-returns-2
+returns-2 c = ticks-taken _ (c .if1 .left)
+
+pub new-spec : {M : Type 1} → statement M
+new-spec = tie.close (tie.spec returns returns-2)

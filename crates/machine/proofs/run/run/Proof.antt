@@ -1,0 +1,65 @@
+use mathlib.Core.Path.{sym, ap, _∙_, _≡_}
+use Rattle.scope.specs.Answers.{Fault.fine, runFault, runAnswer, runOut}
+use Rattle.checker.specs.Told.{boardOf, faultOf}
+use Rattle.checker.proofs.FaultLaws.{refused-by, given-by, kept-by, written-by}
+use Rattle.machine.proofs.RunLaws.{legal-run}
+use lib.ListN.{length}
+use borrow.Author.Needs.{needs}
+use Rattle.machine.proofs.run.run.Statement.{statement}
+use Rattle.machine.proofs.run.run.Tie as tie
+use Rattle.machine.proofs.run.run.Reads as reads
+use Rattle.machine.proofs.run.run.Lts as lts
+use Rattle.machine.proofs.run.check_run.Reads as check-run-reads
+use Rattle.machine.proofs.run.run_legal.Reads as run-legal-reads
+
+-- all checks have passed
+run-fine : (c : tie.After-enum-told) → let a = c .before .before .before .before .before .before .before .args in
+    runFault (boardOf (a .board)) (a .windows .now) (a .tasks .now) (a .n) (a .jobs .now) (length (a .counts .now)) ≡ fine
+run-fine c = sym (c .before .before .check-run .ensures) ∙ ap faultOf (c .enum-told .given .1)
+
+-- src/run.rt:175:11
+check-run-requires : tie.Need-check-run-requires
+check-run-requires c κs = search needs
+
+-- src/run.rt:176:22
+enum-known-r : tie.Need-enum-known-r
+enum-known-r c = search needs
+
+-- src/run.rt:177:68
+enum-told : tie.Need-enum-told
+enum-told c = search needs
+
+-- src/run.rt:177:26
+run-legal-requires : tie.Need-run-legal-requires
+run-legal-requires c κs = legal-run _ _ _ _ _ _ (run-fine (c .before))
+
+-- src/run.rt:164:1
+returns : tie.Need-returns
+unfolding runAnswer runOut
+returns c =
+    let e = sym (c .before .before .before .check-run .ensures) ∙ ap faultOf (c .before .r .given .1) in
+    (refused-by _ _ e, kept-by _ _ _ e)
+
+-- src/run.rt:164:1
+same-length : tie.Need-same-length
+same-length c = search needs
+
+-- src/run.rt:164:1
+returns-2 : tie.Need-returns-2
+unfolding runAnswer runOut
+returns-2 c =
+    let e = run-fine (c .before .before .before .before) in
+    let r = c .before .before .run-legal .ensures in
+    (r .0 ∙ given-by _ _ e, r .1 ∙ written-by _ _ _ e)
+
+pub run-spec : {M : Type 1} → statement M
+run-spec =
+    tie.close
+    (tie.spec
+    check-run-requires
+    enum-known-r
+    enum-told
+    run-legal-requires
+    returns
+    same-length
+    returns-2)

@@ -1,0 +1,81 @@
+-- The demands, of what `verdict` and `run` answer. Every premise is what the two promise, and that they did not refuse
+use Prim.Native.Nat.{ℕ, _≤_, _<_}
+use mathlib.Core.Path.{_≡_, sym, ap, _∙_}
+use mathlib.Core.Logic.{_↔_}
+use mathlib.Core.List.{List}
+use lib.ListN.{length, getD}
+use Rattle.scope.specs.Ticks.{leastSupply}
+use Rattle.scope.specs.Windows.{supplied}
+use Rattle.scope.specs.Tasks.{tasksOf, taskAt, demand}
+use Rattle.scope.specs.Cycle.{cycle}
+use Rattle.scope.specs.Verdict as Verdicts
+use Rattle.scope.specs.Jobs.{jobsOf, taskOf, deadline}
+use Rattle.scope.specs.Machine.{edf}
+use Rattle.scope.specs.Run.{backlog, ran, counts}
+use Rattle.scope.specs.Answers.{Answer.given, Fault.fine, _orElse_, tableFault, groupFault, cycleFault, jobListFault, jobFault, roomFault, verdictAnswer, runFault, runAnswer, runOut}
+use Rattle.scope.specs.Demands.{LeastMiss, Way, Served}
+use Rattle.theory.specs.Answers.{faultAt-fine, orElse-fine, unless-given}
+use Rattle.theory.specs.Buffers.{written-at}
+use Rattle.theory.specs.Run.{listed-length}
+use Rattle.theory.specs.Exact.{exact-meets, exact-miss}
+use Rattle.theory.specs.Edf.{edf-meets}
+use Rattle.theory.specs.Starved.{starved}
+use Rattle.checker.specs.declared.board.Board.{Board}
+use Rattle.checker.specs.declared.answer.Verdict.{Verdict}
+use Rattle.checker.specs.declared.answer.Verdict.the-variants.{Meets, Miss}
+use Rattle.checker.specs.Told.{boardOf, toldVerdict}
+use Rattle.checker.specs.Determined.{verdict-determined}
+use Rattle.machine.specs.declared.run.Ran.{Ran}
+use Rattle.machine.specs.declared.run.Ran.the-variants.{Met}
+use Rattle.machine.specs.Told.{toldRan}
+use Rattle.machine.specs.Determined.{ran-determined}
+
+given-is : {A : Type 0} {x y : A} → given x ≡ given y → x ≡ y
+given-is e = cc
+
+module _ (b : Board) (ws ts : List ℕ) (v : Verdict) (promised : toldVerdict v ≡ verdictAnswer (boardOf b) ws ts) where
+  answers : (w : Verdicts.Verdict) → toldVerdict v ≡ given w → verdictAnswer (boardOf b) ws ts ≡ given w
+  answers w e = sym promised ∙ e
+
+  -- (a) "meets" exactly when, at every length without limit, the demand is at most the least supply
+  pub verdict-meets : (w : Verdicts.Verdict) → toldVerdict v ≡ given w → (h : ℕ) →
+      (v ≡ Meets h) ↔ ((h ≡ cycle (b .frame) (tasksOf ts)) × ((t : ℕ) → demand (tasksOf ts) t ≤ leastSupply (supplied (boardOf b) ws) (b .frame) t))
+  verdict-meets w e h = let x = exact-meets (boardOf b) ws ts w (answers w e) h in (
+    λ m. x .0 (given-is (sym e ∙ ap toldVerdict m)),
+    λ a. verdict-determined v (Meets h) (e ∙ ap given (x .1 a)),
+  )
+
+  -- (b) a miss exactly when it shows the least length, the least start and both amounts
+  pub verdict-miss : (w : Verdicts.Verdict) → toldVerdict v ≡ given w → (t s d p : ℕ) →
+      (v ≡ Miss t s d p) ↔ LeastMiss (supplied (boardOf b) ws) (b .frame) (tasksOf ts) t s d p
+  verdict-miss w e t s d p = let x = exact-miss (boardOf b) ws ts w (answers w e) t s d p in (
+    λ m. x .0 (given-is (sym e ∙ ap toldVerdict m)),
+    λ a. verdict-determined v (Miss t s d p) (e ∙ ap given (x .1 a)),
+  )
+
+  -- (c) after "meets", a run of a legal job list with room for its counts is met, and each count of a job due in it is 1 to D
+  pub meets-runs : (h : ℕ) → v ≡ Meets h →
+      (n : ℕ) (js out left : List ℕ) (r : Ran) →
+      toldRan r ≡ runAnswer (boardOf b) ws ts n js (length out) → left ≡ runOut (boardOf b) ws ts n js out →
+      (jobListFault n js orElse jobFault ts n js orElse roomFault (length (jobsOf js)) (length out)) ≡ fine →
+      ((backlog : ℕ) × (r ≡ Met backlog))
+      × ((j : ℕ) → j < length (jobsOf js) → deadline (tasksOf ts) (jobsOf js) j ≤ n →
+      (1 ≤ getD left j 0) × (getD left j 0 ≤ (taskAt (tasksOf ts) (taskOf (jobsOf js) j)) .D))
+  unfolding verdictAnswer jobFault runAnswer runFault runOut ran counts
+  meets-runs h m n js out left r told kept legal =
+      let a = answers (Verdicts.meets h) (ap toldVerdict m) in
+      let checked = unless-given (tableFault (boardOf b) ws orElse groupFault ts orElse cycleFault (boardOf b) ts) _ (Verdicts.meets h) a .0 in
+      let p = orElse-fine (tableFault (boardOf b) ws) (groupFault ts orElse cycleFault (boardOf b) ts) checked in
+      let q = orElse-fine (groupFault ts) (cycleFault (boardOf b) ts) (p .1) in
+      let σ = supplied (boardOf b) ws in
+      let before = edf (tasksOf ts) (jobsOf js) in
+      let f : runFault (boardOf b) ws ts n js (length out) ≡ fine = rw (p .0, q .0, legal) in
+      let e = edf-meets (boardOf b) ws ts h a n (jobsOf js) (faultAt-fine 11 _ (orElse-fine (jobFault ts n js) _ (orElse-fine (jobListFault n js) _ legal .1) .0)) in (
+        (backlog σ before (jobsOf js) n, ran-determined r (Met (backlog σ before (jobsOf js) n)) (told ∙ rw (f, e .0))),
+        λ j l d. rw (kept, f, written-at (counts σ before (tasksOf ts) (jobsOf js) n) out j (rw (listed-length) l)) (e .1 j l d),
+      )
+
+  -- (d) after a miss, no way of giving out the supplied ticks serves all the full jobs that are due by the end of the length
+  pub miss-starves : (t s d p : ℕ) → v ≡ Miss t s d p →
+      (w : Way) → Served (supplied (boardOf b) ws) (tasksOf ts) w s t → ⊥
+  miss-starves t s d p m = starved (boardOf b) ws ts t s d p (answers (Verdicts.miss t s d p) (ap toldVerdict m))

@@ -1,0 +1,66 @@
+// The pending tasks, as a set of the numbers 0 to 31, one bit each.
+ghost use mathlib.Core.Path.{_≡_};
+ghost use Prim.Native.Nat.{_<_};
+ghost use lib.ListN.{length};
+ghost use Rattle.machine.specs.Bits.{added, removed, members, betterOf, pickTo, mem};
+
+pub(crate) struct Pending {
+    pub bits: u32,
+}
+
+impl Pending {
+    pub(crate) fn with(self, i: u32) -> Pending
+        requires { ⌜ i < 32 ⌝ }
+        ensures { λ r. ⌜ r .bits ≡ added (self .bits) i ⌝ }
+    {
+        Pending {
+            bits: self.bits | (1 << i),
+        }
+    }
+
+    pub(crate) fn without(self, i: u32) -> Pending
+        requires { ⌜ i < 32 ⌝ }
+        ensures { λ r. ⌜ r .bits ≡ removed (self .bits) i ⌝ }
+    {
+        let x = self.bits;
+        Pending {
+            bits: x ^ (x & (1 << i)),
+        }
+    }
+
+    // The count of ones.
+    pub(crate) fn count(self) -> u32
+        ensures { λ r. ⌜ r ≡ members (self .bits) ⌝ }
+    {
+        u32::count_ones(self.bits)
+    }
+
+    // The member with the least due number, ties to the lower; 32 if there is none. The trailing zeros are the first index of what is left.
+    pub(crate) fn earliest(self, due: &[u32]) -> u32
+        requires { ⌜ length (now due) ≡ 32 ⌝ }
+        ensures { λ r. ⌜ r ≡ pickTo (mem (self .bits)) (now (due .entry)) 32 ⌝ }
+    {
+        let mut rest = self.bits;
+        let mut best: u32 = 32;
+        while rest != 0 {
+            let i = u32::trailing_zeros(rest);
+            best = better(due, best, i);
+            rest = rest ^ (rest & (1 << i));
+        }
+        best
+    }
+}
+
+// The better of the best so far (32: none) and the candidate n.
+fn better(due: &[u32], b: u32, n: u32) -> u32
+    requires { ⌜ (length (now due) ≡ 32) × (n < 32) ⌝ }
+    ensures { λ r. ⌜ r ≡ betterOf (now (due .entry)) b n ⌝ }
+{
+    if b < 32 {
+        let x = b as usize;
+        let y = n as usize;
+        if due[y] < due[x] { n } else { b }
+    } else {
+        n
+    }
+}
