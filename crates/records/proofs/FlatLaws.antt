@@ -1,0 +1,89 @@
+-- The numbers of a group's first records, as they are written one record after the other
+use mathlib.Core.Path.{_≡_, refl, sym, ap, _∙_}
+use mathlib.Core.List.{List, [], _∷_, _++_, append-assoc}
+use Prim.Native.Nat.{ℕ, zero, suc, _+_, _*_, _<_, _≤_, min}
+use native.Mathlib.Omega.{arith}
+use native.Mathlib.Numerals.{add-one}
+use native.Mathlib.Decide.{decLe}
+use lib.ListN.{length, getD, take, set, length-set, length-map}
+use lib.Seq.{length-take-le, take-suc-set, take-all, take-nil}
+use mir.Val.{Val}
+use denote.Laws.{Is}
+use denote.Struct.Laws as LL
+use Rattle.checker.specs.declared.task.Task.{Task}
+use Rattle.records.specs.declared.flat.Flat.{Flat}
+use Rattle.records.specs.Numbers.{numbersOf}
+use Rattle.records.proofs.flat.Flat as F
+use Rattle.records.proofs.flat.Flat.Laws as F′
+use Rattle.records.proofs.NumberLaws.{none, numbers-length}
+
+-- ---- three numbers more at the end of what is written
+
+one-more : (l : List ℕ) (n m a : ℕ) → m ≡ suc n → n < length l → take m (set l n a) ≡ take n l ++ (a ∷ [])
+one-more l n m a e h = rw e (take-suc-set l n a h)
+
+pub three-more : (l : List ℕ) (n a b c : ℕ) → n + 2 < length l →
+    take (n + 3) (set (set (set l n a) (n + 1) b) (n + 2) c) ≡ take n l ++ (a ∷ b ∷ c ∷ [])
+three-more l n a b c h =
+    let l₁ = set l n a in
+    let l₂ = set l₁ (n + 1) b in
+    let e₁ : length l₁ ≡ length l = length-set l n a in
+    let e₂ : length l₂ ≡ length l₁ = length-set l₁ (n + 1) b in
+    one-more l₂ (n + 2) (n + 3) c (omega arith) (omega arith)
+    ∙ ap (λ (m : List ℕ). m ++ (c ∷ [])) (one-more l₁ (n + 1) (n + 2) b (omega arith) (omega arith) ∙ ap (λ (m : List ℕ). m ++ (b ∷ [])) (one-more l n (n + 1) a (omega arith) (omega arith)))
+    ∙ rw (append-assoc, append-assoc)
+
+-- ---- the numbers of the first i records
+
+-- the numbers of record i, in front of others
+abbrev pub before : Task → List ℕ → List ℕ
+before y l = y .work ∷ y .period ∷ y .deadline ∷ l
+
+numbers-next : (ys : List Task) (i : ℕ) → i < length ys → numbersOf (take (suc i) ys) ≡ numbersOf (take i ys) ++ before (getD ys i none) []
+unfolding numbersOf
+numbers-next [] i h = absurd (omega arith)
+numbers-next (y ∷ ys) zero h = refl
+numbers-next (y ∷ ys) (suc i) h = ap (before y) (numbers-next ys i (omega arith))
+
+pub numbers-more : (ys : List Task) (i : ℕ) → i < length ys → numbersOf (take (i + 1) ys) ≡ numbersOf (take i ys) ++ before (getD ys i none) []
+numbers-more ys i h = rw (add-one i) (numbers-next ys i h)
+
+numbers-take : (ys : List Task) (i : ℕ) → numbersOf (take i ys) ≡ take (3 * i) (numbersOf ys)
+unfolding numbersOf
+numbers-take [] i = ap numbersOf (take-nil i) ∙ sym (take-nil (3 * i))
+numbers-take (y ∷ ys) zero = refl
+numbers-take (y ∷ ys) (suc i) =
+    let e : 3 * suc i ≡ suc (suc (suc (3 * i))) = omega arith in
+    rw e (ap (before y) (numbers-take ys i))
+
+-- 33 records are 99 numbers
+pub enough-is : (ys : List Task) (n : ℕ) → n ≡ min (length ys) 33 → numbersOf (take n ys) ≡ take 99 (numbersOf ys)
+enough-is ys n e =
+    let all = numbers-length ys in
+    numbers-take ys n ∙ elim (decLe 33 (length ys)) [
+      | yes l ↦ let m : 3 * n ≡ 99 = omega arith in ap (λ (k : ℕ). take k (numbersOf ys)) m
+      | no l ↦ take-all (3 * n) (numbersOf ys) (omega arith) ∙ sym (take-all 99 (numbersOf ys) (omega arith))
+    ]
+
+-- ---- what whoever holds a `Flat` knows
+
+abbrev pub flat-vals : Flat → List Val
+flat-vals = LL.vals F.the-type F′.the-laws
+
+pub flat-length : (f : Flat) (vs : List Val) → Is F.the-row f vs → length (f .numbers) ≡ 99
+flat-length f vs is = sym (length-map (f .numbers) (λ v. v)) ∙ LL.owed F.the-type F′.the-laws f vs is .0 .1 .0 .1
+
+-- what is written of it, as it is lent
+abbrev pub front : Flat → List ℕ
+front f = take (f .len) (f .numbers)
+
+-- what `flatten` says of what it returns
+abbrev pub Flattened : List Task → Flat → Type 0
+Flattened ys f = (f .len ≤ 99) × (front f ≡ take 99 (numbersOf ys))
+
+module _ (f : Flat) (vs : List Val) (is : Is F.the-row f vs) (le : f .len ≤ 99) where
+  pub front-within : f .len ≤ length (f .numbers)
+  front-within = omega (arith, flat-length f vs is)
+
+  pub front-length : f .len ≡ length (front f)
+  front-length = sym (length-take-le (f .len) (f .numbers) front-within)

@@ -1,0 +1,79 @@
+-- A group of records is answered as its numbers are, so the demands hold for it too
+use Prim.Native.Nat.{ℕ, _≤_, _<_}
+use mathlib.Core.Path.{_≡_, sym, _∙_}
+use mathlib.Core.Logic.{_↔_}
+use mathlib.Core.List.{List}
+use lib.ListN.{length, getD}
+use Rattle.scope.specs.Ticks.{leastSupply}
+use Rattle.scope.specs.Windows.{supplied}
+use Rattle.scope.specs.Tasks.{tasksOf, taskAt, demand}
+use Rattle.scope.specs.Cycle.{cycle}
+use Rattle.scope.specs.Verdict as Verdicts
+use Rattle.scope.specs.Jobs.{jobsOf, taskOf, deadline}
+use Rattle.scope.specs.Answers.{Answer.given, Fault.fine, _orElse_, jobListFault, jobFault, roomFault, demandAnswer, marginAnswer, verdictAnswer, boundAnswer, runAnswer, runOut}
+use Rattle.scope.specs.Demands.{LeastMiss, Way, Served}
+use Rattle.checker.specs.declared.board.Board.{Board}
+use Rattle.checker.specs.declared.task.Task.{Task}
+use Rattle.checker.specs.declared.answer.Amount.{Amount}
+use Rattle.checker.specs.declared.answer.Margin.{Margin}
+use Rattle.checker.specs.declared.answer.Bound.{Bound}
+use Rattle.checker.specs.declared.answer.Verdict.{Verdict}
+use Rattle.checker.specs.declared.answer.Verdict.the-variants.{Meets, Miss}
+use Rattle.checker.specs.Told.{boardOf, toldAmount, toldMargin, toldVerdict, toldBound}
+use Rattle.checker.specs.Determined.{amount-determined, margin-determined, verdict-determined, bound-determined}
+use Rattle.machine.specs.declared.run.Ran.{Ran}
+use Rattle.machine.specs.declared.run.Ran.the-variants.{Met}
+use Rattle.machine.specs.Told.{toldRan}
+use Rattle.machine.specs.Determined.{ran-determined}
+use Rattle.machine.specs.Demands.{verdict-meets, verdict-miss, meets-runs, miss-starves}
+use Rattle.records.specs.Numbers.{numbersOf}
+
+-- ---- what an entry answers on records, x, and on their numbers, y, is the same: each promises it
+
+module _ (xs : List Task) where
+  pub same-demand : (t : ℕ) (x y : Amount) → toldAmount x ≡ demandAnswer (numbersOf xs) t → toldAmount y ≡ demandAnswer (numbersOf xs) t → x ≡ y
+  same-demand t x y p q = amount-determined x y (p ∙ sym q)
+
+  module _ (b : Board) (ws : List ℕ) where
+    pub same-margin : (t : ℕ) (x y : Margin) →
+        toldMargin x ≡ marginAnswer (boardOf b) ws (numbersOf xs) t → toldMargin y ≡ marginAnswer (boardOf b) ws (numbersOf xs) t → x ≡ y
+    same-margin t x y p q = margin-determined x y (p ∙ sym q)
+
+    pub same-verdict : (x y : Verdict) → toldVerdict x ≡ verdictAnswer (boardOf b) ws (numbersOf xs) → toldVerdict y ≡ verdictAnswer (boardOf b) ws (numbersOf xs) → x ≡ y
+    same-verdict x y p q = verdict-determined x y (p ∙ sym q)
+
+    pub same-bound : (i : ℕ) (x y : Bound) →
+        toldBound x ≡ boundAnswer (boardOf b) ws (numbersOf xs) i → toldBound y ≡ boundAnswer (boardOf b) ws (numbersOf xs) i → x ≡ y
+    same-bound i x y p q = bound-determined x y (p ∙ sym q)
+
+    pub same-run : (n : ℕ) (js : List ℕ) (room : ℕ) (x y : Ran) →
+        toldRan x ≡ runAnswer (boardOf b) ws (numbersOf xs) n js room → toldRan y ≡ runAnswer (boardOf b) ws (numbersOf xs) n js room → x ≡ y
+    same-run n js room x y p q = ran-determined x y (p ∙ sym q)
+
+-- ---- the demands
+
+module _ (b : Board) (ws : List ℕ) (xs : List Task) (v : Verdict) (promised : toldVerdict v ≡ verdictAnswer (boardOf b) ws (numbersOf xs)) where
+  -- (a)
+  pub records-meet : (w : Verdicts.Verdict) → toldVerdict v ≡ given w → (h : ℕ) →
+      (v ≡ Meets h) ↔ ((h ≡ cycle (b .frame) (tasksOf (numbersOf xs)))
+      × ((t : ℕ) → demand (tasksOf (numbersOf xs)) t ≤ leastSupply (supplied (boardOf b) ws) (b .frame) t))
+  records-meet = verdict-meets b ws (numbersOf xs) v promised
+
+  -- (b)
+  pub records-miss : (w : Verdicts.Verdict) → toldVerdict v ≡ given w → (t s d p : ℕ) →
+      (v ≡ Miss t s d p) ↔ LeastMiss (supplied (boardOf b) ws) (b .frame) (tasksOf (numbersOf xs)) t s d p
+  records-miss = verdict-miss b ws (numbersOf xs) v promised
+
+  -- (c)
+  pub records-run : (h : ℕ) → v ≡ Meets h →
+      (n : ℕ) (js out left : List ℕ) (r : Ran) →
+      toldRan r ≡ runAnswer (boardOf b) ws (numbersOf xs) n js (length out) → left ≡ runOut (boardOf b) ws (numbersOf xs) n js out →
+      (jobListFault n js orElse jobFault (numbersOf xs) n js orElse roomFault (length (jobsOf js)) (length out)) ≡ fine →
+      ((backlog : ℕ) × (r ≡ Met backlog))
+      × ((j : ℕ) → j < length (jobsOf js) → deadline (tasksOf (numbersOf xs)) (jobsOf js) j ≤ n →
+      (1 ≤ getD left j 0) × (getD left j 0 ≤ (taskAt (tasksOf (numbersOf xs)) (taskOf (jobsOf js) j)) .D))
+  records-run = meets-runs b ws (numbersOf xs) v promised
+
+  -- (d)
+  pub records-starve : (t s d p : ℕ) → v ≡ Miss t s d p → (w : Way) → Served (supplied (boardOf b) ws) (tasksOf (numbersOf xs)) w s t → ⊥
+  records-starve = miss-starves b ws (numbersOf xs) v promised

@@ -1,0 +1,28 @@
+use crate::flat::Flat;
+use crate::flat::flatten;
+use checker::answer::Bound;
+use checker::board::Board;
+use checker::task::Task;
+ghost use mathlib.Core.Path.{_≡_};
+ghost use Prim.Native.Nat.{_≤_};
+ghost use lib.ListN.{take};
+ghost use Rattle.scope.specs.Answers.{boundAnswer};
+ghost use Rattle.checker.specs.Told.{boardOf, toldBound};
+ghost use Rattle.records.specs.Numbers.{numbersOf};
+
+// The bound of a task among a group's first numbers.
+fn bound_of(board: Board, windows: &[u32], flat: Flat, index: u32) -> Bound
+    requires { ⌜ flat .len ≤ 99 ⌝ }
+    ensures { λ r. ⌜ toldBound r ≡ boundAnswer (boardOf board) (now (windows .entry)) (take (flat .len) (flat .numbers)) index ⌝ }
+{
+    let numbers = flat.numbers;
+    let n = flat.len;
+    checker::bound::bound(board, windows, &numbers[..n], index)
+}
+
+// The response bound of task `index` under fixed priority, lower index first. Refusals 1 2 3 4 (only over 32 tasks) 5 7.
+pub fn bound(board: Board, windows: &[u32], tasks: &[Task], index: u32) -> Bound
+    ensures { λ r. ⌜ toldBound r ≡ boundAnswer (boardOf board) (now (windows .entry)) (numbersOf (now (tasks .entry))) index ⌝ }
+{
+    bound_of(board, windows, flatten(tasks), index)
+}

@@ -1,0 +1,113 @@
+use crate::flat::Flat;
+use crate::flat::flatten;
+use checker::answer::Amount;
+use checker::answer::Margin;
+use checker::answer::Refusal;
+use checker::board::Board;
+use checker::length::Length;
+use checker::task::MadeTask;
+use checker::task::Task;
+ghost use mathlib.Core.Path.{_≡_};
+ghost use Prim.Native.Nat.{_≤_};
+ghost use lib.ListN.{take};
+ghost use Rattle.scope.specs.Tasks.{task, taskLegal, taskDemand};
+ghost use Rattle.scope.specs.Answers.{demandAnswer, marginAnswer};
+ghost use Rattle.checker.specs.Told.{boardOf, toldAmount, toldMargin};
+ghost use Rattle.records.specs.Numbers.{numbersOf};
+ghost use Rattle.records.specs.Sums.{beginOf, addOf, finishOf, Roomy};
+
+// Whether a task keeps its rule.
+fn legal(work: u32, period: u32, deadline: u32) -> bool
+    ensures { λ r. ⌜ r ≡ taskLegal (task work period deadline) ⌝ }
+{
+    match Task::new(work, period, deadline) {
+        MadeTask::Is(_) => true,
+        MadeTask::Refused(_) => false,
+    }
+}
+
+// The demand of one task at a length.
+fn task_demand(work: u32, period: u32, deadline: u32, length: u32) -> u64
+    requires { ⌜ 1 ≤ period ⌝ }
+    ensures { λ r. ⌜ r ≡ taskDemand (task work period deadline) length ⌝ }
+{
+    if length < deadline {
+        return 0;
+    }
+    let jobs = ((length - deadline) / period) as u64 + 1;
+    jobs * work as u64
+}
+
+// Before the first task: over 32 are refused.
+fn begin(count: usize) -> Amount
+    ensures { λ r. ⌜ toldAmount r ≡ beginOf count ⌝ }
+{
+    if Task::MOST < count {
+        return Amount::Refused(Refusal::TaskList);
+    }
+    Amount::Of(0)
+}
+
+// One task more, at place i: it is refused, or its demand is added. A refusal stays.
+fn add(sum: Amount, i: usize, work: u32, period: u32, deadline: u32, length: u32) -> Amount
+    requires { ⌜ Roomy (toldAmount sum) ⌝ }
+    ensures { λ r. ⌜ toldAmount r ≡ addOf (toldAmount sum) i (task work period deadline) length ⌝ }
+{
+    match sum {
+        Amount::Refused(r) => Amount::Refused(r),
+        Amount::Of(n) => {
+            if legal(work, period, deadline) {
+                let more = task_demand(work, period, deadline, length);
+                return Amount::Of(n + more);
+            }
+            let place = i as u64;
+            Amount::Refused(Refusal::Task(place))
+        }
+    }
+}
+
+// After the last task: a length over 1,000,000 is refused.
+fn finish(sum: Amount, length: u32) -> Amount
+    ensures { λ r. ⌜ toldAmount r ≡ finishOf (toldAmount sum) length ⌝ }
+{
+    match sum {
+        Amount::Refused(r) => Amount::Refused(r),
+        Amount::Of(n) => {
+            if Length::LONGEST < length {
+                return Amount::Refused(Refusal::Asked);
+            }
+            Amount::Of(n)
+        }
+    }
+}
+
+// The demand of a group at a length. Refusals 4 (only over 32 tasks) 5 7.
+pub fn demand(tasks: &[Task], length: u32) -> Amount
+    ensures { λ r. ⌜ toldAmount r ≡ demandAnswer (numbersOf (now (tasks .entry))) length ⌝ }
+{
+    let mut sum = begin(tasks.len());
+    let mut i = 0;
+    while i < tasks.len() {
+        let x = tasks[i];
+        sum = add(sum, i, x.work, x.period, x.deadline, length);
+        i += 1;
+    }
+    finish(sum, length)
+}
+
+// The margin of a group's first numbers.
+fn margin_of(board: Board, windows: &[u32], flat: Flat, length: u32) -> Margin
+    requires { ⌜ flat .len ≤ 99 ⌝ }
+    ensures { λ r. ⌜ toldMargin r ≡ marginAnswer (boardOf board) (now (windows .entry)) (take (flat .len) (flat .numbers)) length ⌝ }
+{
+    let numbers = flat.numbers;
+    let n = flat.len;
+    checker::demand::margin(board, windows, &numbers[..n], length)
+}
+
+// Least supply minus demand at a length. Refusals 1 2 3 4 (only over 32 tasks) 5 7.
+pub fn margin(board: Board, windows: &[u32], tasks: &[Task], length: u32) -> Margin
+    ensures { λ r. ⌜ toldMargin r ≡ marginAnswer (boardOf board) (now (windows .entry)) (numbersOf (now (tasks .entry))) length ⌝ }
+{
+    margin_of(board, windows, flatten(tasks), length)
+}
