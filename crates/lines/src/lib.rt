@@ -6,6 +6,7 @@ use checker::answer::Margin;
 use checker::answer::Refusal;
 use checker::answer::Verdict;
 use libc::STDOUT_FILENO;
+use machine::run::Ran;
 ghost use mathlib.Core.Path.{_≡_};
 ghost use lib.IntN.{natAbs};
 
@@ -42,6 +43,8 @@ pub fn refused(r: Refusal) {
         Refusal::Cycle => word(b"REFUSED 6 at 0"),
         Refusal::Asked => word(b"REFUSED 7 at 0"),
         Refusal::Room(n) => part(b"REFUSED 8 at ", n),
+        Refusal::JobList => word(b"REFUSED 10 at 0"),
+        Refusal::Job(i) => part(b"REFUSED 11 at ", i),
     }
 }
 
@@ -111,5 +114,21 @@ pub fn bound(b: Bound) {
         Bound::Of(t) => part(b"BOUND ", t as u64),
         Bound::NoBound => word(b"NO BOUND"),
         Bound::Refused(r) => refused(r),
+    }
+}
+
+pub fn ran(r: Ran) {
+    match r {
+        Ran::Met { backlog } => part(b"MET backlog ", backlog as u64),
+        Ran::Missed {
+            instant,
+            job,
+            backlog,
+        } => {
+            part(b"MISSED instant ", instant as u64);
+            part(b" job ", job as u64);
+            part(b" backlog ", backlog as u64);
+        }
+        Ran::Refused(r) => refused(r),
     }
 }
