@@ -4,3 +4,4 @@ pub mod Relation
 pub mod Told
 pub mod Determined
 pub mod Demands
+pub mod Applied

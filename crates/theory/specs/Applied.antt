@@ -23,25 +23,25 @@ use Rattle.theory.specs.Bound.{exact-bound}
 use Rattle.theory.specs.Edf.{edf-meets}
 use Rattle.theory.specs.Starved.{starved}
 
-abbrev w6 : List ℕ
+abbrev pub w6 : List ℕ
 w6 = 1 ∷ 4 ∷ 4 ∷ 2 ∷ 8 ∷ 6 ∷ []
 
-abbrev w7 : List ℕ
+abbrev pub w7 : List ℕ
 w7 = 1 ∷ 4 ∷ 4 ∷ 2 ∷ 8 ∷ 7 ∷ []
 
 abbrev w11 : List ℕ
 w11 = 1 ∷ 4 ∷ 4 ∷ 1 ∷ 8 ∷ 8 ∷ []
 
-abbrev w13 : List ℕ
+abbrev pub w13 : List ℕ
 w13 = 2 ∷ 0 ∷ 1 ∷ 2 ∷ 1 ∷ 2 ∷ []
 
 -- ---- rows of the table
 
-w6-misses : verdictAnswer (on 8) X w6 ≡ given (miss 6 2 3 2)
+pub w6-misses : verdictAnswer (on 8) X w6 ≡ given (miss 6 2 3 2)
 unfolding reply table
 w6-misses = let e : aVerdict (verdictAnswer (on 8) X w6) ≡ aVerdict (given (miss 6 2 3 2)) = examples .1 .1 .1 .1 .1 .0 in cc
 
-w7-meets : verdictAnswer (on 8) X w7 ≡ given (meets 8)
+pub w7-meets : verdictAnswer (on 8) X w7 ≡ given (meets 8)
 unfolding reply table
 w7-meets = let e : aVerdict (verdictAnswer (on 8) X w7) ≡ aVerdict (given (meets 8)) = examples .1 .1 .1 .1 .1 .1 .1 .1 .0 in cc
 
@@ -52,7 +52,7 @@ w11-bounds =
     examples .1 .1 .1 .1 .1 .1 .1 .1 .1 .1 .1 .1 .0 in
     cc
 
-w13-runs : runAnswer (on 8) X w7 10 w13 3 ≡ given (record { outcome = met; backlog = 2 })
+pub w13-runs : runAnswer (on 8) X w7 10 w13 3 ≡ given (record { outcome = met; backlog = 2 })
 unfolding reply table
 w13-runs =
     let e : aRun (runAnswer (on 8) X w7 10 w13 3) (runOut (on 8) X w7 10 w13 (9 ∷ 9 ∷ 9 ∷ []))

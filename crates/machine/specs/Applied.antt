@@ -1,0 +1,46 @@
+-- The demands at marked examples, of what `verdict` and `run` answer on them
+use mathlib.Core.Path.{_≡_, _∙_}
+use mathlib.Core.List.{List, [], _∷_}
+use Prim.Native.Nat.{ℕ, _≤_}
+use native.Mathlib.Omega.{arith}
+use lib.ListN.{getD}
+use Rattle.scope.specs.Numbers.{threes}
+use Rattle.scope.specs.Windows.{supplied}
+use Rattle.scope.specs.Tasks.{tasksOf}
+use Rattle.scope.specs.Answers.{_orElse_, tableFault, groupFault, jobListFault, jobFault, roomFault, verdictAnswer, runFault, runAnswer, runOut}
+use Rattle.scope.specs.Demands.{Way, Served}
+use Rattle.scope.specs.Examples.{X}
+use Rattle.theory.specs.Answers.{orElse-fine, unless-given}
+use Rattle.theory.specs.Applied.{w6, w7, w13, w6-misses, w7-meets, w13-runs}
+use Rattle.checker.specs.declared.board.Board.{Board}
+use Rattle.checker.specs.declared.answer.Verdict.{Verdict}
+use Rattle.checker.specs.declared.answer.Verdict.the-variants.{Meets, Miss}
+use Rattle.checker.specs.Told.{boardOf, toldVerdict}
+use Rattle.checker.specs.Determined.{verdict-determined}
+use Rattle.machine.specs.declared.run.Ran.{Ran}
+use Rattle.machine.specs.declared.run.Ran.the-variants.{Met}
+use Rattle.machine.specs.Told.{toldRan}
+use Rattle.machine.specs.Demands.{meets-runs, miss-starves}
+
+abbrev board : Board
+board = record { frame = 8 }
+
+-- W7 is let in
+let-in : (v : Verdict) → toldVerdict v ≡ verdictAnswer (boardOf board) X w7 → v ≡ Meets 8
+let-in v p = verdict-determined v (Meets 8) (p ∙ w7-meets)
+
+-- so W13's run is met, and its second job has a count of at most 7
+met-in-time : (v : Verdict) → toldVerdict v ≡ verdictAnswer (boardOf board) X w7 → (r : Ran) (left : List ℕ) →
+    toldRan r ≡ runAnswer (boardOf board) X w7 10 w13 3 → left ≡ runOut (boardOf board) X w7 10 w13 (9 ∷ 9 ∷ 9 ∷ []) →
+    ((backlog : ℕ) × (r ≡ Met backlog)) × (getD left 1 0 ≤ 7)
+unfolding threes runAnswer runFault
+met-in-time v p r left told kept =
+    let fine-run = unless-given (runFault (boardOf board) X w7 10 w13 3) _ _ w13-runs .0 in
+    let after-table = orElse-fine (tableFault (boardOf board) X) (groupFault w7 orElse jobListFault 10 w13 orElse jobFault w7 10 w13 orElse roomFault 2 3) fine-run .1 in
+    let legal = orElse-fine (groupFault w7) (jobListFault 10 w13 orElse jobFault w7 10 w13 orElse roomFault 2 3) after-table .1 in
+    let m = meets-runs board X w7 v p 8 (let-in v p) 10 w13 (9 ∷ 9 ∷ 9 ∷ []) left r told kept legal in
+    (m .0, m .1 1 (omega arith) (omega arith) .1)
+
+-- W6 is turned away, and no way serves its full jobs from start 2
+turned-away : (v : Verdict) → toldVerdict v ≡ verdictAnswer (boardOf board) X w6 → (w : Way) → Served (supplied (boardOf board) X) (tasksOf w6) w 2 6 → ⊥
+turned-away v p = miss-starves board X w6 v p 6 2 3 2 (verdict-determined v (Miss 6 2 3 2) (p ∙ w6-misses))
