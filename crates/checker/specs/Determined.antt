@@ -10,7 +10,7 @@ use Rattle.scope.specs.Bound as Bounds
 use Rattle.scope.specs.Answers as Answers
 use Rattle.scope.specs.Answers.{Fault, Fault.fine, Fault.fault, Answer, Answer.given, Answer.refused}
 use Rattle.checker.specs.declared.answer.Refusal.{Refusal}
-use Rattle.checker.specs.declared.answer.Refusal.the-variants.{WindowList, Frame, Window, TaskList, Task, Cycle, Asked, Room, JobList, Job}
+use Rattle.checker.specs.declared.answer.Refusal.the-variants.{WindowList, Frame, Window, TaskList, Task, Cycle, Asked, Room, Bytes, JobList, Job}
 use Rattle.checker.specs.declared.answer.Checked.{Checked}
 use Rattle.checker.specs.declared.answer.Checked.the-variants.{Fine, Bad}
 use Rattle.checker.specs.declared.answer.Supplied as supplied
@@ -41,8 +41,9 @@ refusalOf n p =
     (cond (eqb n 6) Cycle
     (cond (eqb n 7) Asked
     (cond (eqb n 8) (Room p)
+    (cond (eqb n 9) (Bytes p)
     (cond (eqb n 10) JobList
-    (Job p)))))))))
+    (Job p))))))))))
 
 pub refusal-back : (r : Refusal) → refusalOf (number r) (place r) ≡ r
 refusal-back WindowList = refl
@@ -53,6 +54,7 @@ refusal-back (Task i) = refl
 refusal-back Cycle = refl
 refusal-back Asked = refl
 refusal-back (Room n) = refl
+refusal-back (Bytes o) = refl
 refusal-back JobList = refl
 refusal-back (Job i) = refl
 

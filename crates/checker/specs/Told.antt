@@ -11,7 +11,7 @@ use Rattle.scope.specs.Bound as Bounds
 use Rattle.scope.specs.Answers as Answers
 use Rattle.scope.specs.Answers.{Fault, Fault.fine, Fault.fault, Answer, Answer.given, Answer.refused}
 use Rattle.checker.specs.declared.answer.Refusal.{Refusal}
-use Rattle.checker.specs.declared.answer.Refusal.the-variants.{WindowList, Frame, Window, TaskList, Task, Cycle, Asked, Room, JobList, Job}
+use Rattle.checker.specs.declared.answer.Refusal.the-variants.{WindowList, Frame, Window, TaskList, Task, Cycle, Asked, Room, Bytes, JobList, Job}
 use Rattle.checker.specs.declared.answer.Checked.{Checked}
 use Rattle.checker.specs.declared.answer.Checked.the-variants.{Fine, Bad}
 use Rattle.checker.specs.declared.answer.Supplied as supplied
@@ -55,6 +55,7 @@ number (Task i) = 5
 number Cycle = 6
 number Asked = 7
 number (Room n) = 8
+number (Bytes o) = 9
 number JobList = 10
 number (Job i) = 11
 
@@ -67,6 +68,7 @@ place (Task i) = i
 place Cycle = 0
 place Asked = 0
 place (Room n) = n
+place (Bytes o) = o
 place JobList = 0
 place (Job i) = i
 

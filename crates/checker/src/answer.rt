@@ -13,6 +13,7 @@ pub enum Refusal {
     Cycle,
     Asked,
     Room(u64),
+    Bytes(u64),
     JobList,
     Job(u64),
 }
@@ -25,7 +26,7 @@ pub enum Checked {
 
 impl Checked {
     // The first fault of two: checks are made in the order in which they are written.
-    pub(crate) fn or_else(self, later: Checked) -> Checked
+    pub fn or_else(self, later: Checked) -> Checked
         ensures { λ r. ⌜ faultOf r ≡ (faultOf self orElse faultOf later) ⌝ }
     {
         match self {
@@ -41,7 +42,7 @@ pub enum Supplied {
     Refused(Refusal),
 }
 
-// A least supply, an outage, a demand, a number of windows.
+// A least supply, an outage, a demand, a number of windows or of bytes.
 pub enum Amount {
     Of(u64),
     Refused(Refusal),

@@ -93,7 +93,7 @@ pub(crate) fn task_at(tasks: &[u32], i: usize) -> Task
 }
 
 // Refusal 4.
-fn check_task_list(tasks: &[u32]) -> Checked
+pub fn check_task_list(tasks: &[u32]) -> Checked
     ensures { λ r. ⌜ faultOf r ≡ taskListFault (now (tasks .entry)) ⌝ }
 {
     let numbers = tasks.len();

@@ -81,7 +81,7 @@ fn window_legal(board: Board, windows: &[u32], i: usize) -> bool
 }
 
 // Refusal 1.
-fn check_window_list(windows: &[u32]) -> Checked
+pub fn check_window_list(windows: &[u32]) -> Checked
     ensures { λ r. ⌜ faultOf r ≡ windowListFault (now (windows .entry)) ⌝ }
 {
     let numbers = windows.len();

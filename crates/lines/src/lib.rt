@@ -43,6 +43,7 @@ pub fn refused(r: Refusal) {
         Refusal::Cycle => word(b"REFUSED 6 at 0"),
         Refusal::Asked => word(b"REFUSED 7 at 0"),
         Refusal::Room(n) => part(b"REFUSED 8 at ", n),
+        Refusal::Bytes(o) => part(b"REFUSED 9 at ", o),
         Refusal::JobList => word(b"REFUSED 10 at 0"),
         Refusal::Job(i) => part(b"REFUSED 11 at ", i),
     }

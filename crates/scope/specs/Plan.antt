@@ -1,13 +1,14 @@
--- Document 01, "The plan file and its line": the file.
-use Prim.Native.Nat.{ℕ, zero, suc, _+_, _-_, _*_}
+-- Document 01, "The plan file and its line": the file, read and written.
+use Prim.Native.Nat.{ℕ, zero, suc, _+_, _-_, _*_, _/_, _%_}
 use mathlib.Core.Bool.{Bool, cond, _&&_, _||_}
 use mathlib.Core.Option.{Option, none, some}
 use mathlib.Core.List.{List, [], _∷_, _++_}
 use lib.Dec.{leb, ltb, eqb}
 use lib.ListN.{length, drop}
+use Rattle.scope.specs.Numbers.{written}
 use Rattle.scope.specs.Limits.{mostWindows, mostTasks, mostNumber}
 use Rattle.scope.specs.Verdict.{Verdict}
-use Rattle.scope.specs.Answers.{Fault, Fault.fine, Fault.fault, Answer, Answer.given, Answer.refused, faultIf, unless, verdictAnswer}
+use Rattle.scope.specs.Answers.{Fault, Fault.fine, Fault.fault, Answer, Answer.given, Answer.refused, faultIf, _orElse_, unless, unlessKept, windowListFault, taskListFault, roomFault, verdictAnswer}
 
 -- ---- numbers
 
@@ -82,17 +83,24 @@ taskCountFault n = faultIf (ltb mostTasks n) 4 0
 unfoldable pub restFault : List ℕ → ℕ → Fault
 restFault bytes at = faultIf (ltb at (length bytes)) 9 at
 
+-- task count, tasks, and the end of the file, after P and the windows
+unfoldable pub tasksFrom : List ℕ → ℕ → List ℕ → ℕ → Answer Plan
+tasksFrom bytes frame windows at =
+    orNine (readNumber bytes at) (λ n afterCount.
+    past (taskCountFault n) (
+    orNine (readNumbers bytes (3 * n) afterCount) (λ tasks end.
+    unless (restFault bytes end) (record { frame = frame; windows = windows; tasks = tasks }))))
+
+-- window count and windows, after P
+unfoldable pub windowsFrom : List ℕ → ℕ → ℕ → Answer Plan
+windowsFrom bytes frame at =
+    orNine (readNumber bytes at) (λ m afterCount.
+    past (windowCountFault m) (
+    orNine (readNumbers bytes (2 * m) afterCount) (λ windows afterWindows. tasksFrom bytes frame windows afterWindows)))
+
 -- P, window count, windows, task count, tasks
 unfoldable pub planOf : List ℕ → Answer Plan
-planOf bytes =
-    orNine (readNumber bytes 0) (λ frame afterFrame.
-    orNine (readNumber bytes afterFrame) (λ m afterCount.
-    past (windowCountFault m) (
-    orNine (readNumbers bytes (2 * m) afterCount) (λ windows afterWindows.
-    orNine (readNumber bytes afterWindows) (λ n afterTaskCount.
-    past (taskCountFault n) (
-    orNine (readNumbers bytes (3 * n) afterTaskCount) (λ tasks end.
-    unless (restFault bytes end) (record { frame = frame; windows = windows; tasks = tasks }))))))))
+planOf bytes = orNine (readNumber bytes 0) (λ frame afterFrame. windowsFrom bytes frame afterFrame)
 
 abbrev pub andThen : {A B : Type 0} → Answer A → (A → Answer B) → Answer B
 andThen (given a) f = f a
@@ -101,3 +109,37 @@ andThen (refused number place) f = refused number place
 -- the verdict of a plan file
 unfoldable pub planAnswer : List ℕ → Answer Verdict
 planAnswer bytes = andThen (planOf bytes) (λ p. verdictAnswer (record { frame = p .frame }) (p .windows) (p .tasks))
+
+-- ---- writing
+
+-- the groups of a number, at most f + 1 of them, low group first and the top bit set on every byte but the last
+unfoldable pub numberBytesWithin : ℕ → ℕ → List ℕ
+numberBytesWithin zero n = n ∷ []
+numberBytesWithin (suc f) n = cond (ltb n 128) (n ∷ []) ((128 + n % 128) ∷ numberBytesWithin f (n / 128))
+
+-- the bytes of a number: a 128th of it has one group fewer, so n steps are enough
+unfoldable pub numberBytes : ℕ → List ℕ
+numberBytes n = numberBytesWithin n n
+
+unfoldable pub numbersBytes : List ℕ → List ℕ
+numbersBytes [] = []
+numbersBytes (n ∷ l) = numberBytes n ++ numbersBytes l
+
+-- P, window count, windows, task count, tasks
+unfoldable pub planBytes : Plan → List ℕ
+planBytes p =
+    numberBytes (p .frame)
+    ++ numberBytes (length (p .windows) / 2) ++ numbersBytes (p .windows)
+    ++ numberBytes (length (p .tasks) / 3) ++ numbersBytes (p .tasks)
+
+-- 1 and 4, which are about the counts, then 8; the numbers' ranges are for the reader of the file
+unfoldable pub writeFault : Plan → ℕ → Fault
+writeFault p room =
+    windowListFault (p .windows) orElse taskListFault (p .tasks) orElse roomFault (length (planBytes p)) room
+
+-- how many bytes
+unfoldable pub writeAnswer : Plan → ℕ → Answer ℕ
+writeAnswer p room = unless (writeFault p room) (length (planBytes p))
+
+unfoldable pub writeOut : Plan → List ℕ → List ℕ
+writeOut p out = unlessKept (writeFault p (length out)) (written (planBytes p) out) out
