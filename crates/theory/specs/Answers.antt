@@ -42,7 +42,7 @@ pub unless-given : {A : Type 0} (f : Fault) (a v : A) → unless f a ≡ given v
 unless-given fine a v e = (refl, cc)
 unless-given (fault n p) a v e = let z : _≡_ {A = ℕ} 0 1 = cc in absurd (omega arith)
 
-or-false : (a b : Bool) → (a || b) ≡ false → (a ≡ false) × (b ≡ false)
+pub or-false : (a b : Bool) → (a || b) ≡ false → (a ≡ false) × (b ≡ false)
 or-false true b e = (e, elim b [ true ↦ e | false ↦ refl ])
 or-false false b e = (refl, e)
 
@@ -89,16 +89,22 @@ pub record LegalGroup (ts : List ℕ) : Type 0 where
   pub rules : TaskRules (tasksOf ts)
   pub within : Within (tasksOf ts)
 
+pub task-list-legal : (ts : List ℕ) → taskListFault ts ≡ fine → (length ts % 3 ≡ 0) × (length ts ≤ 3 * mostTasks)
+unfolding taskListFault
+task-list-legal ts e =
+    let l = or-false (not (eqb (length ts % 3) 0)) (ltb (3 * mostTasks) (length ts)) (faultIf-fine _ 4 0 e) in
+    (eqb-true (length ts % 3) 0 (not-false _ (l .0)), ltb-false (3 * mostTasks) (length ts) (l .1))
+
 pub group-legal : (ts : List ℕ) → groupFault ts ≡ fine → LegalGroup ts
-unfolding groupFault taskListFault taskFault
+unfolding groupFault taskFault
 group-legal ts e =
     let p = orElse-fine (taskListFault ts) (taskFault ts) e in
-    let l = or-false (not (eqb (length ts % 3) 0)) (ltb (3 * mostTasks) (length ts)) (faultIf-fine _ 4 0 (p .0)) in
+    let l = task-list-legal ts (p .0) in
     let tasks = faultAt-fine 5 (badTask (tasksOf ts)) (p .1) in
     let r = task-rules (tasksOf ts) tasks in
     record {
-      threes = eqb-true (length ts % 3) 0 (not-false _ (l .0));
-      few = ltb-false (3 * mostTasks) (length ts) (l .1);
+      threes = l .0;
+      few = l .1;
       tasks = tasks;
       rules = r .0;
       within = r .1;

@@ -1,11 +1,11 @@
 -- The theorems at marked examples: their premises are the rows of the table of examples, so none of them is empty
-use mathlib.Core.Path.{_≡_, refl}
+use mathlib.Core.Path.{_≡_, refl, ap, _∙_}
 use mathlib.Core.Option.{some}
-use mathlib.Core.List.{List, [], _∷_}
-use Prim.Native.Nat.{ℕ, zero, suc, _-_, _≤_, _<_}
+use mathlib.Core.List.{List, [], _∷_, _++_}
+use Prim.Native.Nat.{ℕ, zero, suc, _-_, _*_, _≤_, _<_}
 use native.Mathlib.Omega.{arith}
-use lib.ListN.{getD}
-use Rattle.scope.specs.Numbers.{threes, twos}
+use lib.ListN.{length, getD, take, replicate, length-append}
+use Rattle.scope.specs.Numbers.{threes, twos, greatest}
 use Rattle.scope.specs.Ticks.{supply, leastSupply}
 use Rattle.scope.specs.Windows.{inWindow, covers, supplied}
 use Rattle.scope.specs.Tasks.{tasksOf, demand}
@@ -13,8 +13,10 @@ use Rattle.scope.specs.Verdict.{Verdict.meets, Verdict.miss}
 use Rattle.scope.specs.Bound.{Bound.bound, asked}
 use Rattle.scope.specs.Jobs.{jobsOf}
 use Rattle.scope.specs.Machine.{edf}
+use Rattle.scope.specs.Limits.{mostWindows, mostTasks, mostNumber}
+use Rattle.scope.specs.Plan.{Plan, planOf, planAnswer, numberBytesWithin, numberBytes, numbersBytes, planBytes}
 use Rattle.scope.specs.Run.{Outcome.met, outcome, counts}
-use Rattle.scope.specs.Answers.{Answer.given, verdictAnswer, boundAnswer, runAnswer, runOut}
+use Rattle.scope.specs.Answers.{Answer.given, Answer.refused, windowListFault, taskListFault, verdictAnswer, boundAnswer, runAnswer, runOut}
 use Rattle.scope.specs.Demands.{LeastMiss, Way, givenTo, Served}
 use Rattle.scope.specs.Examples.{Reply.aVerdict, Reply.bounds, Reply.aRun, X, on, reply, table, examples}
 use Rattle.theory.specs.Answers.{runs}
@@ -22,6 +24,10 @@ use Rattle.theory.specs.Exact.{exact-meets, exact-miss}
 use Rattle.theory.specs.Bound.{exact-bound}
 use Rattle.theory.specs.Edf.{edf-meets}
 use Rattle.theory.specs.Starved.{starved}
+use Rattle.theory.specs.Writing.{number-one, number-more}
+use Rattle.theory.specs.Seven.{UpTo, up-to-greatest}
+use Rattle.theory.specs.Plan.{mostPlanBytes, first-answer, longest-plan}
+use Rattle.theory.specs.PlanBytes.{Writable, plan-length, round-trip, left-over, only-bytes}
 
 abbrev pub w6 : List ℕ
 w6 = 1 ∷ 4 ∷ 4 ∷ 2 ∷ 8 ∷ 6 ∷ []
@@ -96,3 +102,86 @@ w4-served zero zero l d = omega arith
 w4-served zero (suc zero) l d = omega arith
 w4-served zero (suc (suc m)) l d = absurd (omega arith)
 w4-served (suc i) m l d = absurd (omega arith)
+
+-- ---- the plan file
+
+w6-plan : Plan
+w6-plan = record { frame = 8; windows = X; tasks = w6 }
+
+abbrev w6-file : List ℕ
+w6-file = 8 ∷ 2 ∷ 0 ∷ 2 ∷ 5 ∷ 7 ∷ 2 ∷ 1 ∷ 4 ∷ 4 ∷ 2 ∷ 8 ∷ 6 ∷ []
+
+w6-bytes : planBytes w6-plan ≡ w6-file
+unfolding planBytes numberBytes numberBytesWithin numbersBytes w6-plan
+w6-bytes = refl
+
+w6-writable : Writable w6-plan
+unfolding w6-plan windowListFault taskListFault greatest
+w6-writable =
+    record {
+      frame = omega arith;
+      windows = up-to-greatest mostNumber X (omega arith);
+      tasks = up-to-greatest mostNumber w6 (omega arith);
+      windowList = refl;
+      taskList = refl;
+    }
+
+w6-reads : planOf w6-file ≡ given w6-plan
+w6-reads = rw w6-bytes at (round-trip w6-plan w6-writable)
+
+w6-only : (bytes : List ℕ) → UpTo 255 bytes → planOf bytes ≡ given w6-plan → bytes ≡ w6-file
+w6-only bytes u e = only-bytes bytes w6-plan u e ∙ w6-bytes
+
+-- bytes left over after its 13
+w6-left-over : (b : ℕ) (rest : List ℕ) → planOf (w6-file ++ (b ∷ rest)) ≡ refused 9 13
+w6-left-over b rest = rw w6-bytes at (left-over w6-plan w6-writable b rest)
+
+-- of which a read of 1,128 bytes tells as much as a read of all
+w6-first-bytes : (b : ℕ) (rest : List ℕ) → planAnswer (take (suc mostPlanBytes) (w6-file ++ (b ∷ rest))) ≡ refused 9 13
+unfolding planAnswer
+w6-first-bytes b rest = first-answer (w6-file ++ (b ∷ rest)) (suc mostPlanBytes) (omega arith) ∙ rw (w6-left-over b rest)
+
+-- a plan as long as a plan can be: every number but the two counts takes five bytes
+longest : Plan
+longest = record { frame = mostNumber; windows = replicate (2 * mostWindows) mostNumber; tasks = replicate (3 * mostTasks) mostNumber }
+
+five-for-most : length (numberBytes mostNumber) ≡ 5
+five-for-most =
+    rw (
+      number-more mostNumber (omega arith),
+      number-more 33554431 (omega arith),
+      number-more 262143 (omega arith),
+      number-more 2047 (omega arith),
+      number-one 15 (omega arith),
+    )
+
+five-each : (n : ℕ) → length (numbersBytes (replicate n mostNumber)) ≡ 5 * n
+unfolding numbersBytes
+five-each zero = refl
+five-each (suc n) = omega (arith, length-append (numberBytes mostNumber) (numbersBytes (replicate n mostNumber)), five-for-most, five-each n)
+
+longest-bytes : length (planBytes longest) ≡ mostPlanBytes
+unfolding longest
+longest-bytes = omega (
+  arith,
+  plan-length longest,
+  five-for-most,
+  five-each (2 * mostWindows),
+  five-each (3 * mostTasks),
+  ap length (number-one mostWindows (omega arith)),
+  ap length (number-one mostTasks (omega arith)),
+)
+
+longest-writable : Writable longest
+unfolding longest windowListFault taskListFault greatest
+longest-writable =
+    record {
+      frame = omega arith;
+      windows = up-to-greatest mostNumber (replicate (2 * mostWindows) mostNumber) (omega arith);
+      tasks = up-to-greatest mostNumber (replicate (3 * mostTasks) mostNumber) (omega arith);
+      windowList = refl;
+      taskList = refl;
+    }
+
+longest-most : length (planBytes longest) ≤ mostPlanBytes
+longest-most = longest-plan (planBytes longest) longest (round-trip longest longest-writable)

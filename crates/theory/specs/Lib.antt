@@ -21,4 +21,10 @@ pub mod Machine
 pub mod Run
 pub mod Edf
 pub mod Starved
+pub mod Writing
+pub mod Reading
+pub mod Seven
+pub mod Series
+pub mod Plan
+pub mod PlanBytes
 pub mod Applied
