@@ -1,7 +1,8 @@
 // What the entries answer. specs/Told.antt gives document 01's number, place and values for every case, and the promises go through it.
 ghost use mathlib.Core.Path.{_≡_};
+ghost use lib.IntN.{natAbs};
 ghost use Rattle.scope.specs.Answers.{_orElse_};
-ghost use Rattle.checker.specs.Told.{faultOf};
+ghost use Rattle.checker.specs.Told.{number as numberOf, place as placeOf, faultOf};
 
 // Why an input is refused.
 pub enum Refusal {
@@ -16,6 +17,46 @@ pub enum Refusal {
     Bytes(u64),
     JobList,
     Job(u64),
+}
+
+impl Refusal {
+    // Document 01's number of a refusal.
+    pub fn number(self) -> u64
+        ensures { λ r. ⌜ r ≡ numberOf self ⌝ }
+    {
+        match self {
+            Refusal::WindowList => 1,
+            Refusal::Frame => 2,
+            Refusal::Window(_) => 3,
+            Refusal::TaskList => 4,
+            Refusal::Task(_) => 5,
+            Refusal::Cycle => 6,
+            Refusal::Asked => 7,
+            Refusal::Room(_) => 8,
+            Refusal::Bytes(_) => 9,
+            Refusal::JobList => 10,
+            Refusal::Job(_) => 11,
+        }
+    }
+
+    // Document 01's place of a refusal.
+    pub fn place(self) -> u64
+        ensures { λ r. ⌜ r ≡ placeOf self ⌝ }
+    {
+        match self {
+            Refusal::WindowList => 0,
+            Refusal::Frame => 0,
+            Refusal::Window(i) => i,
+            Refusal::TaskList => 0,
+            Refusal::Task(i) => i,
+            Refusal::Cycle => 0,
+            Refusal::Asked => 0,
+            Refusal::Room(n) => n,
+            Refusal::Bytes(o) => o,
+            Refusal::JobList => 0,
+            Refusal::Job(i) => i,
+        }
+    }
 }
 
 // Whether a check passes.
@@ -57,6 +98,18 @@ pub enum Delay {
 pub enum Margin {
     Of(i64),
     Refused(Refusal),
+}
+
+// A signed number without its sign. -(m + 1) can be had of every negative m.
+pub fn size(m: i64) -> u64
+    ensures { λ r. ⌜ r ≡ natAbs m ⌝ }
+{
+    if m < 0 {
+        let below = 0 - (m + 1);
+        below as u64 + 1
+    } else {
+        m as u64
+    }
 }
 
 pub enum Verdict {

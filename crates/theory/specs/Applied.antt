@@ -105,18 +105,18 @@ w4-served (suc i) m l d = absurd (omega arith)
 
 -- ---- the plan file
 
-w6-plan : Plan
+abbrev pub w6-plan : Plan
 w6-plan = record { frame = 8; windows = X; tasks = w6 }
 
-abbrev w6-file : List ℕ
+abbrev pub w6-file : List ℕ
 w6-file = 8 ∷ 2 ∷ 0 ∷ 2 ∷ 5 ∷ 7 ∷ 2 ∷ 1 ∷ 4 ∷ 4 ∷ 2 ∷ 8 ∷ 6 ∷ []
 
 w6-bytes : planBytes w6-plan ≡ w6-file
-unfolding planBytes numberBytes numberBytesWithin numbersBytes w6-plan
+unfolding planBytes numberBytes numberBytesWithin numbersBytes
 w6-bytes = refl
 
 w6-writable : Writable w6-plan
-unfolding w6-plan windowListFault taskListFault greatest
+unfolding windowListFault taskListFault greatest
 w6-writable =
     record {
       frame = omega arith;
@@ -126,7 +126,7 @@ w6-writable =
       taskList = refl;
     }
 
-w6-reads : planOf w6-file ≡ given w6-plan
+pub w6-reads : planOf w6-file ≡ given w6-plan
 w6-reads = rw w6-bytes at (round-trip w6-plan w6-writable)
 
 w6-only : (bytes : List ℕ) → UpTo 255 bytes → planOf bytes ≡ given w6-plan → bytes ≡ w6-file

@@ -1,0 +1,50 @@
+use Rattle.checker.proofs.Signs.{Steps, steps, read, not-negative}
+use mir.ValLaws.{toZ-ofZ}
+use mir.Val.{toZ, ofZ}
+use mir.Syntax.{w64}
+use lib.IntN.{natAbs}
+use mathlib.Core.Path.{_≡_, ap}
+use native.Mathlib.Omega.{arith}
+use Rattle.checker.proofs.answer.size.Statement.{statement}
+use Rattle.checker.proofs.answer.size.Tie as tie
+use Rattle.checker.proofs.answer.size.Reads as reads
+use Rattle.checker.proofs.answer.size.Lts as lts
+
+-- what is lent comes back as it was stored
+kept : (c : tie.Start) → toZ w64 (ofZ w64 (c .args .m)) ≡ c .args .m
+kept c = toZ-ofZ w64 (c .args .m) (c .fits .m)
+
+negative : (c : tie.Then1) → Steps (c .before .args .m)
+negative c = steps _ (c .before .fits .m) (rw (kept (c .before)) at (c .if1 .taken))
+
+-- src/answer.rt:108:26
+add-below : tie.Need-add-below
+add-below c = rw (kept (c .before)) (negative c .one)
+
+-- src/answer.rt:108:21
+sub-below : tie.Need-sub-below
+sub-below c = rw (kept (c .before), negative c .is) (record { sfits = negative c .small })
+
+-- src/answer.rt:109:9
+cast-result : tie.Need-cast-result
+cast-result c = rw (kept (c .before), read _ (negative c)) (tt, omega (arith, negative c .small))
+
+-- src/answer.rt:109:9
+add-result : tie.Need-add-result
+add-result c = rw (kept (c .before), read _ (negative c)) (omega (arith, negative c .small))
+
+-- src/answer.rt:111:9
+cast-result-2 : tie.Need-cast-result-2
+cast-result-2 c = let p = not-negative _ (c .before .fits .m) (rw (kept (c .before)) at (c .if1 .left)) in rw (kept (c .before)) (p .0, omega (arith, p .1))
+
+-- src/answer.rt:104:1
+returns : tie.Need-returns
+returns c = rw (kept (c .before), read _ (negative c)) (negative c .size)
+
+-- src/answer.rt:104:1
+returns-2 : tie.Need-returns-2
+returns-2 c = ap natAbs (kept (c .before))
+
+pub size-spec : {M : Type 1} → statement M
+size-spec =
+    tie.close (tie.spec add-below sub-below cast-result add-result cast-result-2 returns returns-2)

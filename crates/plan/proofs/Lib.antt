@@ -1,0 +1,4 @@
+pub mod NumberLaws
+pub mod CheckLaws
+pub mod PutLaws
+pub mod WriteLaws

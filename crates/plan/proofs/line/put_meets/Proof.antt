@@ -1,0 +1,45 @@
+use Rattle.scope.specs.Line.{line}
+use borrow.Author.Needs.{needs}
+use Rattle.plan.proofs.PutLaws.{both}
+use Rattle.plan.proofs.line.put_meets.Statement.{statement}
+use Rattle.plan.proofs.line.put_meets.Tie as tie
+use Rattle.plan.proofs.line.put_meets.Reads as reads
+use Rattle.plan.proofs.line.put_meets.Lts as lts
+use Rattle.plan.proofs.line.put_part.Reads as put-part-reads
+use Rattle.plan.proofs.text.put.Reads as put-reads
+
+-- src/line.rt:67:32
+slice-aggregate-put-part : tie.Need-slice-aggregate-put-part
+slice-aggregate-put-part c = search needs
+
+-- src/line.rt:67:9
+put-part-requires : tie.Need-put-part-requires
+put-part-requires c κs = search needs
+
+-- src/line.rt:68:19
+slice-aggregate-put : tie.Need-slice-aggregate-put
+slice-aggregate-put c = search needs
+
+-- src/line.rt:68:5
+put-requires : tie.Need-put-requires
+put-requires c κs = search needs
+
+-- src/line.rt:62:1
+same-length : tie.Need-same-length
+same-length c = search needs
+
+-- src/line.rt:62:1
+returns : tie.Need-returns
+unfolding line
+returns c = (both (c .before .before .before .before .before .before .before .put-part .ensures .0) (c .before .before .put .ensures), search needs)
+
+pub put-meets-spec : {M : Type 1} → statement M
+put-meets-spec =
+    tie.close
+    (tie.spec
+    slice-aggregate-put-part
+    put-part-requires
+    slice-aggregate-put
+    put-requires
+    same-length
+    returns)

@@ -1,0 +1,80 @@
+use Rattle.scope.specs.Line.{bytes, line}
+use borrow.Author.Needs.{needs}
+use Rattle.plan.proofs.PutLaws.{both, both-of}
+use Rattle.plan.proofs.line.put_miss.Statement.{statement}
+use Rattle.plan.proofs.line.put_miss.Tie as tie
+use Rattle.plan.proofs.line.put_miss.Reads as reads
+use Rattle.plan.proofs.line.put_miss.Lts as lts
+use Rattle.plan.proofs.line.put_part.Reads as put-part-reads
+use Rattle.plan.proofs.text.put.Reads as put-reads
+
+-- src/line.rt:81:30
+slice-aggregate-put-part : tie.Need-slice-aggregate-put-part
+slice-aggregate-put-part c = search needs
+
+-- src/line.rt:81:9
+put-part-requires : tie.Need-put-part-requires
+put-part-requires c κs = search needs
+
+-- src/line.rt:82:30
+slice-aggregate-put-part-2 : tie.Need-slice-aggregate-put-part-2
+slice-aggregate-put-part-2 c = search needs
+
+-- src/line.rt:82:9
+put-part-requires-2 : tie.Need-put-part-requires-2
+put-part-requires-2 c κs = search needs
+
+-- src/line.rt:83:30
+slice-aggregate-put-part-3 : tie.Need-slice-aggregate-put-part-3
+slice-aggregate-put-part-3 c = search needs
+
+-- src/line.rt:83:9
+put-part-requires-3 : tie.Need-put-part-requires-3
+put-part-requires-3 c κs = search needs
+
+-- src/line.rt:84:32
+slice-aggregate-put-part-4 : tie.Need-slice-aggregate-put-part-4
+slice-aggregate-put-part-4 c = search needs
+
+-- src/line.rt:84:9
+put-part-requires-4 : tie.Need-put-part-requires-4
+put-part-requires-4 c κs = search needs
+
+-- src/line.rt:85:19
+slice-aggregate-put : tie.Need-slice-aggregate-put
+slice-aggregate-put c = search needs
+
+-- src/line.rt:85:5
+put-requires : tie.Need-put-requires
+put-requires c κs = search needs
+
+-- src/line.rt:76:1
+same-length : tie.Need-same-length
+same-length c = search needs
+
+-- src/line.rt:76:1
+returns : tie.Need-returns
+unfolding line
+returns c =
+    let p₁ = c .before .before .before .before .before .before .before .before .before .before .before .before .before .before .before .before .before .before .before .before .before .before .put-part .ensures .0 in
+    let p₂ = c .before .before .before .before .before .before .before .before .before .before .before .before .before .before .before .before .before .put-part2 .ensures .0 in
+    let p₃ = c .before .before .before .before .before .before .before .before .before .before .before .before .put-part3 .ensures .0 in
+    let p₄ = c .before .before .before .before .before .before .before .put-part4 .ensures .0 in
+    (both (both-of (bytes " supply ") _ (both-of (bytes " demand ") _ (both-of (bytes " start ") _ p₁ p₂) p₃) p₄) (c .before .before .put .ensures), search needs)
+
+pub put-miss-spec : {M : Type 1} → statement M
+put-miss-spec =
+    tie.close
+    (tie.spec
+    slice-aggregate-put-part
+    put-part-requires
+    slice-aggregate-put-part-2
+    put-part-requires-2
+    slice-aggregate-put-part-3
+    put-part-requires-3
+    slice-aggregate-put-part-4
+    put-part-requires-4
+    slice-aggregate-put
+    put-requires
+    same-length
+    returns)

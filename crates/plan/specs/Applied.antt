@@ -1,0 +1,68 @@
+-- The demands at the plan files of W6 and W7, of what `check_plan` and `run` answer on them
+use mathlib.Core.Path.{_≡_, refl, ap, _∙_}
+use mathlib.Core.List.{List, [], _∷_}
+use Prim.Native.Nat.{ℕ, _≤_}
+use native.Mathlib.Omega.{arith}
+use lib.ListN.{getD}
+use Rattle.scope.specs.Numbers.{threes, all, firstBy}
+use Rattle.scope.specs.Ticks.{leastSupply}
+use Rattle.scope.specs.Windows.{supplied}
+use Rattle.scope.specs.Tasks.{tasksOf, demand}
+use Rattle.scope.specs.Verdict as Verdicts
+use Rattle.scope.specs.Jobs.{jobLegal, badJob}
+use Rattle.scope.specs.Answers.{Answer.given, Fault.fine, _orElse_, jobListFault, jobFault, roomFault, runAnswer, runOut}
+use Rattle.scope.specs.Plan.{Plan, groups, wellFormed, readNumber, readNumbers, windowCountFault, taskCountFault, restFault, tasksFrom, windowsFrom, planOf, planAnswer}
+use Rattle.scope.specs.Demands.{LeastMiss, Way, Served}
+use Rattle.scope.specs.Examples.{X, on}
+use Rattle.theory.specs.Applied.{w6, w7, w13, w6-misses, w7-meets, w6-plan, w6-file, w6-reads}
+use Rattle.checker.specs.declared.answer.Verdict.{Verdict}
+use Rattle.checker.specs.declared.answer.Verdict.the-variants.{Meets, Miss}
+use Rattle.checker.specs.Told.{toldVerdict}
+use Rattle.checker.specs.Determined.{verdict-determined}
+use Rattle.machine.specs.declared.run.Ran.{Ran}
+use Rattle.machine.specs.declared.run.Ran.the-variants.{Met}
+use Rattle.machine.specs.Told.{toldRan}
+use Rattle.plan.specs.Demands.{plan-verdict, plan-meets, plan-miss, plan-runs, plan-starves}
+
+abbrev w7-plan : Plan
+w7-plan = record { frame = 8; windows = X; tasks = w7 }
+
+abbrev w7-file : List ℕ
+w7-file = 8 ∷ 2 ∷ 0 ∷ 2 ∷ 5 ∷ 7 ∷ 2 ∷ 1 ∷ 4 ∷ 4 ∷ 2 ∷ 8 ∷ 7 ∷ []
+
+w7-read : planOf w7-file ≡ given w7-plan
+unfolding groups wellFormed readNumber readNumbers windowCountFault taskCountFault restFault tasksFrom windowsFrom planOf
+w7-read = refl
+
+w13-legal : (jobListFault 10 w13 orElse jobFault w7 10 w13 orElse roomFault 2 3) ≡ fine
+unfolding threes all firstBy jobLegal badJob jobListFault jobFault roomFault
+w13-legal = refl
+
+module _ (v : Verdict) (promised : toldVerdict v ≡ planAnswer w7-file) where
+  let-in : v ≡ Meets 8
+  let-in = verdict-determined v (Meets 8) (plan-verdict w7-file w7-plan w7-read v promised ∙ w7-meets)
+
+  -- (a) at every length without limit
+  carried : (t : ℕ) → demand (tasksOf w7) t ≤ leastSupply (supplied (on 8) X) 8 t
+  carried = plan-meets w7-file w7-plan w7-read v promised (Verdicts.meets 8) (ap toldVerdict let-in) 8 .0 let-in .1
+
+  -- (c) W13's run is met, and its second job has a count of at most 7
+  met-in-time : (r : Ran) (left : List ℕ) →
+      toldRan r ≡ runAnswer (on 8) X w7 10 w13 3 → left ≡ runOut (on 8) X w7 10 w13 (9 ∷ 9 ∷ 9 ∷ []) →
+      ((backlog : ℕ) × (r ≡ Met backlog)) × (getD left 1 0 ≤ 7)
+  unfolding threes
+  met-in-time r left told kept =
+      let m = plan-runs w7-file w7-plan w7-read v promised 8 let-in 10 w13 (9 ∷ 9 ∷ 9 ∷ []) left r told kept w13-legal in
+      (m .0, m .1 1 (omega arith) (omega arith) .1)
+
+module _ (v : Verdict) (promised : toldVerdict v ≡ planAnswer w6-file) where
+  turned-away : v ≡ Miss 6 2 3 2
+  turned-away = verdict-determined v (Miss 6 2 3 2) (plan-verdict w6-file w6-plan w6-reads v promised ∙ w6-misses)
+
+  -- (b) the least length, its least start and both amounts
+  shown : LeastMiss (supplied (on 8) X) 8 (tasksOf w6) 6 2 3 2
+  shown = plan-miss w6-file w6-plan w6-reads v promised (Verdicts.miss 6 2 3 2) (ap toldVerdict turned-away) 6 2 3 2 .0 turned-away
+
+  -- (d) no way serves its full jobs from start 2
+  unserved : (w : Way) → Served (supplied (on 8) X) (tasksOf w6) w 2 6 → ⊥
+  unserved = plan-starves w6-file w6-plan w6-reads v promised 6 2 3 2 turned-away
