@@ -8,7 +8,7 @@ use native.Mathlib.Decide.{decLe}
 use lib.ListN.{length, take}
 use lib.Seq.{length-take-le, take-all}
 use Rattle.scope.specs.Windows.{Board}
-use Rattle.scope.specs.Answers.{Fault, Fault.fine, Fault.fault, _orElse_, unless, unlessKept, tableFault, groupFault, marginAnswer, verdictAnswer, boundAnswer, runFault, runAnswer, runOut}
+use Rattle.scope.specs.Answers.{Fault, Fault.fine, Fault.fault, _orElse_, unless, unlessKept, tableFault, groupFault, demandAnswer, marginAnswer, verdictAnswer, boundAnswer, runFault, runAnswer, runOut}
 use Rattle.checker.specs.declared.task.Task.{Task}
 use Rattle.checker.proofs.FaultLaws.{or-fault}
 use Rattle.checker.proofs.TaskLaws.{too-many}
@@ -61,6 +61,10 @@ module _ (ys : List Task) where
       go : Enough → answer some ≡ answer all
       go (inl e) = ap answer e
       go (inr e) = refused (e .0) (e .1)
+
+  pub enough-demand : (t : ℕ) → demandAnswer some t ≡ demandAnswer all t
+  unfolding demandAnswer
+  enough-demand t = by-enough (λ ts. demandAnswer ts t) (λ e e′. no-value fine _ _ _ _ e e′ _ _)
 
   module _ (b : Board) (ws : List ℕ) where
     pub enough-margin : (t : ℕ) → marginAnswer b ws some t ≡ marginAnswer b ws all t

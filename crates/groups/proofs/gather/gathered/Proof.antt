@@ -1,0 +1,78 @@
+use borrow.Author.Needs.{needs}
+use native.Mathlib.Omega.{arith}
+use Prim.Native.Nat.{ℕ, _-_, _≤_}
+use lib.ListN.{length, take}
+use Rattle.groups.specs.Records.{recordsOf, enough}
+use Rattle.groups.proofs.RecordLaws.{record-more}
+use mathlib.Core.Path.{_≡_, sym, ap, _∙_}
+use Rattle.groups.proofs.gather.gathered.Statement.{statement}
+use Rattle.groups.proofs.gather.gathered.Tie as tie
+
+abbrev Inv-loop : tie.InvT-loop
+Inv-loop numbers tasks₀ n i₀ tasks i = (i ≤ n) × (length tasks ≡ 33) × (take i tasks ≡ take i (recordsOf numbers))
+
+abbrev μ-loop : tie.MeasureT-loop
+μ-loop numbers tasks₀ n i₀ tasks i = n - i
+
+-- src/gather.rt:42:9
+count-requires : tie.Need-count-requires Inv-loop μ-loop
+count-requires c κs = search needs
+
+-- src/gather.rt:44:5
+loop-holds : tie.Need-loop-holds Inv-loop μ-loop
+loop-holds c = search needs
+
+-- src/gather.rt:45:20
+record-at-requires : tie.Need-record-at-requires Inv-loop μ-loop
+record-at-requires c κs = search needs
+
+-- src/gather.rt:45:9
+mul-tasks : tie.Need-mul-tasks Inv-loop μ-loop
+mul-tasks c = search needs
+
+-- src/gather.rt:45:9
+array-set-from-tasks : tie.Need-array-set-from-tasks Inv-loop μ-loop
+array-set-from-tasks c = search needs
+
+-- src/gather.rt:46:9
+add-i : tie.Need-add-i Inv-loop μ-loop
+add-i c = search needs
+
+-- src/gather.rt:44:5
+loop-less : tie.Need-loop-less Inv-loop μ-loop
+loop-less c = search needs
+
+-- src/gather.rt:44:5
+loop-again : tie.Need-loop-again Inv-loop μ-loop
+loop-again c =
+    let start = c .before .before in
+    let l = start .loop in
+    let n : start .before .count .result ≡ enough (start .before .before .before .args .numbers .now) = start .before .count .ensures in
+    let less = c .before .loop-test .taken in
+    (omega arith, search needs, record-more (start .before .before .before .args .numbers .now) (l .tasks) (l .i) (c .record-at .result) (omega arith) (omega (arith, l .inv .1)) (c .record-at .ensures) (l .inv .2))
+
+-- src/gather.rt:34:1
+returns : tie.Need-returns Inv-loop μ-loop
+returns c =
+    let start = c .before in
+    let ns = start .before .before .before .args .numbers .now in
+    let n : start .before .count .result ≡ enough ns = start .before .count .ensures in
+    let over = c .loop-test .left in
+    let i : start .loop .i ≡ enough ns = omega (arith, start .loop .inv .0) in
+    ap (λ (k : ℕ). take k (start .loop .tasks)) (sym i) ∙ start .loop .inv .2 ∙ ap (λ (k : ℕ). take k (recordsOf ns)) i
+
+pub gathered-spec : {M : Type 1} → statement M
+gathered-spec =
+    tie.close
+    (tie.spec
+    Inv-loop
+    μ-loop
+    count-requires
+    loop-holds
+    record-at-requires
+    mul-tasks
+    array-set-from-tasks
+    add-i
+    loop-less
+    loop-again
+    returns)

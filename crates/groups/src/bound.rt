@@ -1,0 +1,27 @@
+use crate::gather::count;
+use crate::gather::gathered;
+use checker::answer::Bound;
+use checker::board::Board;
+use checker::task::Task;
+ghost use mathlib.Core.Path.{_≡_};
+ghost use Prim.Native.Nat.{_≤_};
+ghost use lib.ListN.{take};
+ghost use Rattle.scope.specs.Answers.{boundAnswer};
+ghost use Rattle.checker.specs.Told.{boardOf, toldBound};
+ghost use Rattle.records.specs.Numbers.{numbersOf};
+ghost use Rattle.groups.specs.Records.{recordsOf};
+
+// The bound of a task among the first records.
+fn bound_of(board: Board, windows: &[u32], tasks: [Task; 33], count: usize, index: u32) -> Bound
+    requires { ⌜ count ≤ 33 ⌝ }
+    ensures { λ r. ⌜ toldBound r ≡ boundAnswer (boardOf board) (now (windows .entry)) (numbersOf (take count tasks)) index ⌝ }
+{
+    records::bound::bound(board, windows, &tasks[..count], index)
+}
+
+// The response bound of task `index` under fixed priority, lower index first. Refusals 1 2 3 4 (only over 32 tasks) 5 7.
+pub fn bound(board: Board, windows: &[u32], numbers: &[u32], index: u32) -> Bound
+    ensures { λ r. ⌜ toldBound r ≡ boundAnswer (boardOf board) (now (windows .entry)) (numbersOf (recordsOf (now (numbers .entry)))) index ⌝ }
+{
+    bound_of(board, windows, gathered(numbers), count(numbers), index)
+}

@@ -1,0 +1,53 @@
+use crate::gather::count;
+use crate::gather::gathered;
+use checker::board::Board;
+use checker::task::Task;
+use machine::run::Ran;
+ghost use mathlib.Core.Path.{_≡_};
+ghost use Prim.Native.Nat.{_≤_};
+ghost use lib.ListN.{length, take};
+ghost use Rattle.scope.specs.Answers.{runAnswer, runOut};
+ghost use Rattle.checker.specs.Told.{boardOf};
+ghost use Rattle.machine.specs.Told.{toldRan};
+ghost use Rattle.records.specs.Numbers.{numbersOf};
+ghost use Rattle.groups.specs.Records.{recordsOf};
+
+// The run of the first records.
+fn run_of(
+    board: Board,
+    windows: &[u32],
+    tasks: [Task; 33],
+    count: usize,
+    n: u32,
+    jobs: &[u32],
+    counts: &mut [u32],
+) -> Ran
+    requires { ⌜ count ≤ 33 ⌝ }
+    ensures answer { λ r. ⌜ toldRan r ≡ runAnswer (boardOf board) (now (windows .entry)) (numbersOf (take count tasks)) n (now (jobs .entry)) (length (now (counts .entry))) ⌝ }
+    ensures buffer { λ _. ⌜ now (counts .exit) ≡ runOut (boardOf board) (now (windows .entry)) (numbersOf (take count tasks)) n (now (jobs .entry)) (now (counts .entry)) ⌝ }
+{
+    records::run::run(board, windows, &tasks[..count], n, jobs, counts)
+}
+
+// Runs a job list of a group on a table for n ticks: the answer, and one count for each job in the lent buffer. Refusals 1 2 3 4 (only over 32 tasks) 5 10 11 8.
+pub fn run(
+    board: Board,
+    windows: &[u32],
+    numbers: &[u32],
+    n: u32,
+    jobs: &[u32],
+    counts: &mut [u32],
+) -> Ran
+    ensures answer { λ r. ⌜ toldRan r ≡ runAnswer (boardOf board) (now (windows .entry)) (numbersOf (recordsOf (now (numbers .entry)))) n (now (jobs .entry)) (length (now (counts .entry))) ⌝ }
+    ensures buffer { λ _. ⌜ now (counts .exit) ≡ runOut (boardOf board) (now (windows .entry)) (numbersOf (recordsOf (now (numbers .entry)))) n (now (jobs .entry)) (now (counts .entry)) ⌝ }
+{
+    run_of(
+        board,
+        windows,
+        gathered(numbers),
+        count(numbers),
+        n,
+        jobs,
+        counts,
+    )
+}
