@@ -1,0 +1,118 @@
+//! What an entry answers: an amount, a verdict or a refusal, and the line of each.
+
+use std::fmt;
+
+/// Document 01, "Refusal numbers". When several hold, the order is 9, 1, 2, 3, 4, 5, 6, 7, 10,
+/// 11, 8: every entry makes the checks it needs one after another in this order.
+#[derive(Clone, Copy, Debug, PartialEq, Eq)]
+pub enum Reason {
+    WindowList = 1,
+    Frame = 2,
+    Window = 3,
+    TaskList = 4,
+    Task = 5,
+    Cycle = 6,
+    Asked = 7,
+    Room = 8,
+    PlanBytes = 9,
+    RunSize = 10,
+    Job = 11,
+}
+
+/// A refusal is a reason and a place.
+#[derive(Clone, Copy, Debug, PartialEq, Eq)]
+pub struct Refusal {
+    pub reason: Reason,
+    pub place: u64,
+}
+
+impl Reason {
+    /// The check of one rule: refuses at `place` where the rule is `broken`.
+    pub fn check(self, broken: bool, place: usize) -> Result<(), Refusal> {
+        if broken {
+            return Err(self.at(place));
+        }
+        Ok(())
+    }
+
+    pub fn at(self, place: usize) -> Refusal {
+        Refusal {
+            reason: self,
+            place: place as u64,
+        }
+    }
+}
+
+#[derive(Clone, Copy, Debug, PartialEq, Eq)]
+pub enum Answer {
+    Amount(u64),
+    Windows(usize),
+    Delay {
+        delay: u64,
+        supplied: u64,
+    },
+    Outage(u64),
+    Demand(u64),
+    Margin(i64),
+    Meets {
+        cycle: u64,
+    },
+    Miss {
+        length: u64,
+        start: u64,
+        demand: u64,
+        supply: u64,
+    },
+    Bound(u64),
+    NoBound,
+    Met {
+        backlog: usize,
+    },
+    Missed {
+        instant: u64,
+        job: usize,
+        backlog: usize,
+    },
+    Refused(Refusal),
+}
+
+impl From<Result<Answer, Refusal>> for Answer {
+    fn from(result: Result<Answer, Refusal>) -> Answer {
+        result.unwrap_or_else(Answer::Refused)
+    }
+}
+
+/// The line without its newline (ISSUE-6, "Lines").
+impl fmt::Display for Answer {
+    fn fmt(&self, f: &mut fmt::Formatter) -> fmt::Result {
+        match self {
+            Answer::Amount(amount) => write!(f, "AMOUNT {amount}"),
+            Answer::Windows(count) => write!(f, "WINDOWS {count}"),
+            Answer::Delay { delay, supplied } => write!(f, "DELAY {delay} of {supplied}"),
+            Answer::Outage(ticks) => write!(f, "OUTAGE {ticks}"),
+            Answer::Demand(demand) => write!(f, "DEMAND {demand}"),
+            Answer::Margin(margin) => write!(f, "MARGIN {margin}"),
+            Answer::Meets { cycle } => write!(f, "MEETS cycle {cycle}"),
+            Answer::Miss {
+                length,
+                start,
+                demand,
+                supply,
+            } => write!(
+                f,
+                "MISS length {length} start {start} demand {demand} supply {supply}"
+            ),
+            Answer::Bound(bound) => write!(f, "BOUND {bound}"),
+            Answer::NoBound => write!(f, "NO BOUND"),
+            Answer::Met { backlog } => write!(f, "MET backlog {backlog}"),
+            Answer::Missed {
+                instant,
+                job,
+                backlog,
+            } => write!(f, "MISSED instant {instant} job {job} backlog {backlog}"),
+            Answer::Refused(Refusal { reason, place }) => {
+                write!(f, "REFUSED {} at {place}", *reason as u8)
+            }
+        }
+    }
+}

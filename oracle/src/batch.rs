@@ -1,0 +1,112 @@
+//! Streams of random queries; some end in a BAD QUERY, some are longer than what is used.
+
+use crate::generate;
+use crate::numbers::{encode, GREATEST};
+use crate::random::Random;
+use crate::spoil;
+use crate::stream::MOST_BYTES;
+
+/// A stream of up to `most` good queries that ends before the bytes that are used do.
+pub fn good_stream(r: &mut Random, most: u64) -> Vec<u8> {
+    let mut bytes = Vec::new();
+    for _ in 0..most {
+        let query = encode(&generate::query(r).numbers());
+        if bytes.len() + query.len() >= MOST_BYTES {
+            break;
+        }
+        bytes.extend(query);
+    }
+    bytes
+}
+
+/// A stream for a comparison: half of them end in a BAD QUERY, a few are too long.
+pub fn any_stream(r: &mut Random, most: u64) -> Vec<u8> {
+    let mut bytes = good_stream(r, most);
+    match r.below(60) {
+        0..=29 => bytes.extend(bad_end(r)),
+        30 => fill_exactly(r, &mut bytes),
+        31 => overflow(r, &mut bytes),
+        _ => {}
+    }
+    bytes
+}
+
+/// Bytes that begin no complete query.
+fn bad_end(r: &mut Random) -> Vec<u8> {
+    let numbers = generate::query(r).numbers();
+    match r.below(4) {
+        0 => {
+            let index = r.index(numbers.len());
+            spoil::with_bad_number(r, &numbers, index)
+        }
+        1 => {
+            let mut cut = encode(&numbers);
+            cut.truncate(1 + r.index(cut.len() - 1));
+            cut
+        }
+        2 => {
+            let code = r.one_of(&[0, 16, 17, 26, 127, 128, 255, 256, GREATEST]);
+            encode(&[&[code], &numbers[1..]].concat())
+        }
+        _ => over_a_limit(r),
+    }
+}
+
+/// A query with a count, a room or a byte over its limit.
+fn over_a_limit(r: &mut Random) -> Vec<u8> {
+    let table: &[u64] = &[8, 2, 0, 8];
+    let jobs: &[u64] = &[10, 3, 2, 0, 1];
+    let (before, limit): (Vec<u64>, u64) = match r.below(12) {
+        0 => (vec![r.between(1, 4), 8], 200),
+        1 => (vec![r.between(6, 9), 8], 200),
+        2 => (vec![r.between(12, 15), 8], 200),
+        3 => (vec![5], 200),
+        4 => ([&[r.between(6, 9)], table].concat(), 200),
+        5 => (vec![11], 40),
+        6 => ([&[r.between(12, 15)], table].concat(), 40),
+        7 => ([&[2], table].concat(), 12_400),
+        8 => ([&[9], table, &[3, 1, 4, 4, 10]].concat(), 12_400),
+        9 => ([&[9], table, &[3, 1, 4, 4], jobs].concat(), 12_400),
+        10 => ([&[15], table, &[1, 1, 4, 4], jobs].concat(), 12_400),
+        _ if r.once_in(2) => (vec![10], 4_096),
+        _ => (vec![10, 3, 8], 255),
+    };
+    let over = r.one_of(&[limit + 1, limit + 1, 2 * limit, GREATEST]);
+    let mut numbers = before;
+    numbers.push(over);
+    // Sometimes what the count announces is there.
+    if over < 500 && r.once_in(2) {
+        numbers.resize(numbers.len() + 3 * over as usize, 1);
+    }
+    encode(&numbers)
+}
+
+/// Queries up to the last byte used, then nothing, or a byte or a query more.
+fn fill_exactly(r: &mut Random, bytes: &mut Vec<u8>) {
+    if bytes.len() + 9 > MOST_BYTES {
+        return;
+    }
+    // Plans of 100 bytes while there is much room, then demands of no tasks, 4 or 3 bytes each.
+    while bytes.len() + 120 < MOST_BYTES {
+        bytes.extend([10, 100]);
+        bytes.extend([1; 100]);
+    }
+    while (MOST_BYTES - bytes.len()) % 3 != 0 {
+        bytes.extend([5, 0, 0x80, 0x01]);
+    }
+    while bytes.len() < MOST_BYTES {
+        bytes.extend([5, 0, 1]);
+    }
+    match r.below(3) {
+        0 => {}
+        1 => bytes.push(r.one_of(&[0, 1, 5, 0x80]) as u8),
+        _ => bytes.extend([5, 0, 1]),
+    }
+}
+
+/// Random queries until there are more bytes than are used.
+fn overflow(r: &mut Random, bytes: &mut Vec<u8>) {
+    while bytes.len() <= MOST_BYTES {
+        bytes.extend(encode(&generate::query(r).numbers()));
+    }
+}

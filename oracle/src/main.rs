@@ -1,0 +1,128 @@
+//! The independent second program of Palikudyom: document 01 read from scratch, by brute force.
+//!
+//! To believe its answers, read `numbers`, `answer`, `table`, `tasks`, `verdict`, `bound`,
+//! `machine` and `plan`, in this order, and `examples`, which are document 01's own; then `query`
+//! and `stream`, which are ISSUE-6's. The other files make streams (`generate`, `spoil`, `batch`,
+//! `enumerate`, `random`, `text`) and compare (`compare`): a fault there can hide a difference in
+//! the first program but can't change an answer.
+
+mod answer;
+mod batch;
+mod bound;
+mod compare;
+mod enumerate;
+#[cfg(test)]
+mod examples;
+mod generate;
+mod machine;
+mod numbers;
+mod plan;
+mod query;
+mod random;
+mod spoil;
+mod stream;
+mod table;
+mod tasks;
+mod text;
+mod verdict;
+
+use std::io::{self, Read, Write};
+use std::process::ExitCode;
+
+const USAGE: &str = "\
+usage: oracle answer < stream       answer a query stream, a line each
+       oracle plan < file           print the line of a plan file
+       oracle encode < text         make a stream of decimal numbers and xHH bytes
+       oracle decode < stream       print a stream as such a text
+       oracle stream SEED COUNT     make a stream of up to COUNT random queries
+       oracle compare SEED COUNT [COMMAND ...]
+                                    compare with a command's answers to random streams
+       oracle enumerate [COMMAND ...]
+                                    compare with its verdicts of every small input
+COMMAND is `tools/run-program ask` unless it is given.
+";
+
+/// The command that answers streams by the first program.
+const FIRST_PROGRAM: [&str; 2] = ["tools/run-program", "ask"];
+
+fn main() -> ExitCode {
+    let arguments: Vec<String> = std::env::args().skip(1).collect();
+    let words: Vec<&str> = arguments.iter().map(String::as_str).collect();
+    match run(&words) {
+        Ok(code) => code,
+        Err(message) => {
+            // Nothing is left to tell an error to if this fails.
+            let _ = write!(io::stderr(), "{message}");
+            ExitCode::from(2)
+        }
+    }
+}
+
+fn run(words: &[&str]) -> Result<ExitCode, String> {
+    match words {
+        ["answer"] => {
+            // One byte beyond those used tells that there are more.
+            let bytes = read_input(stream::MOST_BYTES as u64 + 1)?;
+            let lines = stream::read(&bytes);
+            for line in lines.lines() {
+                write_output(format!("{line}\n").as_bytes())?;
+            }
+        }
+        ["plan"] => {
+            let answer = answer::Answer::from(plan::plan(&read_input(u64::MAX)?));
+            write_output(format!("{answer}\n").as_bytes())?;
+        }
+        ["encode"] => {
+            let text = String::from_utf8_lossy(&read_input(u64::MAX)?).into_owned();
+            let bytes = text::encode(&text).map_err(|error| error + "\n")?;
+            write_output(&bytes)?;
+        }
+        ["decode"] => write_output(text::decode(&read_input(u64::MAX)?).as_bytes())?,
+        ["stream", seed, count] => {
+            let mut random = random::Random::new(number(seed)?);
+            write_output(&batch::good_stream(&mut random, number(count)?))?;
+        }
+        ["compare", seed, count, command @ ..] => {
+            let (seed, count) = (number(seed)?, number(count)?);
+            return compared(compare::random(seed, count, or_first_program(command)));
+        }
+        ["enumerate", command @ ..] => {
+            return compared(compare::enumeration(or_first_program(command)));
+        }
+        _ => return Err(USAGE.to_string()),
+    }
+    Ok(ExitCode::SUCCESS)
+}
+
+fn number(word: &str) -> Result<u64, String> {
+    word.parse().map_err(|_| USAGE.to_string())
+}
+
+fn or_first_program<'a>(command: &'a [&'a str]) -> &'a [&'a str] {
+    match command {
+        [] => &FIRST_PROGRAM,
+        given => given,
+    }
+}
+
+/// Exit status 1 tells that there are differences.
+fn compared(result: io::Result<bool>) -> Result<ExitCode, String> {
+    match result {
+        Ok(true) => Ok(ExitCode::SUCCESS),
+        Ok(false) => Ok(ExitCode::from(1)),
+        Err(error) => Err(format!("oracle: cannot compare: {error}\n")),
+    }
+}
+
+fn read_input(most: u64) -> Result<Vec<u8>, String> {
+    let mut bytes = Vec::new();
+    let read = io::stdin().lock().take(most).read_to_end(&mut bytes);
+    read.map_err(|error| format!("oracle: cannot read: {error}\n"))?;
+    Ok(bytes)
+}
+
+fn write_output(bytes: &[u8]) -> Result<(), String> {
+    let mut out = io::stdout().lock();
+    let written = out.write_all(bytes).and_then(|()| out.flush());
+    written.map_err(|error| format!("oracle: cannot write: {error}\n"))
+}

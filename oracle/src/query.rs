@@ -1,0 +1,214 @@
+//! One query of a stream: its entry and arguments, its numbers and its line (ISSUE-6, "`ask`").
+
+use crate::answer::Answer;
+use crate::numbers::Cursor;
+use crate::table::{self, TableNumbers};
+use crate::tasks::{self, TaskNumbers};
+use crate::{bound, machine, plan, verdict};
+
+pub const MOST_WINDOW_NUMBERS: u64 = 200;
+pub const MOST_TASK_NUMBERS: u64 = 200;
+pub const MOST_JOB_NUMBERS: u64 = 12_400;
+pub const MOST_ROOM: u64 = 12_400;
+pub const MOST_PLAN_BYTES: u64 = 4_096;
+pub const MOST_RECORDS: u64 = 40;
+
+/// What every number of a lent buffer is at entry.
+const AT_ENTRY: u64 = 7;
+
+#[derive(Clone, Debug, PartialEq, Eq)]
+pub enum Query {
+    LeastSupply(TableNumbers, u64),
+    CriticalPartition(TableNumbers, u64),
+    Delay(TableNumbers),
+    Outage(TableNumbers),
+    Demand(TaskNumbers, u64),
+    Margin(TableNumbers, TaskNumbers, u64),
+    Verdict(TableNumbers, TaskNumbers),
+    Bound(TableNumbers, TaskNumbers, u64),
+    Run(RunNumbers),
+    Plan(Vec<u8>),
+}
+
+#[derive(Clone, Debug, PartialEq, Eq)]
+pub struct RunNumbers {
+    pub table: TableNumbers,
+    pub tasks: TaskNumbers,
+    pub ticks: u64,
+    pub jobs: Vec<u64>,
+    pub room: u64,
+}
+
+impl Query {
+    /// Reads one query, or gives the offset of the first number that is bad, missing, an unknown
+    /// code or over its limit.
+    pub fn read(cursor: &mut Cursor) -> Result<Query, usize> {
+        let first = cursor.offset();
+        let code = cursor.number()?;
+        let records = (11..=15).contains(&code);
+        let c = cursor;
+        Ok(match if records { code - 6 } else { code } {
+            1 => Query::LeastSupply(read_table(c)?, c.number()?),
+            2 => Query::CriticalPartition(read_table(c)?, c.number_up_to(MOST_ROOM)?),
+            3 => Query::Delay(read_table(c)?),
+            4 => Query::Outage(read_table(c)?),
+            5 => Query::Demand(read_tasks(c, records)?, c.number()?),
+            6 => Query::Margin(read_table(c)?, read_tasks(c, records)?, c.number()?),
+            7 => Query::Verdict(read_table(c)?, read_tasks(c, records)?),
+            8 => Query::Bound(read_table(c)?, read_tasks(c, records)?, c.number()?),
+            9 => Query::Run(RunNumbers {
+                table: read_table(c)?,
+                tasks: read_tasks(c, records)?,
+                ticks: c.number()?,
+                jobs: read_list(c, MOST_JOB_NUMBERS)?,
+                room: c.number_up_to(MOST_ROOM)?,
+            }),
+            10 => Query::Plan(read_plan_bytes(c)?),
+            _ => return Err(first),
+        })
+    }
+
+    pub fn code(&self) -> u64 {
+        match self {
+            Query::LeastSupply(..) => 1,
+            Query::CriticalPartition(..) => 2,
+            Query::Delay(..) => 3,
+            Query::Outage(..) => 4,
+            Query::Demand(tasks, _) => 5 + records_add(tasks),
+            Query::Margin(_, tasks, _) => 6 + records_add(tasks),
+            Query::Verdict(_, tasks) => 7 + records_add(tasks),
+            Query::Bound(_, tasks, _) => 8 + records_add(tasks),
+            Query::Run(run) => 9 + records_add(&run.tasks),
+            Query::Plan(..) => 10,
+        }
+    }
+
+    /// Its numbers in the stream, the code first: what `read` reads.
+    pub fn numbers(&self) -> Vec<u64> {
+        let mut n = vec![self.code()];
+        match self {
+            Query::Delay(table) | Query::Outage(table) => push_table(&mut n, table),
+            Query::LeastSupply(table, last) | Query::CriticalPartition(table, last) => {
+                push_table(&mut n, table);
+                n.push(*last);
+            }
+            Query::Demand(tasks, length) => {
+                push_tasks(&mut n, tasks);
+                n.push(*length);
+            }
+            Query::Margin(table, tasks, last) | Query::Bound(table, tasks, last) => {
+                push_table(&mut n, table);
+                push_tasks(&mut n, tasks);
+                n.push(*last);
+            }
+            Query::Verdict(table, tasks) => {
+                push_table(&mut n, table);
+                push_tasks(&mut n, tasks);
+            }
+            Query::Run(run) => {
+                push_table(&mut n, &run.table);
+                push_tasks(&mut n, &run.tasks);
+                n.push(run.ticks);
+                push_list(&mut n, run.jobs.iter().copied());
+                n.push(run.room);
+            }
+            Query::Plan(bytes) => push_list(&mut n, bytes.iter().map(|&b| u64::from(b))),
+        }
+        n
+    }
+
+    /// The line that answers it, without its newline.
+    pub fn line(&self) -> String {
+        let result = match self {
+            Query::LeastSupply(table, length) => table::least_supply(table, *length),
+            Query::CriticalPartition(table, room) => {
+                let mut lent = lend(*room);
+                let answer = table::critical_partition(table, &mut lent).into();
+                return with_buffer(answer, &lent);
+            }
+            Query::Delay(table) => table::delay(table),
+            Query::Outage(table) => table::outage(table),
+            Query::Demand(tasks, length) => tasks::demand(tasks, *length),
+            Query::Margin(table, tasks, length) => tasks::margin(table, tasks, *length),
+            Query::Verdict(table, tasks) => verdict::verdict(table, tasks),
+            Query::Bound(table, tasks, index) => bound::bound(table, tasks, *index),
+            Query::Run(run) => {
+                let mut lent = lend(run.room);
+                let r = machine::run(&run.table, &run.tasks, run.ticks, &run.jobs, &mut lent);
+                return with_buffer(r.into(), &lent);
+            }
+            Query::Plan(bytes) => plan::plan(bytes),
+        };
+        Answer::from(result).to_string()
+    }
+}
+
+fn read_list(cursor: &mut Cursor, limit: u64) -> Result<Vec<u64>, usize> {
+    let count = cursor.number_up_to(limit)?;
+    (0..count).map(|_| cursor.number()).collect()
+}
+
+fn read_table(cursor: &mut Cursor) -> Result<TableNumbers, usize> {
+    Ok(TableNumbers {
+        frame: cursor.number()?,
+        windows: read_list(cursor, MOST_WINDOW_NUMBERS)?,
+    })
+}
+
+fn read_tasks(cursor: &mut Cursor, records: bool) -> Result<TaskNumbers, usize> {
+    if !records {
+        return Ok(TaskNumbers::Triples(read_list(cursor, MOST_TASK_NUMBERS)?));
+    }
+    let count = cursor.number_up_to(MOST_RECORDS)?;
+    let record = |_| Ok([cursor.number()?, cursor.number()?, cursor.number()?]);
+    Ok(TaskNumbers::Records(
+        (0..count).map(record).collect::<Result<_, usize>>()?,
+    ))
+}
+
+fn read_plan_bytes(cursor: &mut Cursor) -> Result<Vec<u8>, usize> {
+    let count = cursor.number_up_to(MOST_PLAN_BYTES)?;
+    let byte = |_| Ok(cursor.number_up_to(255)? as u8);
+    (0..count).map(byte).collect()
+}
+
+/// Codes 11 to 15 are 5 to 9 over task records.
+fn records_add(tasks: &TaskNumbers) -> u64 {
+    match tasks {
+        TaskNumbers::Triples(_) => 0,
+        TaskNumbers::Records(_) => 6,
+    }
+}
+
+fn push_list(numbers: &mut Vec<u64>, list: impl ExactSizeIterator<Item = u64>) {
+    numbers.push(list.len() as u64);
+    numbers.extend(list);
+}
+
+fn push_table(numbers: &mut Vec<u64>, table: &TableNumbers) {
+    numbers.push(table.frame);
+    push_list(numbers, table.windows.iter().copied());
+}
+
+fn push_tasks(numbers: &mut Vec<u64>, tasks: &TaskNumbers) {
+    match tasks {
+        TaskNumbers::Triples(triples) => push_list(numbers, triples.iter().copied()),
+        TaskNumbers::Records(records) => {
+            numbers.push(records.len() as u64);
+            numbers.extend(records.iter().flatten());
+        }
+    }
+}
+
+fn lend(room: u64) -> Vec<u64> {
+    vec![AT_ENTRY; room as usize]
+}
+
+fn with_buffer(answer: Answer, lent: &[u64]) -> String {
+    let mut line = format!("{answer} BUFFER");
+    for number in lent {
+        line.push(' ');
+        line.push_str(&number.to_string());
+    }
+    line
+}

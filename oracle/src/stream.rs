@@ -1,0 +1,182 @@
+//! A stream of queries (ISSUE-6, "`ask`").
+
+use crate::numbers::Cursor;
+use crate::query::Query;
+
+/// Only so many bytes of a stream are used.
+pub const MOST_BYTES: usize = 65_536;
+
+/// The complete queries of a stream and, if it has one, the offset of its BAD QUERY.
+pub struct Stream {
+    pub queries: Vec<Query>,
+    pub bad: Option<usize>,
+    /// Where the last complete query ends.
+    pub complete: usize,
+}
+
+pub fn read(bytes: &[u8]) -> Stream {
+    let used = &bytes[..bytes.len().min(MOST_BYTES)];
+    let mut cursor = Cursor::new(used);
+    let mut queries = Vec::new();
+    let mut complete = 0;
+    let mut bad = None;
+    // In a stream with more bytes a further query is always begun: at 65,536 it is missing whole.
+    while bad.is_none() && (!cursor.at_end() || bytes.len() > MOST_BYTES) {
+        match Query::read(&mut cursor) {
+            Ok(query) => {
+                queries.push(query);
+                complete = cursor.offset();
+            }
+            Err(offset) => bad = Some(offset),
+        }
+    }
+    Stream {
+        queries,
+        bad,
+        complete,
+    }
+}
+
+impl Stream {
+    /// The lines that answer it, without their newlines.
+    pub fn lines(&self) -> impl Iterator<Item = String> + '_ {
+        let bad = self.bad.map(|offset| format!("BAD QUERY at {offset}"));
+        self.queries.iter().map(Query::line).chain(bad)
+    }
+}
+
+#[cfg(test)]
+mod tests {
+    use super::*;
+    use crate::numbers::encode;
+
+    fn answers(bytes: &[u8]) -> Vec<String> {
+        read(bytes).lines().collect()
+    }
+
+    fn answer(numbers: &[u64]) -> Vec<String> {
+        answers(&encode(numbers))
+    }
+
+    /// Demand of no tasks at length 0: three bytes.
+    const SHORT: [u8; 3] = [5, 0, 0];
+
+    #[test]
+    fn no_query() {
+        assert!(answers(&[]).is_empty());
+    }
+
+    #[test]
+    fn lines_of_earlier_queries_stand() {
+        assert_eq!(answers(&[5, 0, 0, 0]), ["DEMAND 0", "BAD QUERY at 3"]);
+        assert_eq!(answers(&[5, 0, 0, 5, 0]), ["DEMAND 0", "BAD QUERY at 5"]);
+    }
+
+    #[test]
+    fn unknown_codes() {
+        for code in [0, 16, 17, 127, 128, 4_294_967_295] {
+            assert_eq!(answer(&[code, 0, 0]), ["BAD QUERY at 0"]);
+        }
+    }
+
+    #[test]
+    fn damaged_and_unfinished_numbers() {
+        assert_eq!(answers(&[0x85, 0x00, 0, 0]), ["BAD QUERY at 0"]);
+        assert_eq!(answers(&[5, 0, 0x80, 0x00]), ["BAD QUERY at 2"]);
+        assert_eq!(answers(&[5, 0, 0xff, 0xff]), ["BAD QUERY at 2"]);
+        let too_large = [5, 0, 0x80, 0x80, 0x80, 0x80, 0x10];
+        assert_eq!(answers(&too_large), ["BAD QUERY at 2"]);
+        let greatest = [5, 0, 0xff, 0xff, 0xff, 0xff, 0x0f];
+        assert_eq!(answers(&greatest), ["REFUSED 7 at 0"]);
+    }
+
+    #[test]
+    fn a_stream_that_ends_within_a_query() {
+        let whole = encode(&[9, 8, 2, 0, 300, 3, 1, 4, 4, 10, 3, 2, 0, 1, 1]);
+        for end in 1..whole.len() {
+            // The end of the frame, 300, has two bytes, at 4 and 5.
+            let offset = if end == 5 { 4 } else { end };
+            let bad = format!("BAD QUERY at {offset}");
+            assert_eq!(answers(&whole[..end]), [bad]);
+        }
+    }
+
+    fn list(before: &[u64], count: u64, each: u64, after: &[u64]) -> Vec<u64> {
+        let mut numbers = before.to_vec();
+        numbers.push(count);
+        numbers.extend(std::iter::repeat(each).take(count as usize));
+        numbers.extend(after);
+        numbers
+    }
+
+    #[test]
+    fn counts_at_and_over_their_limits() {
+        let windows = |count| answer(&list(&[4, 8], count, 1, &[]));
+        assert_eq!(windows(200), ["REFUSED 1 at 0"]);
+        assert_eq!(windows(201), ["BAD QUERY at 2"]);
+        let tasks = |count| answer(&list(&[5], count, 1, &[0]));
+        assert_eq!(tasks(200), ["REFUSED 4 at 0"]);
+        assert_eq!(tasks(201), ["BAD QUERY at 1"]);
+        let run = [9, 1, 2, 0, 1, 3, 1, 1, 1, 5];
+        let jobs = |count| answer(&list(&run, count, 1, &[0]));
+        assert_eq!(jobs(12_400), ["REFUSED 10 at 0 BUFFER"]);
+        assert_eq!(jobs(12_401), ["BAD QUERY at 10"]);
+        let room = |room| answer(&[2, 0, 2, 0, 1, room]);
+        let sevens = " 7".repeat(12_400);
+        assert_eq!(room(12_400), [format!("REFUSED 2 at 0 BUFFER{sevens}")]);
+        assert_eq!(room(12_401), ["BAD QUERY at 5"]);
+        assert_eq!(
+            answer(&[&run[..], &[0, 12_401]].concat()),
+            ["BAD QUERY at 11"]
+        );
+        let plan = |count| answer(&list(&[10], count, 0, &[]));
+        assert_eq!(plan(4_096), ["REFUSED 1 at 0"]);
+        assert_eq!(plan(4_097), ["BAD QUERY at 1"]);
+        assert_eq!(answer(&[10, 2, 255, 255]), ["REFUSED 9 at 0"]);
+        assert_eq!(answer(&[10, 2, 255, 256]), ["BAD QUERY at 4"]);
+        let records = |count: u64| {
+            let mut numbers = vec![11, count];
+            numbers.extend(std::iter::repeat(1).take(3 * count as usize));
+            numbers.push(1);
+            answer(&numbers)
+        };
+        assert_eq!(records(0), ["DEMAND 0"]);
+        assert_eq!(records(32), ["DEMAND 32"]);
+        assert_eq!(records(33), ["REFUSED 4 at 0"]);
+        assert_eq!(records(40), ["REFUSED 4 at 0"]);
+        assert_eq!(records(41), ["BAD QUERY at 1"]);
+    }
+
+    #[test]
+    fn only_the_first_65536_bytes_are_used() {
+        // 21,844 short queries take 65,532 bytes; the next takes four and ends the room.
+        let mut bytes = SHORT.repeat(21_844);
+        bytes.extend([5, 0, 0x80, 0x01]);
+        assert_eq!(bytes.len(), MOST_BYTES);
+        let all = answers(&bytes);
+        assert_eq!(all.len(), 21_845);
+        assert!(all.iter().all(|line| line == "DEMAND 0"));
+        // One byte more and the next query is missing whole.
+        bytes.push(5);
+        assert_eq!(answers(&bytes).len(), 21_846);
+        assert_eq!(answers(&bytes)[21_845], "BAD QUERY at 65536");
+        // A number cut by the end is unfinished.
+        let mut cut = SHORT.repeat(21_844);
+        cut.extend([5, 0, 0, 5, 0x80, 0x01]);
+        assert_eq!(answers(&cut)[21_845], "BAD QUERY at 65536");
+        let mut cut = SHORT.repeat(21_844);
+        cut.extend([5, 0, 0x80, 0x80, 0x01]);
+        assert_eq!(answers(&cut)[21_844], "BAD QUERY at 65534");
+    }
+
+    #[test]
+    fn queries_are_read_as_they_are_written() {
+        let mut random = crate::random::Random::new(5);
+        for _ in 0..5_000 {
+            let query = crate::generate::query(&mut random);
+            let stream = read(&encode(&query.numbers()));
+            assert_eq!(stream.bad, None);
+            assert_eq!(stream.queries, [query]);
+        }
+    }
+}

@@ -1,0 +1,253 @@
+//! The window table and what follows from it alone (document 01, "Tables and sizes" and
+//! "Supply and demand").
+
+use crate::answer::{Answer, Reason, Refusal};
+
+pub const MOST_FRAME: u64 = 65_536;
+pub const MOST_WINDOWS: usize = 64;
+/// The greatest length that may be asked (refusal 7).
+pub const MOST_LENGTH: u64 = 1_000_000;
+
+/// A table as it is lent: the frame and a list of numbers that may break every rule.
+#[derive(Clone, Debug, PartialEq, Eq)]
+pub struct TableNumbers {
+    pub frame: u64,
+    pub windows: Vec<u64>,
+}
+
+/// A legal table, tick by tick.
+pub struct Table {
+    frame: usize,
+    /// Whether tick k of the frame is supplied, for k in 0 to P-1.
+    supplied: Vec<bool>,
+    /// How many of the ticks 0 to k-1 are supplied, for k in 0 to 2P.
+    before: Vec<u32>,
+}
+
+impl TableNumbers {
+    /// Refusals 1, 2 and 3.
+    pub fn check(&self) -> Result<Table, Refusal> {
+        let count = self.windows.len();
+        let bad_list = count % 2 == 1 || count == 0 || count / 2 > MOST_WINDOWS;
+        Reason::WindowList.check(bad_list, 0)?;
+        Reason::Frame.check(self.frame < 1 || self.frame > MOST_FRAME, 0)?;
+        let mut previous_end = None;
+        for (index, window) in self.windows.chunks(2).enumerate() {
+            let (start, end) = (window[0], window[1]);
+            let apart = previous_end.map_or(true, |previous| start > previous);
+            let legal = start < end && end <= self.frame && apart;
+            Reason::Window.check(!legal, index)?;
+            previous_end = Some(end);
+        }
+        Ok(self.tick_by_tick())
+    }
+
+    fn tick_by_tick(&self) -> Table {
+        let in_a_window = |tick| self.windows.chunks(2).any(|w| w[0] <= tick && tick < w[1]);
+        let supplied: Vec<bool> = (0..self.frame).map(in_a_window).collect();
+        let mut before = vec![0];
+        let mut total = 0;
+        for &tick in supplied.iter().chain(&supplied) {
+            total += u32::from(tick);
+            before.push(total);
+        }
+        Table {
+            frame: supplied.len(),
+            supplied,
+            before,
+        }
+    }
+}
+
+impl Table {
+    pub fn frame(&self) -> u64 {
+        self.frame as u64
+    }
+
+    /// "Tick k is supplied if k mod P lies in a window."
+    pub fn is_supplied(&self, tick: u64) -> bool {
+        self.supplied[(tick % self.frame()) as usize]
+    }
+
+    /// A, the number of supplied ticks in one frame.
+    pub fn supplied_in_frame(&self) -> u64 {
+        u64::from(self.before[self.frame])
+    }
+
+    /// The supplied ticks among the `length` ticks from each start 0 to P-1: the whole frames in
+    /// the length hold A each, wherever they begin, and the rest is counted.
+    fn supply_from_each_start(&self, length: u64) -> impl Iterator<Item = u32> + '_ {
+        let rest = (length % self.frame()) as usize;
+        let ends = &self.before[rest..rest + self.frame];
+        ends.iter()
+            .zip(&self.before)
+            .map(|(end, start)| end - start)
+    }
+
+    fn supply_of_whole_frames(&self, length: u64) -> u64 {
+        length / self.frame() * self.supplied_in_frame()
+    }
+
+    /// The least supply of a length: the smallest over all starts.
+    pub fn least_supply(&self, length: u64) -> u64 {
+        let least_rest = self.supply_from_each_start(length).min().unwrap_or(0);
+        self.supply_of_whole_frames(length) + u64::from(least_rest)
+    }
+
+    /// The least start whose next `length` ticks hold exactly the least supply.
+    pub fn least_start(&self, length: u64) -> u64 {
+        let least = self.least_supply(length) - self.supply_of_whole_frames(length);
+        let is_least = |supply| u64::from(supply) == least;
+        let start = self.supply_from_each_start(length).position(is_least);
+        start.unwrap_or(0) as u64
+    }
+
+    /// The maximal runs of t in 0 to P-1 where the least supply of t+1 exceeds that of t.
+    pub fn critical_windows(&self) -> Vec<(u64, u64)> {
+        let mut least = LeastSupplies::new(self);
+        let mut windows: Vec<(u64, u64)> = Vec::new();
+        for t in 0..self.frame() {
+            if least.of(t + 1) > least.of(t) {
+                match windows.last_mut() {
+                    Some((_, end)) if *end == t => *end = t + 1,
+                    _ => windows.push((t, t + 1)),
+                }
+            }
+        }
+        windows
+    }
+
+    /// The greatest of A*t - P*(least supply of t) over t in 0 to P; at t = 0 it is 0.
+    pub fn delay(&self) -> u64 {
+        let mut least = LeastSupplies::new(self);
+        let mut greatest = 0;
+        for t in 0..=self.frame() {
+            let short = (self.supplied_in_frame() * t).saturating_sub(self.frame() * least.of(t));
+            greatest = greatest.max(short);
+        }
+        greatest
+    }
+
+    /// The longest run of unsupplied ticks inside one frame, ticks 0 to P-1.
+    pub fn longest_outage(&self) -> u64 {
+        let (mut longest, mut run) = (0, 0);
+        for &supplied in &self.supplied {
+            run = if supplied { 0 } else { run + 1 };
+            longest = longest.max(run);
+        }
+        longest
+    }
+}
+
+/// The least supplies of many lengths, each rest below P counted once and kept.
+pub struct LeastSupplies<'a> {
+    table: &'a Table,
+    of_rest: Vec<u64>,
+}
+
+impl<'a> LeastSupplies<'a> {
+    pub fn new(table: &'a Table) -> Self {
+        LeastSupplies {
+            table,
+            of_rest: Vec::new(),
+        }
+    }
+
+    pub fn of(&mut self, length: u64) -> u64 {
+        let rest = (length % self.table.frame()) as usize;
+        while self.of_rest.len() <= rest {
+            let next = self.table.least_supply(self.of_rest.len() as u64);
+            self.of_rest.push(next);
+        }
+        self.table.supply_of_whole_frames(length) + self.of_rest[rest]
+    }
+}
+
+/// Refusal 7 of an asked length.
+pub fn check_length(length: u64) -> Result<(), Refusal> {
+    Reason::Asked.check(length > MOST_LENGTH, 0)
+}
+
+pub fn least_supply(table: &TableNumbers, length: u64) -> Result<Answer, Refusal> {
+    let table = table.check()?;
+    check_length(length)?;
+    Ok(Answer::Amount(table.least_supply(length)))
+}
+
+/// Writes two numbers a window and keeps the rest of the lent buffer.
+pub fn critical_partition(table: &TableNumbers, lent: &mut [u64]) -> Result<Answer, Refusal> {
+    let windows = table.check()?.critical_windows();
+    let needed = 2 * windows.len();
+    Reason::Room.check(lent.len() < needed, needed)?;
+    for (pair, &(start, end)) in lent.chunks_mut(2).zip(&windows) {
+        pair.copy_from_slice(&[start, end]);
+    }
+    Ok(Answer::Windows(windows.len()))
+}
+
+pub fn delay(table: &TableNumbers) -> Result<Answer, Refusal> {
+    let table = table.check()?;
+    Ok(Answer::Delay {
+        delay: table.delay(),
+        supplied: table.supplied_in_frame(),
+    })
+}
+
+pub fn outage(table: &TableNumbers) -> Result<Answer, Refusal> {
+    Ok(Answer::Outage(table.check()?.longest_outage()))
+}
+
+#[cfg(test)]
+mod tests {
+    use super::*;
+    use crate::random::Random;
+
+    /// Every start, every tick, with no frame taken out of the length.
+    fn counted(table: &Table, start: u64, length: u64) -> u64 {
+        let ticks = start..start + length;
+        ticks.filter(|&tick| table.is_supplied(tick)).count() as u64
+    }
+
+    /// The definitions, word by word, on every table with P up to 8 and lengths up to 3P.
+    #[test]
+    fn supply_counted_tick_by_tick() {
+        for table in crate::enumerate::tables(8) {
+            let table = table.check().unwrap();
+            let frame = table.frame();
+            let mut kept = LeastSupplies::new(&table);
+            for length in 0..=3 * frame {
+                let counts = (0..3 * frame).map(|start| counted(&table, start, length));
+                let least = counts.min().unwrap();
+                assert_eq!(table.least_supply(length), least);
+                assert_eq!(kept.of(length), least);
+                let start = (0..frame).find(|&s| counted(&table, s, length) == least);
+                assert_eq!(table.least_start(length), start.unwrap());
+            }
+        }
+    }
+
+    /// "Its supply from tick 0 and its own least supply both equal the least supply it came
+    /// from."
+    #[test]
+    fn critical_partition_supplies_the_least_supply() {
+        let mut random = Random::new(1);
+        for _ in 0..100 {
+            let lent = crate::generate::legal_table(&mut random);
+            let table = lent.check().unwrap();
+            let pairs = table.critical_windows();
+            if pairs.len() > MOST_WINDOWS {
+                continue;
+            }
+            let critical = TableNumbers {
+                frame: lent.frame,
+                windows: pairs.into_iter().flat_map(|(s, e)| [s, e]).collect(),
+            };
+            let critical = critical.check().unwrap();
+            for length in 0..=2 * lent.frame {
+                let least = table.least_supply(length);
+                assert_eq!(counted(&critical, 0, length), least);
+                assert_eq!(critical.least_supply(length), least);
+            }
+        }
+    }
+}
