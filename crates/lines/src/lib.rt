@@ -1,21 +1,21 @@
-// The lines that programs print, one for each answer, without the newline that ends them.
+// The lines that programs print, one for each answer.
 use checker::answer::Amount;
 use checker::answer::Bound;
 use checker::answer::Delay;
 use checker::answer::Margin;
 use checker::answer::Refusal;
 use checker::answer::Verdict;
+use checker::answer::size;
 use libc::STDOUT_FILENO;
 use machine::run::Ran;
-ghost use mathlib.Core.Path.{_≡_};
-ghost use lib.IntN.{natAbs};
+use plan::line::line;
 
-pub fn word(text: &[u8]) {
+fn word(text: &[u8]) {
     io::write_all(STDOUT_FILENO, text);
 }
 
 // A word, then a number in plain decimals.
-pub fn part(text: &[u8], n: u64) {
+fn part(text: &[u8], n: u64) {
     word(text);
     io::print_decimal(STDOUT_FILENO, n);
 }
@@ -25,7 +25,7 @@ fn wide(n: u32) -> u64 {
 }
 
 // Each number after a space.
-pub fn numbers(list: &[u32]) {
+fn numbers(list: &[u32]) {
     let mut i = 0;
     while i < list.len() {
         part(b" ", wide(list[i]));
@@ -33,28 +33,38 @@ pub fn numbers(list: &[u32]) {
     }
 }
 
-pub fn refused(r: Refusal) {
-    match r {
-        Refusal::WindowList => word(b"REFUSED 1 at 0"),
-        Refusal::Frame => word(b"REFUSED 2 at 0"),
-        Refusal::Window(i) => part(b"REFUSED 3 at ", i),
-        Refusal::TaskList => word(b"REFUSED 4 at 0"),
-        Refusal::Task(i) => part(b"REFUSED 5 at ", i),
-        Refusal::Cycle => word(b"REFUSED 6 at 0"),
-        Refusal::Asked => word(b"REFUSED 7 at 0"),
-        Refusal::Room(n) => part(b"REFUSED 8 at ", n),
-        Refusal::Bytes(o) => part(b"REFUSED 9 at ", o),
-        Refusal::JobList => word(b"REFUSED 10 at 0"),
-        Refusal::Job(i) => part(b"REFUSED 11 at ", i),
+fn refused(r: Refusal) {
+    part(b"REFUSED ", r.number());
+    part(b" at ", r.place());
+}
+
+fn newline() {
+    word(b"\n");
+}
+
+// A lent buffer after the call, and the end of the line.
+fn buffer(list: &[u32]) {
+    word(b" BUFFER");
+    numbers(list);
+    newline();
+}
+
+fn amount_or_refusal(text: &[u8], a: Amount) {
+    match a {
+        Amount::Of(n) => part(text, n),
+        Amount::Refused(r) => refused(r),
     }
 }
 
 // An amount after its word.
 pub fn amount(text: &[u8], a: Amount) {
-    match a {
-        Amount::Of(n) => part(text, n),
-        Amount::Refused(r) => refused(r),
-    }
+    amount_or_refusal(text, a);
+    newline();
+}
+
+pub fn critical(windows: Amount, out: &[u32]) {
+    amount_or_refusal(b"WINDOWS ", windows);
+    buffer(out);
 }
 
 pub fn delay(d: Delay) {
@@ -65,48 +75,34 @@ pub fn delay(d: Delay) {
         }
         Delay::Refused(r) => refused(r),
     }
+    newline();
 }
 
-// A signed number without its sign. -(m + 1) can be had of every negative m.
-fn size(m: i64) -> u64
-    ensures { λ r. ⌜ r ≡ natAbs m ⌝ }
-{
+fn signed(m: i64) {
     if m < 0 {
-        let below = 0 - (m + 1);
-        below as u64 + 1
+        part(b"MARGIN -", size(m));
     } else {
-        m as u64
+        part(b"MARGIN ", size(m));
     }
 }
 
 pub fn margin(m: Margin) {
     match m {
-        Margin::Of(m) => {
-            if m < 0 {
-                part(b"MARGIN -", size(m));
-            } else {
-                part(b"MARGIN ", size(m));
-            }
-        }
+        Margin::Of(m) => signed(m),
         Margin::Refused(r) => refused(r),
     }
+    newline();
 }
 
-pub fn verdict(v: Verdict) {
-    match v {
-        Verdict::Meets { cycle } => part(b"MEETS cycle ", cycle as u64),
-        Verdict::Miss {
-            length,
-            start,
-            demand,
-            supply,
-        } => {
-            part(b"MISS length ", length as u64);
-            part(b" start ", start as u64);
-            part(b" demand ", demand);
-            part(b" supply ", supply as u64);
+// The line of a verdict, as `plan` makes it: at most 86 bytes, of a miss with the largest numbers. Whether it was written.
+pub fn verdict(v: Verdict) -> bool {
+    let mut text = [0u8; 86];
+    match line(v, &mut text) {
+        Amount::Of(n) => {
+            let n = n as usize;
+            io::write_all(STDOUT_FILENO, &text[..n])
         }
-        Verdict::Refused(r) => refused(r),
+        Amount::Refused(_) => false,
     }
 }
 
@@ -116,9 +112,10 @@ pub fn bound(b: Bound) {
         Bound::NoBound => word(b"NO BOUND"),
         Bound::Refused(r) => refused(r),
     }
+    newline();
 }
 
-pub fn ran(r: Ran) {
+pub fn ran(r: Ran, counts: &[u32]) {
     match r {
         Ran::Met { backlog } => part(b"MET backlog ", backlog as u64),
         Ran::Missed {
@@ -132,4 +129,10 @@ pub fn ran(r: Ran) {
         }
         Ran::Refused(r) => refused(r),
     }
+    buffer(counts);
+}
+
+pub fn bad_query(at: u64) {
+    part(b"BAD QUERY at ", at);
+    newline();
 }

@@ -1,0 +1,11 @@
+use borrow.Author.Needs.{needs}
+use Rattle.io.proofs.Counting.{counts}
+use Rattle.ask.proofs.stream.front.Statement.{statement}
+use Rattle.ask.proofs.stream.front.Tie as tie
+
+-- src/stream.rt:71:1
+returns : tie.Need-returns
+returns c = counts _ _ (search needs)
+
+pub front-spec : {M : Type 1} → statement M
+front-spec = tie.close (tie.spec returns)

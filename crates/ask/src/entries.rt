@@ -1,0 +1,309 @@
+// One function for each entry: it reads the entry's arguments, calls it and prints its line; where an argument is bad, it prints nothing. The
+// cursor that it answers stands after the query, or at the bad number.
+use crate::stream::Cursor;
+use crate::stream::Listed;
+use crate::stream::any;
+use crate::stream::bytes;
+use crate::stream::list;
+use crate::stream::records;
+use crate::stream::room;
+use checker::answer::Amount;
+use checker::answer::Bound;
+use checker::answer::Margin;
+use checker::answer::Verdict;
+use checker::board::Board;
+use checker::bound;
+use checker::demand;
+use checker::partition;
+use checker::supply;
+use checker::verdict;
+use machine::run;
+use plan::check::check_plan;
+ghost use mathlib.Core.Path.{_≡_};
+ghost use Prim.Native.Nat.{_≤_};
+ghost use lib.ListN.{length};
+ghost use Rattle.io.specs.Counts.{Counts};
+
+// Windows and tasks: up to 200 numbers.
+const NUMBERS: u32 = 200;
+
+// Jobs and room: up to 12,400 numbers.
+const JOBS: u32 = 12400;
+
+fn numbers() -> [u32; 200]
+    ensures { λ r. ⌜ 200 ≡ length r ⌝ }
+{
+    [0; 200]
+}
+
+fn jobs() -> [u32; 12400]
+    ensures { λ r. ⌜ 12400 ≡ length r ⌝ }
+{
+    [0; 12400]
+}
+
+// What is lent for an entry to write to: each number is 7, so that what is written shows.
+fn lent() -> [u32; 12400]
+    ensures { λ r. ⌜ 12400 ≡ length r ⌝ }
+{
+    [7; 12400]
+}
+
+// ---- entries over a table
+
+pub fn least_supply(stream: &[u8], from: Cursor) -> Cursor {
+    let frame = any(stream, from);
+    let mut windows = numbers();
+    let w = list(stream, frame.after, NUMBERS, &mut windows);
+    let length = any(stream, w.after);
+    let end = length.after;
+    if end.good {
+        let board = Board { frame: frame.value };
+        let count = w.count;
+        lines::amount(
+            b"AMOUNT ",
+            supply::least_supply(board, &windows[..count], length.value),
+        );
+    }
+    end
+}
+
+pub fn critical(stream: &[u8], from: Cursor) -> Cursor {
+    let frame = any(stream, from);
+    let mut windows = numbers();
+    let w = list(stream, frame.after, NUMBERS, &mut windows);
+    let mut out = lent();
+    let room = room(stream, w.after, &out);
+    let end = room.after;
+    if end.good {
+        let board = Board { frame: frame.value };
+        let m = w.count;
+        let n = room.count;
+        critical_into(board, &windows[..m], &mut out[..n]);
+    }
+    end
+}
+
+fn critical_into(board: Board, windows: &[u32], out: &mut [u32]) {
+    let found = partition::critical(board, windows, out);
+    lines::critical(found, out);
+}
+
+pub fn delay(stream: &[u8], from: Cursor) -> Cursor {
+    let frame = any(stream, from);
+    let mut windows = numbers();
+    let w = list(stream, frame.after, NUMBERS, &mut windows);
+    let end = w.after;
+    if end.good {
+        let board = Board { frame: frame.value };
+        let count = w.count;
+        lines::delay(partition::delay(board, &windows[..count]));
+    }
+    end
+}
+
+pub fn outage(stream: &[u8], from: Cursor) -> Cursor {
+    let frame = any(stream, from);
+    let mut windows = numbers();
+    let w = list(stream, frame.after, NUMBERS, &mut windows);
+    let end = w.after;
+    if end.good {
+        let board = Board { frame: frame.value };
+        let count = w.count;
+        lines::amount(b"OUTAGE ", partition::outage(board, &windows[..count]));
+    }
+    end
+}
+
+// ---- entries over a group, which is lent as numbers or as task records
+
+fn group(stream: &[u8], from: Cursor, as_records: bool, out: &mut [u32]) -> Listed
+    requires { ⌜ 200 ≤ length (now out) ⌝ }
+    ensures { λ r. ⌜ Counts (r .count) (now (out .exit)) ⌝ }
+{
+    if as_records {
+        records(stream, from, out)
+    } else {
+        list(stream, from, NUMBERS, out)
+    }
+}
+
+fn demand_of(as_records: bool, tasks: &[u32], length: u32) -> Amount {
+    if as_records {
+        groups::demand::demand(tasks, length)
+    } else {
+        demand::demand(tasks, length)
+    }
+}
+
+pub fn demand(stream: &[u8], from: Cursor, as_records: bool) -> Cursor {
+    let mut tasks = numbers();
+    let t = group(stream, from, as_records, &mut tasks);
+    let length = any(stream, t.after);
+    let end = length.after;
+    if end.good {
+        let n = t.count;
+        lines::amount(b"DEMAND ", demand_of(as_records, &tasks[..n], length.value));
+    }
+    end
+}
+
+fn margin_of(
+    as_records: bool,
+    board: Board,
+    windows: &[u32],
+    tasks: &[u32],
+    length: u32,
+) -> Margin {
+    if as_records {
+        groups::demand::margin(board, windows, tasks, length)
+    } else {
+        demand::margin(board, windows, tasks, length)
+    }
+}
+
+pub fn margin(stream: &[u8], from: Cursor, as_records: bool) -> Cursor {
+    let frame = any(stream, from);
+    let mut windows = numbers();
+    let w = list(stream, frame.after, NUMBERS, &mut windows);
+    let mut tasks = numbers();
+    let t = group(stream, w.after, as_records, &mut tasks);
+    let length = any(stream, t.after);
+    let end = length.after;
+    if end.good {
+        let board = Board { frame: frame.value };
+        let m = w.count;
+        let n = t.count;
+        lines::margin(margin_of(as_records, board, &windows[..m], &tasks[..n], length.value));
+    }
+    end
+}
+
+fn verdict_of(as_records: bool, board: Board, windows: &[u32], tasks: &[u32]) -> Verdict {
+    if as_records {
+        groups::verdict::verdict(board, windows, tasks)
+    } else {
+        verdict::verdict(board, windows, tasks)
+    }
+}
+
+pub fn verdict(stream: &[u8], from: Cursor, as_records: bool) -> Cursor {
+    let frame = any(stream, from);
+    let mut windows = numbers();
+    let w = list(stream, frame.after, NUMBERS, &mut windows);
+    let mut tasks = numbers();
+    let t = group(stream, w.after, as_records, &mut tasks);
+    let end = t.after;
+    if end.good {
+        let board = Board { frame: frame.value };
+        let m = w.count;
+        let n = t.count;
+        lines::verdict(verdict_of(as_records, board, &windows[..m], &tasks[..n]));
+    }
+    end
+}
+
+fn bound_of(as_records: bool, board: Board, windows: &[u32], tasks: &[u32], index: u32) -> Bound {
+    if as_records {
+        groups::bound::bound(board, windows, tasks, index)
+    } else {
+        bound::bound(board, windows, tasks, index)
+    }
+}
+
+pub fn bound(stream: &[u8], from: Cursor, as_records: bool) -> Cursor {
+    let frame = any(stream, from);
+    let mut windows = numbers();
+    let w = list(stream, frame.after, NUMBERS, &mut windows);
+    let mut tasks = numbers();
+    let t = group(stream, w.after, as_records, &mut tasks);
+    let index = any(stream, t.after);
+    let end = index.after;
+    if end.good {
+        let board = Board { frame: frame.value };
+        let m = w.count;
+        let n = t.count;
+        lines::bound(bound_of(as_records, board, &windows[..m], &tasks[..n], index.value));
+    }
+    end
+}
+
+pub fn run(stream: &[u8], from: Cursor, as_records: bool) -> Cursor {
+    let frame = any(stream, from);
+    let mut windows = numbers();
+    let w = list(stream, frame.after, NUMBERS, &mut windows);
+    let mut tasks = numbers();
+    let t = group(stream, w.after, as_records, &mut tasks);
+    let board = Board { frame: frame.value };
+    let m = w.count;
+    let n = t.count;
+    run_jobs(
+        stream,
+        t.after,
+        as_records,
+        board,
+        &windows[..m],
+        &tasks[..n],
+    )
+}
+
+fn run_jobs(
+    stream: &[u8],
+    from: Cursor,
+    as_records: bool,
+    board: Board,
+    windows: &[u32],
+    tasks: &[u32],
+) -> Cursor {
+    let ticks = any(stream, from);
+    let mut jobs = jobs();
+    let j = list(stream, ticks.after, JOBS, &mut jobs);
+    let mut out = lent();
+    let room = room(stream, j.after, &out);
+    let end = room.after;
+    if end.good {
+        let m = j.count;
+        let n = room.count;
+        run_into(
+            as_records,
+            board,
+            windows,
+            tasks,
+            ticks.value,
+            &jobs[..m],
+            &mut out[..n],
+        );
+    }
+    end
+}
+
+fn run_into(
+    as_records: bool,
+    board: Board,
+    windows: &[u32],
+    tasks: &[u32],
+    ticks: u32,
+    jobs: &[u32],
+    counts: &mut [u32],
+) {
+    if as_records {
+        let ran = groups::run::run(board, windows, tasks, ticks, jobs, counts);
+        lines::ran(ran, counts);
+    } else {
+        let ran = run::run(board, windows, tasks, ticks, jobs, counts);
+        lines::ran(ran, counts);
+    }
+}
+
+// ---- a plan
+
+pub fn plan(stream: &[u8], from: Cursor) -> Cursor {
+    let mut plan = io::buffer();
+    let b = bytes(stream, from, &mut plan);
+    let end = b.after;
+    if end.good {
+        let count = b.count;
+        lines::verdict(check_plan(&plan[..count]));
+    }
+    end
+}
