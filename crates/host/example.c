@@ -1,0 +1,186 @@
+/*
+ * Document 01's marked examples, and one refusal of each number, through palikudyom.h: one line an answer. example.query asks the same,
+ * line by line, of the second program, and example.stdout is what that one answers.
+ */
+#include "palikudyom.h"
+#include <stdio.h>
+
+#define LENGTH(list) (sizeof(list) / sizeof((list)[0]))
+#define LIST(list) (list), LENGTH(list)
+#define NONE X, 0 /* an empty list: its pointer is valid too */
+
+/* the table X: a frame of 8 ticks, supplied in 0, 1, 5 and 6 */
+#define FRAME 8
+static const uint32_t X[] = {0, 2, 5, 7};
+
+static const uint32_t W4[] = {1, 4, 4};
+static const uint32_t W5[] = {1, 4, 3};
+static const uint32_t W6[] = {1, 4, 4, 2, 8, 6};
+static const uint32_t W7[] = {1, 4, 4, 2, 8, 7};
+static const uint32_t W8[] = {5, 8, 8};
+static const uint32_t W9[] = {13, 24, 24};
+static const uint32_t W11[] = {1, 4, 4, 1, 8, 8};
+
+static void number(const char *before, uint64_t n)
+{
+    printf("%s%llu", before, (unsigned long long)n);
+}
+
+/* the line of an answer, where an amount is called `amount` */
+static void answer(const char *amount, struct palikudyom_answer x)
+{
+    switch (x.code) {
+    case PALIKUDYOM_REFUSED:
+        number("REFUSED ", x.a);
+        number(" at ", x.b);
+        break;
+    case PALIKUDYOM_AMOUNT:
+        number(amount, x.a);
+        break;
+    case PALIKUDYOM_DELAY:
+        number("DELAY ", x.a);
+        number(" of ", x.b);
+        break;
+    case PALIKUDYOM_MARGIN:
+        number("MARGIN ", x.a);
+        break;
+    case PALIKUDYOM_BELOW:
+        number("MARGIN -", x.a);
+        break;
+    case PALIKUDYOM_MEETS:
+        number("MEETS cycle ", x.a);
+        break;
+    case PALIKUDYOM_MISS:
+        number("MISS length ", x.a);
+        number(" start ", x.b);
+        number(" demand ", x.c);
+        number(" supply ", x.d);
+        break;
+    case PALIKUDYOM_BOUND:
+        number("BOUND ", x.a);
+        break;
+    case PALIKUDYOM_NO_BOUND:
+        printf("NO BOUND");
+        break;
+    case PALIKUDYOM_MET:
+        number("MET backlog ", x.a);
+        break;
+    case PALIKUDYOM_MISSED:
+        number("MISSED instant ", x.a);
+        number(" job ", x.b);
+        number(" backlog ", x.c);
+        break;
+    }
+}
+
+static void line(const char *amount, struct palikudyom_answer x)
+{
+    answer(amount, x);
+    printf("\n");
+}
+
+/* an answer with what it left in the lent buffer */
+static void line_and_buffer(struct palikudyom_answer x, const uint32_t *buffer, size_t room)
+{
+    answer("WINDOWS ", x);
+    printf(" BUFFER");
+    for (size_t i = 0; i < room; i++)
+        number(" ", buffer[i]);
+    printf("\n");
+}
+
+static void verdict(const uint32_t *tasks, size_t tasks_len)
+{
+    line("", palikudyom_verdict(FRAME, LIST(X), tasks, tasks_len));
+}
+
+static void critical(size_t room)
+{
+    uint32_t out[] = {7, 7, 7, 7, 7};
+    struct palikudyom_answer x = palikudyom_critical(FRAME, LIST(X), out, room);
+    line_and_buffer(x, out, room);
+}
+
+static void run(const uint32_t *tasks, size_t tasks_len, uint32_t ticks, const uint32_t *jobs, size_t jobs_len, size_t room)
+{
+    uint32_t counts[] = {7, 7, 7};
+    struct palikudyom_answer x = palikudyom_run(FRAME, LIST(X), tasks, tasks_len, ticks, jobs, jobs_len, counts, room);
+    line_and_buffer(x, counts, room);
+}
+
+/* the line of a plan, as text and by its answer */
+static void plan(const uint8_t *bytes, size_t bytes_len)
+{
+    uint8_t out[128];
+    struct palikudyom_answer x = palikudyom_line(bytes, bytes_len, LIST(out));
+    if (x.code == PALIKUDYOM_AMOUNT)
+        printf("%.*s", (int)x.a, (const char *)out);
+    line("", palikudyom_plan(bytes, bytes_len));
+}
+
+static void examples(void)
+{
+    for (uint32_t length = 0; length <= 8; length++) /* W1 */
+        line("AMOUNT ", palikudyom_least_supply(FRAME, LIST(X), length));
+    critical(5); /* W2 */
+    line("", palikudyom_delay(FRAME, LIST(X))); /* W3 */
+    line("OUTAGE ", palikudyom_outage(FRAME, LIST(X)));
+    verdict(LIST(W4));
+    verdict(LIST(W5));
+    verdict(LIST(W6));
+    line("DEMAND ", palikudyom_demand(LIST(W6), 6));
+    line("", palikudyom_margin(FRAME, LIST(X), LIST(W6), 6));
+    verdict(LIST(W7));
+    line("", palikudyom_margin(FRAME, LIST(X), LIST(W7), 8));
+    verdict(LIST(W8));
+    verdict(LIST(W9));
+    verdict(NONE); /* W10 */
+    line("", palikudyom_bound(FRAME, LIST(X), LIST(W11), 0));
+    line("", palikudyom_bound(FRAME, LIST(X), LIST(W11), 1));
+    line("", palikudyom_bound(FRAME, LIST(X), LIST(W5), 0));
+    const uint32_t at_2[] = {2, 0, 1, 2, 1, 2};
+    run(LIST(W7), 10, LIST(at_2), 3); /* W13 */
+    run(LIST(W6), 10, LIST(at_2), 3);
+}
+
+static void refusals(void)
+{
+    const uint32_t odd[] = {0, 2, 5};
+    line("AMOUNT ", palikudyom_least_supply(FRAME, LIST(odd), 4));
+    line("AMOUNT ", palikudyom_least_supply(0, LIST(X), 4));
+    const uint32_t touching[] = {0, 2, 2, 4};
+    line("", palikudyom_delay(FRAME, LIST(touching)));
+    line("DEMAND ", palikudyom_demand(X, 4, 6));
+    const uint32_t late[] = {1, 4, 4, 1, 4, 5};
+    verdict(LIST(late));
+    const uint32_t coprime[] = {1, 999999, 999999};
+    verdict(LIST(coprime));
+    line("", palikudyom_bound(FRAME, LIST(X), LIST(W11), 2));
+    critical(3);
+    run(LIST(W7), 1100001, NONE, 3);
+    const uint32_t close[] = {2, 0, 1, 5, 0, 1};
+    run(LIST(W7), 10, LIST(close), 3);
+    const uint32_t two[] = {2, 0, 1, 2, 1, 2};
+    run(LIST(W7), 10, LIST(two), 1);
+}
+
+static void plans(void)
+{
+    uint8_t bytes[64];
+    struct palikudyom_answer x = palikudyom_write_plan(FRAME, LIST(X), LIST(W6), LIST(bytes));
+    if (x.code == PALIKUDYOM_AMOUNT)
+        plan(bytes, x.a);
+    x = palikudyom_write_plan(FRAME, LIST(X), NONE, LIST(bytes));
+    if (x.code == PALIKUDYOM_AMOUNT)
+        plan(bytes, x.a);
+    const uint8_t unfinished[] = {8, 2, 0, 130};
+    plan(LIST(unfinished));
+}
+
+int main(void)
+{
+    examples();
+    refusals();
+    plans();
+    return 0;
+}

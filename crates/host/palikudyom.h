@@ -1,0 +1,107 @@
+/*
+ * Palikudyom for C: does a group of tasks meet its deadlines on a table of time windows?
+ *
+ * Every function is total: any numbers at all get an answer, and nothing need be checked first. It keeps no state and asks for no memory.
+ * Each answer is proved equal to its definition in document 01; README.md says where.
+ *
+ * What a caller must keep, for no proof reaches into C:
+ * - a pointer is aligned, not null (even where the length is 0), and valid for its length: that many numbers can be read, or written where it
+ *   is not const;
+ * - a lent buffer (not const) overlaps no other argument;
+ * - nobody writes an argument's memory, or reads a lent buffer, during the call.
+ */
+#ifndef PALIKUDYOM_H
+#define PALIKUDYOM_H
+
+#include <stddef.h>
+#include <stdint.h>
+
+#ifdef __cplusplus
+extern "C" {
+#endif
+
+/* Which numbers of an answer mean what. The others are 0. */
+enum palikudyom_code {
+    PALIKUDYOM_REFUSED = 0,  /* a: number, b: place, as below */
+    PALIKUDYOM_AMOUNT = 1,   /* a: a least supply, outage or demand, or how many critical windows or bytes */
+    PALIKUDYOM_DELAY = 2,    /* a: delay times A, b: A, the supplied ticks of a frame */
+    PALIKUDYOM_MARGIN = 3,   /* a: margin, 0 or more */
+    PALIKUDYOM_BELOW = 4,    /* a: how far the margin is below 0 */
+    PALIKUDYOM_MEETS = 5,    /* a: cycle */
+    PALIKUDYOM_MISS = 6,     /* a: length, b: start, c: demand, d: supply */
+    PALIKUDYOM_BOUND = 7,    /* a: response bound */
+    PALIKUDYOM_NO_BOUND = 8,
+    PALIKUDYOM_MET = 9,      /* a: backlog */
+    PALIKUDYOM_MISSED = 10   /* a: instant, b: job, c: backlog */
+};
+
+/*
+ * Refusals, by number. The place is 0 unless it is named. A refusal writes nothing.
+ *   1       the window list is odd, empty or over 64 windows
+ *   2       the frame is outside 1 to 65,536
+ *   3 at i  window i is empty, leaves the frame, or does not start after the previous end
+ *   4       the task list is not in threes, or over 32 tasks
+ *   5 at i  task i has a number outside 1 to 1,000,000, or a deadline past its period
+ *   6       the cycle is over 1,000,000
+ *   7       the asked length is over 1,000,000, or the asked task is not there
+ *   8 at n  the lent buffer is too short: n numbers are needed
+ *   9 at o  the plan's bytes are bad at offset o
+ *  10       the job list is not in threes or over 4,096 jobs, or the run is over 1,100,000 ticks
+ *  11 at j  job j is out of order, of no task, too early after the last of its task, released after the run, or its work is outside 1 to C
+ */
+struct palikudyom_answer {
+    uint32_t code;
+    uint64_t a;
+    uint64_t b;
+    uint64_t c;
+    uint64_t d;
+};
+
+/*
+ * A list is a pointer and how many numbers it has: windows are start and end of each, tasks are work, period and deadline of each, jobs are
+ * release tick, task index and work of each. After each function: what it answers beside REFUSED, and its refusals in the order of its checks.
+ */
+
+/* The least supply of `length` ticks, over all starts. AMOUNT; 1 2 3 7 */
+struct palikudyom_answer palikudyom_least_supply(uint32_t frame, const uint32_t *windows, size_t windows_len, uint32_t length);
+
+/* The critical partition: how many windows, with start and end of each in `out`, whose rest is kept. AMOUNT; 1 2 3 8 */
+struct palikudyom_answer palikudyom_critical(uint32_t frame, const uint32_t *windows, size_t windows_len, uint32_t *out, size_t out_len);
+
+/* DELAY; 1 2 3 */
+struct palikudyom_answer palikudyom_delay(uint32_t frame, const uint32_t *windows, size_t windows_len);
+
+/* The longest outage inside one frame. AMOUNT; 1 2 3 */
+struct palikudyom_answer palikudyom_outage(uint32_t frame, const uint32_t *windows, size_t windows_len);
+
+/* The demand of the group at `length`. AMOUNT; 4 5 7 */
+struct palikudyom_answer palikudyom_demand(const uint32_t *tasks, size_t tasks_len, uint32_t length);
+
+/* Least supply minus demand at `length`. MARGIN, BELOW; 1 2 3 4 5 7 */
+struct palikudyom_answer palikudyom_margin(uint32_t frame, const uint32_t *windows, size_t windows_len, const uint32_t *tasks, size_t tasks_len, uint32_t length);
+
+/* Whether the group meets its deadlines under earliest deadline first. MEETS, MISS; 1 2 3 4 5 6 */
+struct palikudyom_answer palikudyom_verdict(uint32_t frame, const uint32_t *windows, size_t windows_len, const uint32_t *tasks, size_t tasks_len);
+
+/* The response bound of task `index` under fixed priority, lower index first. BOUND, NO_BOUND; 1 2 3 4 5 7 */
+struct palikudyom_answer palikudyom_bound(uint32_t frame, const uint32_t *windows, size_t windows_len, const uint32_t *tasks, size_t tasks_len, uint32_t index);
+
+/* Runs a job list for `ticks` ticks, earliest deadline first, with a count for each job in `counts`, whose rest is kept. MET, MISSED; 1 2 3 4 5 10 11 8 */
+struct palikudyom_answer palikudyom_run(uint32_t frame, const uint32_t *windows, size_t windows_len, const uint32_t *tasks, size_t tasks_len, uint32_t ticks,
+                                        const uint32_t *jobs, size_t jobs_len, uint32_t *counts, size_t counts_len);
+
+/* The verdict of a plan file's bytes. MEETS, MISS; 9 (and 1, 4 as soon as a count is read), then as palikudyom_verdict */
+struct palikudyom_answer palikudyom_plan(const uint8_t *bytes, size_t bytes_len);
+
+/* The line of that verdict, refused plans too, in `out`, whose rest is kept: how many bytes. AMOUNT; 8 */
+struct palikudyom_answer palikudyom_line(const uint8_t *bytes, size_t bytes_len, uint8_t *out, size_t out_len);
+
+/* A plan file's bytes in `out`, whose rest is kept: how many. AMOUNT; 1 4 8 */
+struct palikudyom_answer palikudyom_write_plan(uint32_t frame, const uint32_t *windows, size_t windows_len, const uint32_t *tasks, size_t tasks_len,
+                                               uint8_t *out, size_t out_len);
+
+#ifdef __cplusplus
+}
+#endif
+
+#endif

@@ -1,0 +1,28 @@
+use crate::answer::Answer;
+use crate::answer::one;
+use crate::answer::refused;
+use checker::answer::Bound;
+use checker::board::Board;
+use checker::bound::bound;
+ghost use mathlib.Core.Path.{_≡_};
+ghost use Rattle.scope.specs.Answers.{boundAnswer};
+ghost use Rattle.checker.specs.Told.{toldBound};
+ghost use Rattle.host.specs.Told.{cBound};
+
+fn bound_answer(b: Bound) -> Answer
+    ensures { λ r. ⌜ r ≡ cBound (toldBound b) ⌝ }
+{
+    match b {
+        Bound::Of(t) => one(Answer::BOUND, t as u64),
+        Bound::NoBound => one(Answer::NO_BOUND, 0),
+        Bound::Refused(r) => refused(r),
+    }
+}
+
+// Refusals 1 2 3 4 5 7.
+#[no_mangle]
+pub extern "C" fn palikudyom_bound(frame: u32, windows: &[u32], tasks: &[u32], index: u32) -> Answer
+    ensures { λ r. ⌜ r ≡ cBound (boundAnswer (record { frame = frame }) (now (windows .entry)) (now (tasks .entry)) index) ⌝ }
+{
+    bound_answer(bound(Board { frame }, windows, tasks, index))
+}

@@ -1,0 +1,53 @@
+use crate::answer::Answer;
+use crate::answer::amount_answer;
+use crate::answer::one;
+use crate::answer::refused;
+use checker::answer::Margin;
+use checker::answer::size;
+use checker::board::Board;
+use checker::demand::demand;
+use checker::demand::margin;
+ghost use mathlib.Core.Path.{_≡_};
+ghost use Rattle.scope.specs.Answers.{demandAnswer, marginAnswer};
+ghost use Rattle.checker.specs.Told.{toldMargin};
+ghost use Rattle.host.specs.Told.{signed, cAmount, cMargin};
+
+fn signed_answer(m: i64) -> Answer
+    ensures { λ r. ⌜ r ≡ signed m ⌝ }
+{
+    if m < 0 {
+        one(Answer::BELOW, size(m))
+    } else {
+        one(Answer::MARGIN, size(m))
+    }
+}
+
+fn margin_answer(m: Margin) -> Answer
+    ensures { λ r. ⌜ r ≡ cMargin (toldMargin m) ⌝ }
+{
+    match m {
+        Margin::Of(z) => signed_answer(z),
+        Margin::Refused(r) => refused(r),
+    }
+}
+
+// Refusals 4 5 7.
+#[no_mangle]
+pub extern "C" fn palikudyom_demand(tasks: &[u32], length: u32) -> Answer
+    ensures { λ r. ⌜ r ≡ cAmount (demandAnswer (now (tasks .entry)) length) ⌝ }
+{
+    amount_answer(demand(tasks, length))
+}
+
+// Refusals 1 2 3 4 5 7.
+#[no_mangle]
+pub extern "C" fn palikudyom_margin(
+    frame: u32,
+    windows: &[u32],
+    tasks: &[u32],
+    length: u32,
+) -> Answer
+    ensures { λ r. ⌜ r ≡ cMargin (marginAnswer (record { frame = frame }) (now (windows .entry)) (now (tasks .entry)) length) ⌝ }
+{
+    margin_answer(margin(Board { frame }, windows, tasks, length))
+}

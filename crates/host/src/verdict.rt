@@ -1,0 +1,39 @@
+use crate::answer::Answer;
+use crate::answer::one;
+use crate::answer::refused;
+use checker::answer::Verdict;
+use checker::board::Board;
+use checker::verdict::verdict;
+ghost use mathlib.Core.Path.{_≡_};
+ghost use Rattle.scope.specs.Answers.{verdictAnswer};
+ghost use Rattle.checker.specs.Told.{toldVerdict};
+ghost use Rattle.host.specs.Told.{cVerdict};
+
+pub(crate) fn verdict_answer(v: Verdict) -> Answer
+    ensures { λ r. ⌜ r ≡ cVerdict (toldVerdict v) ⌝ }
+{
+    match v {
+        Verdict::Meets { cycle } => one(Answer::MEETS, cycle as u64),
+        Verdict::Miss {
+            length,
+            start,
+            demand,
+            supply,
+        } => Answer {
+            code: Answer::MISS,
+            a: length as u64,
+            b: start as u64,
+            c: demand,
+            d: supply as u64,
+        },
+        Verdict::Refused(r) => refused(r),
+    }
+}
+
+// Refusals 1 2 3 4 5 6.
+#[no_mangle]
+pub extern "C" fn palikudyom_verdict(frame: u32, windows: &[u32], tasks: &[u32]) -> Answer
+    ensures { λ r. ⌜ r ≡ cVerdict (verdictAnswer (record { frame = frame }) (now (windows .entry)) (now (tasks .entry))) ⌝ }
+{
+    verdict_answer(verdict(Board { frame }, windows, tasks))
+}
