@@ -82,7 +82,7 @@ impl From<Result<Answer, Refusal>> for Answer {
     }
 }
 
-/// The line without its newline (ISSUE-6, "Lines").
+/// The line without its newline (docs/ASK.md).
 impl fmt::Display for Answer {
     fn fmt(&self, f: &mut fmt::Formatter) -> fmt::Result {
         match self {

@@ -1,4 +1,4 @@
-//! Every small table and every small group on it (ISSUE-6, "`oracle/`").
+//! Every small table and every small group on it.
 
 use crate::numbers::encode;
 use crate::query::Query;

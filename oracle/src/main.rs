@@ -2,7 +2,7 @@
 //!
 //! To believe its answers, read `numbers`, `answer`, `table`, `tasks`, `verdict`, `bound`,
 //! `machine` and `plan`, in this order, and `examples`, which are document 01's own; then `query`
-//! and `stream`, which are ISSUE-6's. The other files make streams (`generate`, `spoil`, `batch`,
+//! and `stream`, which are docs/ASK.md's. The other files make streams (`generate`, `spoil`, `batch`,
 //! `enumerate`, `random`, `text`) and compare (`compare`): a fault there can hide a difference in
 //! the first program but can't change an answer.
 

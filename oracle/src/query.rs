@@ -1,4 +1,4 @@
-//! One query of a stream: its entry and arguments, its numbers and its line (ISSUE-6, "`ask`").
+//! One query of a stream: its entry and arguments, its numbers and its line (docs/ASK.md).
 
 use crate::answer::Answer;
 use crate::numbers::Cursor;

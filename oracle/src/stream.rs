@@ -1,4 +1,4 @@
-//! A stream of queries (ISSUE-6, "`ask`").
+//! A stream of queries (docs/ASK.md).
 
 use crate::numbers::Cursor;
 use crate::query::Query;
