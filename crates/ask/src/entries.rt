@@ -51,32 +51,53 @@ fn lent() -> [u32; 12400]
 
 // ---- entries over a table
 
-pub fn least_supply(stream: &[u8], from: Cursor) -> Cursor {
+struct Table {
+    frame: u32,
+    count: usize,
+    after: Cursor,
+}
+
+// P and the windows.
+fn table_of(stream: &[u8], from: Cursor, out: &mut [u32]) -> Table
+    requires { ⌜ 200 ≤ length (now out) ⌝ }
+    ensures { λ r. ⌜ Counts (r .count) (now (out .exit)) ⌝ }
+{
     let frame = any(stream, from);
+    let windows = list(stream, frame.after, NUMBERS, out);
+    let frame = frame.value;
+    let count = windows.count;
+    let after = windows.after;
+    Table {
+        frame,
+        count,
+        after,
+    }
+}
+
+pub(crate) fn least_supply(stream: &[u8], from: Cursor) -> Cursor {
     let mut windows = numbers();
-    let w = list(stream, frame.after, NUMBERS, &mut windows);
+    let w = table_of(stream, from, &mut windows);
     let length = any(stream, w.after);
     let end = length.after;
     if end.good {
-        let board = Board { frame: frame.value };
-        let count = w.count;
+        let board = Board { frame: w.frame };
+        let m = w.count;
         lines::amount(
             b"AMOUNT ",
-            supply::least_supply(board, &windows[..count], length.value),
+            supply::least_supply(board, &windows[..m], length.value),
         );
     }
     end
 }
 
-pub fn critical(stream: &[u8], from: Cursor) -> Cursor {
-    let frame = any(stream, from);
+pub(crate) fn critical(stream: &[u8], from: Cursor) -> Cursor {
     let mut windows = numbers();
-    let w = list(stream, frame.after, NUMBERS, &mut windows);
+    let w = table_of(stream, from, &mut windows);
     let mut out = lent();
     let room = room(stream, w.after, &out);
     let end = room.after;
     if end.good {
-        let board = Board { frame: frame.value };
+        let board = Board { frame: w.frame };
         let m = w.count;
         let n = room.count;
         critical_into(board, &windows[..m], &mut out[..n]);
@@ -89,28 +110,26 @@ fn critical_into(board: Board, windows: &[u32], out: &mut [u32]) {
     lines::critical(found, out);
 }
 
-pub fn delay(stream: &[u8], from: Cursor) -> Cursor {
-    let frame = any(stream, from);
+pub(crate) fn delay(stream: &[u8], from: Cursor) -> Cursor {
     let mut windows = numbers();
-    let w = list(stream, frame.after, NUMBERS, &mut windows);
+    let w = table_of(stream, from, &mut windows);
     let end = w.after;
     if end.good {
-        let board = Board { frame: frame.value };
-        let count = w.count;
-        lines::delay(partition::delay(board, &windows[..count]));
+        let board = Board { frame: w.frame };
+        let m = w.count;
+        lines::delay(partition::delay(board, &windows[..m]));
     }
     end
 }
 
-pub fn outage(stream: &[u8], from: Cursor) -> Cursor {
-    let frame = any(stream, from);
+pub(crate) fn outage(stream: &[u8], from: Cursor) -> Cursor {
     let mut windows = numbers();
-    let w = list(stream, frame.after, NUMBERS, &mut windows);
+    let w = table_of(stream, from, &mut windows);
     let end = w.after;
     if end.good {
-        let board = Board { frame: frame.value };
-        let count = w.count;
-        lines::amount(b"OUTAGE ", partition::outage(board, &windows[..count]));
+        let board = Board { frame: w.frame };
+        let m = w.count;
+        lines::amount(b"OUTAGE ", partition::outage(board, &windows[..m]));
     }
     end
 }
@@ -136,7 +155,7 @@ fn demand_of(as_records: bool, tasks: &[u32], length: u32) -> Amount {
     }
 }
 
-pub fn demand(stream: &[u8], from: Cursor, as_records: bool) -> Cursor {
+pub(crate) fn demand(stream: &[u8], from: Cursor, as_records: bool) -> Cursor {
     let mut tasks = numbers();
     let t = group(stream, from, as_records, &mut tasks);
     let length = any(stream, t.after);
@@ -162,16 +181,15 @@ fn margin_of(
     }
 }
 
-pub fn margin(stream: &[u8], from: Cursor, as_records: bool) -> Cursor {
-    let frame = any(stream, from);
+pub(crate) fn margin(stream: &[u8], from: Cursor, as_records: bool) -> Cursor {
     let mut windows = numbers();
-    let w = list(stream, frame.after, NUMBERS, &mut windows);
+    let w = table_of(stream, from, &mut windows);
     let mut tasks = numbers();
     let t = group(stream, w.after, as_records, &mut tasks);
     let length = any(stream, t.after);
     let end = length.after;
     if end.good {
-        let board = Board { frame: frame.value };
+        let board = Board { frame: w.frame };
         let m = w.count;
         let n = t.count;
         lines::margin(margin_of(as_records, board, &windows[..m], &tasks[..n], length.value));
@@ -187,15 +205,14 @@ fn verdict_of(as_records: bool, board: Board, windows: &[u32], tasks: &[u32]) ->
     }
 }
 
-pub fn verdict(stream: &[u8], from: Cursor, as_records: bool) -> Cursor {
-    let frame = any(stream, from);
+pub(crate) fn verdict(stream: &[u8], from: Cursor, as_records: bool) -> Cursor {
     let mut windows = numbers();
-    let w = list(stream, frame.after, NUMBERS, &mut windows);
+    let w = table_of(stream, from, &mut windows);
     let mut tasks = numbers();
     let t = group(stream, w.after, as_records, &mut tasks);
     let end = t.after;
     if end.good {
-        let board = Board { frame: frame.value };
+        let board = Board { frame: w.frame };
         let m = w.count;
         let n = t.count;
         lines::verdict(verdict_of(as_records, board, &windows[..m], &tasks[..n]));
@@ -211,16 +228,15 @@ fn bound_of(as_records: bool, board: Board, windows: &[u32], tasks: &[u32], inde
     }
 }
 
-pub fn bound(stream: &[u8], from: Cursor, as_records: bool) -> Cursor {
-    let frame = any(stream, from);
+pub(crate) fn bound(stream: &[u8], from: Cursor, as_records: bool) -> Cursor {
     let mut windows = numbers();
-    let w = list(stream, frame.after, NUMBERS, &mut windows);
+    let w = table_of(stream, from, &mut windows);
     let mut tasks = numbers();
     let t = group(stream, w.after, as_records, &mut tasks);
     let index = any(stream, t.after);
     let end = index.after;
     if end.good {
-        let board = Board { frame: frame.value };
+        let board = Board { frame: w.frame };
         let m = w.count;
         let n = t.count;
         lines::bound(bound_of(as_records, board, &windows[..m], &tasks[..n], index.value));
@@ -228,13 +244,12 @@ pub fn bound(stream: &[u8], from: Cursor, as_records: bool) -> Cursor {
     end
 }
 
-pub fn run(stream: &[u8], from: Cursor, as_records: bool) -> Cursor {
-    let frame = any(stream, from);
+pub(crate) fn run(stream: &[u8], from: Cursor, as_records: bool) -> Cursor {
     let mut windows = numbers();
-    let w = list(stream, frame.after, NUMBERS, &mut windows);
+    let w = table_of(stream, from, &mut windows);
     let mut tasks = numbers();
     let t = group(stream, w.after, as_records, &mut tasks);
-    let board = Board { frame: frame.value };
+    let board = Board { frame: w.frame };
     let m = w.count;
     let n = t.count;
     run_jobs(
@@ -297,7 +312,7 @@ fn run_into(
 
 // ---- a plan
 
-pub fn plan(stream: &[u8], from: Cursor) -> Cursor {
+pub(crate) fn plan(stream: &[u8], from: Cursor) -> Cursor {
     let mut plan = io::buffer();
     let b = bytes(stream, from, &mut plan);
     let end = b.after;

@@ -6,23 +6,23 @@ ghost use lib.ListN.{length};
 ghost use Rattle.io.specs.Counts.{Counts};
 
 // Where the next number begins; or, where the reading is stopped, the bad one.
-pub struct Cursor {
+pub(crate) struct Cursor {
     pub at: usize,
     pub good: bool,
 }
 
-pub struct Read {
+pub(crate) struct Read {
     pub value: u32,
     pub after: Cursor,
 }
 
 // A list's numbers stand at the front of the buffer it was read into.
-pub struct Listed {
+pub(crate) struct Listed {
     pub count: usize,
     pub after: Cursor,
 }
 
-pub fn bad(at: usize) -> Cursor {
+pub(crate) fn bad(at: usize) -> Cursor {
     Cursor { at, good: false }
 }
 
@@ -43,7 +43,7 @@ fn stopped(after: Cursor) -> Read
 }
 
 // A number of at most `most`.
-pub fn number(stream: &[u8], from: Cursor, most: u32) -> Read
+pub(crate) fn number(stream: &[u8], from: Cursor, most: u32) -> Read
     ensures { λ r. ⌜ r .value ≤ most ⌝ }
 {
     if !from.good {
@@ -63,7 +63,7 @@ pub fn number(stream: &[u8], from: Cursor, most: u32) -> Read
 }
 
 // Any number.
-pub fn any(stream: &[u8], from: Cursor) -> Read {
+pub(crate) fn any(stream: &[u8], from: Cursor) -> Read {
     number(stream, from, u32::MAX)
 }
 
@@ -91,7 +91,7 @@ fn numbers(stream: &[u8], from: Cursor, count: usize, out: &mut [u32]) -> Cursor
 }
 
 // A list: first how many numbers, at most `most`.
-pub fn list(stream: &[u8], from: Cursor, most: u32, out: &mut [u32]) -> Listed
+pub(crate) fn list(stream: &[u8], from: Cursor, most: u32, out: &mut [u32]) -> Listed
     requires { ⌜ most ≤ length (now out) ⌝ }
     ensures { λ r. ⌜ Counts (r .count) (now (out .exit)) ⌝ }
 {
@@ -102,7 +102,7 @@ pub fn list(stream: &[u8], from: Cursor, most: u32, out: &mut [u32]) -> Listed
 }
 
 // Task records: first how many, at most 40, then three numbers each.
-pub fn records(stream: &[u8], from: Cursor, out: &mut [u32]) -> Listed
+pub(crate) fn records(stream: &[u8], from: Cursor, out: &mut [u32]) -> Listed
     requires { ⌜ 120 ≤ length (now out) ⌝ }
     ensures { λ r. ⌜ Counts (r .count) (now (out .exit)) ⌝ }
 {
@@ -113,7 +113,7 @@ pub fn records(stream: &[u8], from: Cursor, out: &mut [u32]) -> Listed
 }
 
 // How many numbers of a lent buffer are lent: at most all 12,400.
-pub fn room(stream: &[u8], from: Cursor, out: &[u32]) -> Listed
+pub(crate) fn room(stream: &[u8], from: Cursor, out: &[u32]) -> Listed
     requires { ⌜ 12400 ≤ length (now out) ⌝ }
     ensures { λ r. ⌜ Counts (r .count) (now (out .entry)) ⌝ }
 {
@@ -123,7 +123,7 @@ pub fn room(stream: &[u8], from: Cursor, out: &[u32]) -> Listed
 }
 
 // Plan bytes: first how many, at most 4,096, then each as a number of at most 255.
-pub fn bytes(stream: &[u8], from: Cursor, out: &mut [u8]) -> Listed
+pub(crate) fn bytes(stream: &[u8], from: Cursor, out: &mut [u8]) -> Listed
     requires { ⌜ 4096 ≤ length (now out) ⌝ }
     ensures { λ r. ⌜ Counts (r .count) (now (out .exit)) ⌝ }
 {
