@@ -6,7 +6,7 @@ ghost use lib.ListN.{take};
 ghost use Rattle.records.specs.Numbers.{numbersOf};
 
 // The numbers of a group's first records, as the entries of `checker` take them: C, T, D, C, T, D, ..
-pub struct Flat {
+pub(crate) struct Flat {
     pub numbers: [u32; 99],
     pub len: usize,
 }
@@ -45,7 +45,7 @@ fn push(flat: Flat, work: u32, period: u32, deadline: u32) -> Flat
 }
 
 // The numbers of the first 33 records at most.
-pub fn flatten(tasks: &[Task]) -> Flat
+pub(crate) fn flatten(tasks: &[Task]) -> Flat
     ensures { λ r. ⌜ (r .len ≤ 99) × (take (r .len) (r .numbers) ≡ take 99 (numbersOf (now (tasks .entry)))) ⌝ }
 {
     let n = enough(tasks.len());
