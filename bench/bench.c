@@ -1,0 +1,600 @@
+/*
+ * Times the proved entries beside plain C ones of the same algorithms, and prints Markdown tables. Every timed input is first asked of both:
+ * a difference in the answer or in the lent buffer ends the program with status 1, and so does an answer that the input's words do not tell.
+ */
+#define _POSIX_C_SOURCE 200809L
+#include "palikudyom.h"
+#include "plain.h"
+#include <stdio.h>
+#include <stdlib.h>
+#include <string.h>
+#include <time.h>
+
+#define LENGTH(list) (sizeof(list) / sizeof((list)[0]))
+
+enum {
+    ROOM = 8192,    /* numbers of a lent buffer: more than any input here fills, so that a write past the end of an answer is seen */
+    UNTOUCHED = 7,  /* each of them before a compared call */
+    ROUNDS = 7,     /* measurements of a side, of which the best counts */
+    LONG_ROUNDS = 3 /* those of an input that takes LONG */
+};
+static const double SHORTEST = 0.05; /* seconds that a measurement takes at least */
+static const double LONG = 0.4;      /* seconds after which a measurement is long */
+
+struct input {
+    uint32_t frame;
+    uint32_t windows[128];
+    size_t windows_len;
+    uint32_t tasks[96];
+    size_t tasks_len;
+    uint32_t asked; /* the length of a least supply, the index of a bound, the ticks of a run */
+    uint32_t jobs[3 * 4096];
+    size_t jobs_len;
+};
+
+/* Entries: each of both sides as a function of an input and a lent buffer of ROOM numbers */
+
+typedef struct palikudyom_answer ask(const struct input *x, uint32_t *buffer);
+
+#define SIDE(side)                                                                                                      \
+    static struct palikudyom_answer side##_asked_for_least_supply(const struct input *x, uint32_t *buffer)             \
+    {                                                                                                                   \
+        (void)buffer;                                                                                                   \
+        return side##_least_supply(x->frame, x->windows, x->windows_len, x->asked);                                     \
+    }                                                                                                                   \
+    static struct palikudyom_answer side##_asked_for_critical(const struct input *x, uint32_t *buffer)                 \
+    {                                                                                                                   \
+        return side##_critical(x->frame, x->windows, x->windows_len, buffer, ROOM);                                     \
+    }                                                                                                                   \
+    static struct palikudyom_answer side##_asked_for_delay(const struct input *x, uint32_t *buffer)                    \
+    {                                                                                                                   \
+        (void)buffer;                                                                                                   \
+        return side##_delay(x->frame, x->windows, x->windows_len);                                                      \
+    }                                                                                                                   \
+    static struct palikudyom_answer side##_asked_for_verdict(const struct input *x, uint32_t *buffer)                  \
+    {                                                                                                                   \
+        (void)buffer;                                                                                                   \
+        return side##_verdict(x->frame, x->windows, x->windows_len, x->tasks, x->tasks_len);                            \
+    }                                                                                                                   \
+    static struct palikudyom_answer side##_asked_for_bound(const struct input *x, uint32_t *buffer)                    \
+    {                                                                                                                   \
+        (void)buffer;                                                                                                   \
+        return side##_bound(x->frame, x->windows, x->windows_len, x->tasks, x->tasks_len, x->asked);                    \
+    }                                                                                                                   \
+    static struct palikudyom_answer side##_asked_for_run(const struct input *x, uint32_t *buffer)                      \
+    {                                                                                                                   \
+        return side##_run(x->frame, x->windows, x->windows_len, x->tasks, x->tasks_len, x->asked, x->jobs, x->jobs_len, \
+                          buffer, ROOM);                                                                                \
+    }
+
+SIDE(palikudyom)
+SIDE(plain)
+
+static struct palikudyom_answer plain_asked_for_run_checked_once(const struct input *x, uint32_t *buffer)
+{
+    return plain_run_checked_once(x->frame, x->windows, x->windows_len, x->tasks, x->tasks_len, x->asked, x->jobs, x->jobs_len, buffer, ROOM);
+}
+
+struct entry {
+    const char *name;
+    ask *proved;
+    ask *plain;
+};
+
+static const struct entry LEAST_SUPPLY = {"least supply", palikudyom_asked_for_least_supply, plain_asked_for_least_supply};
+static const struct entry CRITICAL = {"critical partition", palikudyom_asked_for_critical, plain_asked_for_critical};
+static const struct entry DELAY = {"delay", palikudyom_asked_for_delay, plain_asked_for_delay};
+static const struct entry VERDICT = {"verdict", palikudyom_asked_for_verdict, plain_asked_for_verdict};
+static const struct entry BOUND = {"bound", palikudyom_asked_for_bound, plain_asked_for_bound};
+static const struct entry RUN = {"run", palikudyom_asked_for_run, plain_asked_for_run};
+static const struct entry RUN_CHECKED_ONCE = {"run", palikudyom_asked_for_run, plain_asked_for_run_checked_once};
+
+/* Comparing */
+
+static void fail(const char *entry, const char *input, const char *why)
+{
+    fflush(stdout);
+    fprintf(stderr, "bench: %s, %s: %s\n", entry, input, why);
+    exit(1);
+}
+
+static int same_answer(struct palikudyom_answer x, struct palikudyom_answer y)
+{
+    return x.code == y.code && x.a == y.a && x.b == y.b && x.c == y.c && x.d == y.d;
+}
+
+static uint32_t proved_buffer[ROOM];
+static uint32_t plain_buffer[ROOM];
+
+static void compare(const struct entry *entry, const char *words, uint32_t code, const struct input *x)
+{
+    for (size_t i = 0; i < ROOM; i++)
+        proved_buffer[i] = plain_buffer[i] = UNTOUCHED;
+    struct palikudyom_answer proved = entry->proved(x, proved_buffer);
+    struct palikudyom_answer plain = entry->plain(x, plain_buffer);
+    if (!same_answer(proved, plain))
+        fail(entry->name, words, "the two answers differ");
+    if (memcmp(proved_buffer, plain_buffer, sizeof proved_buffer) != 0)
+        fail(entry->name, words, "the two buffers differ");
+    if (proved.code != code)
+        fail(entry->name, words, "not the answer that is meant to be timed");
+}
+
+/* Timing */
+
+static double now(void)
+{
+    struct timespec t;
+    clock_gettime(CLOCK_MONOTONIC, &t);
+    return (double)t.tv_sec + (double)t.tv_nsec * 1e-9;
+}
+
+/* seconds that `times` calls take */
+static double seconds(ask *f, const struct input *x, uint32_t *buffer, unsigned long times)
+{
+    double start = now();
+    for (unsigned long i = 0; i < times; i++)
+        f(x, buffer);
+    return now() - start;
+}
+
+/* best seconds a call of a side so far, and how many calls its measurements make */
+struct side {
+    ask *f;
+    uint32_t *buffer;
+    unsigned long times;
+    double best;
+};
+
+static struct side side_of(ask *f, uint32_t *buffer)
+{
+    return (struct side){f, buffer, 1, 1e9};
+}
+
+/* one measurement, with more calls where it would be shorter than SHORTEST; how long it took */
+static double measure(struct side *s, const struct input *x)
+{
+    double took = seconds(s->f, x, s->buffer, s->times);
+    while (took < SHORTEST) {
+        s->times *= 2;
+        took = seconds(s->f, x, s->buffer, s->times);
+    }
+    double each = took / (double)s->times;
+    if (each < s->best)
+        s->best = each;
+    return took;
+}
+
+/* best seconds a call, of each side; alternately, so that a busy machine slows both alike */
+static void measure_both(const struct entry *entry, const struct input *x, double *proved, double *plain)
+{
+    struct side a = side_of(entry->proved, proved_buffer);
+    struct side b = side_of(entry->plain, plain_buffer);
+    int rounds = ROUNDS;
+    for (int i = 0; i < rounds; i++) {
+        if (measure(&a, x) > LONG)
+            rounds = LONG_ROUNDS;
+        measure(&b, x);
+    }
+    *proved = a.best;
+    *plain = b.best;
+}
+
+static double measure_proved(const struct entry *entry, const struct input *x)
+{
+    struct side a = side_of(entry->proved, proved_buffer);
+    for (int i = 0; i < LONG_ROUNDS; i++)
+        measure(&a, x);
+    return a.best;
+}
+
+/* Making inputs */
+
+/* windows at even distances that supply half of the frame; frame at least 4 times count */
+static void spread_windows(struct input *x, uint32_t frame, uint32_t count)
+{
+    x->frame = frame;
+    x->windows_len = 2 * count;
+    for (uint32_t i = 0; i < count; i++) {
+        x->windows[2 * i] = i * (frame / count);
+        x->windows[2 * i + 1] = i * (frame / count) + frame / count / 2;
+    }
+}
+
+/* windows of one tick at 0, 2, 4 and on: after the last of them a tick's scan passes every window, which is the worst a table can do */
+static void early_windows(struct input *x, uint32_t frame, uint32_t count)
+{
+    x->frame = frame;
+    x->windows_len = 2 * count;
+    for (uint32_t i = 0; i < count; i++) {
+        x->windows[2 * i] = 2 * i;
+        x->windows[2 * i + 1] = 2 * i + 1;
+    }
+}
+
+static void add_task(struct input *x, uint32_t work, uint32_t period, uint32_t deadline)
+{
+    x->tasks[x->tasks_len++] = work;
+    x->tasks[x->tasks_len++] = period;
+    x->tasks[x->tasks_len++] = deadline;
+}
+
+/* every task released in full at 0 and then once a period, for a run of `ticks` */
+static void release_all(struct input *x, uint32_t ticks)
+{
+    x->asked = ticks;
+    for (uint32_t k = 0; k < ticks; k++)
+        for (uint32_t i = 0; i < x->tasks_len / 3; i++)
+            if (k % x->tasks[3 * i + 1] == 0 && x->jobs_len < LENGTH(x->jobs)) {
+                x->jobs[x->jobs_len++] = k;
+                x->jobs[x->jobs_len++] = i;
+                x->jobs[x->jobs_len++] = x->tasks[3 * i];
+            }
+}
+
+/* eight tasks that ask for 2/5 of the processor, of cycle 10,000 */
+static void eight_tasks(struct input *x)
+{
+    static const uint32_t periods[] = {1000, 1000, 2000, 2000, 5000, 5000, 10000, 10000};
+    for (size_t i = 0; i < LENGTH(periods); i++)
+        add_task(x, periods[i] / 20, periods[i], periods[i]);
+}
+
+/* Inputs of the first table: small is document 01's table X; worst is about the worst that an entry takes, heavy what ends in about a second */
+
+static void small_table(struct input *x)
+{
+    x->frame = 8;
+    x->windows_len = 4;
+    memcpy(x->windows, (uint32_t[]){0, 2, 5, 7}, 4 * sizeof(uint32_t));
+}
+
+static void small_least_supply(struct input *x)
+{
+    small_table(x);
+    x->asked = 6;
+}
+
+static void small_verdict(struct input *x)
+{
+    small_table(x);
+    add_task(x, 1, 4, 4);
+    add_task(x, 2, 8, 7);
+}
+
+static void small_bound(struct input *x)
+{
+    small_table(x);
+    add_task(x, 1, 4, 4);
+    add_task(x, 1, 8, 8);
+    x->asked = 1;
+}
+
+static void small_run(struct input *x)
+{
+    small_verdict(x);
+    x->asked = 10;
+    x->jobs_len = 6;
+    memcpy(x->jobs, (uint32_t[]){2, 0, 1, 2, 1, 2}, 6 * sizeof(uint32_t));
+}
+
+static void typical_table(struct input *x)
+{
+    spread_windows(x, 1000, 8);
+}
+
+static void typical_least_supply(struct input *x)
+{
+    typical_table(x);
+    x->asked = 2500;
+}
+
+static void typical_verdict(struct input *x)
+{
+    typical_table(x);
+    eight_tasks(x);
+}
+
+static void typical_bound(struct input *x)
+{
+    typical_verdict(x);
+    x->asked = 7;
+}
+
+static void typical_run(struct input *x)
+{
+    typical_verdict(x);
+    release_all(x, 10000);
+}
+
+/* the whole frames cost nothing, so 14 frames and 65,535 ticks are as bad as any length */
+static void worst_least_supply(struct input *x)
+{
+    early_windows(x, 65536, 64);
+    x->asked = 983039;
+}
+
+static void heavy_critical(struct input *x)
+{
+    early_windows(x, 384, 64);
+}
+
+static void heavy_delay(struct input *x)
+{
+    early_windows(x, 768, 64);
+}
+
+/* deadlines apart, so that the demand rises at 3,875 lengths and each asks for a least supply */
+static void heavy_verdict(struct input *x)
+{
+    early_windows(x, 160, 64);
+    for (uint32_t i = 0; i < 31; i++)
+        add_task(x, 1, 8000, 8000 - 7 * i);
+    add_task(x, 1, 1000000, 1000000);
+}
+
+/* those above ask for more than is supplied, so that every length up to the deadline is tried */
+static void heavy_bound(struct input *x)
+{
+    early_windows(x, 160, 64);
+    for (uint32_t i = 0; i < 31; i++)
+        add_task(x, 1, 2 + i, 2 + i);
+    add_task(x, 1, 4000, 4000);
+    x->asked = 31;
+}
+
+/* every tick's scan ends at the last window, which supplies it; 32 tasks are released together 128 times: 4,096 jobs */
+static void worst_run(struct input *x)
+{
+    early_windows(x, 65536, 64);
+    x->windows[127] = 65536;
+    for (uint32_t i = 0; i < 32; i++)
+        add_task(x, 260, 8593, 8593);
+    release_all(x, 1100000);
+}
+
+/* Inputs of the growth table: a size to an input */
+
+static void least_supply_by_frame(struct input *x, uint32_t frame)
+{
+    spread_windows(x, frame, 8);
+    x->asked = frame - 1;
+}
+
+static void table_by_frame(struct input *x, uint32_t frame)
+{
+    spread_windows(x, frame, 8);
+}
+
+/* the demand rises at 128 lengths, whatever the table */
+static void three_tasks(struct input *x)
+{
+    add_task(x, 100, 1024, 1024);
+    add_task(x, 100, 1024, 900);
+    add_task(x, 1, 65536, 65536);
+}
+
+static void verdict_by_frame(struct input *x, uint32_t frame)
+{
+    spread_windows(x, frame, 8);
+    three_tasks(x);
+}
+
+static void starved_task(struct input *x, uint32_t deadline)
+{
+    add_task(x, 1, 1, 1);
+    add_task(x, 1, deadline, deadline);
+    x->asked = 1;
+}
+
+static void bound_by_frame(struct input *x, uint32_t frame)
+{
+    spread_windows(x, frame, 8);
+    starved_task(x, 500);
+}
+
+static void run_by_frame(struct input *x, uint32_t frame)
+{
+    spread_windows(x, frame, 8);
+    add_task(x, 1000, 16384, 16384);
+    release_all(x, 50000);
+}
+
+static void least_supply_by_windows(struct input *x, uint32_t count)
+{
+    spread_windows(x, 4096, count);
+    x->asked = 4095;
+}
+
+static void table_by_windows(struct input *x, uint32_t count)
+{
+    spread_windows(x, 256, count);
+}
+
+static void verdict_by_windows(struct input *x, uint32_t count)
+{
+    spread_windows(x, 1024, count);
+    three_tasks(x);
+}
+
+static void bound_by_windows(struct input *x, uint32_t count)
+{
+    spread_windows(x, 1024, count);
+    starved_task(x, 500);
+}
+
+static void run_by_windows(struct input *x, uint32_t count)
+{
+    spread_windows(x, 4096, count);
+    add_task(x, 1000, 16384, 16384);
+    release_all(x, 50000);
+}
+
+static void least_supply_by_length(struct input *x, uint32_t length)
+{
+    spread_windows(x, 1000, 8);
+    x->asked = length - 1;
+}
+
+static void verdict_by_cycle(struct input *x, uint32_t cycle)
+{
+    spread_windows(x, 1000, 8);
+    add_task(x, 100, 1000, 1000);
+    add_task(x, 100, 1000, 800);
+    add_task(x, 1, cycle, cycle);
+}
+
+static void bound_by_deadline(struct input *x, uint32_t deadline)
+{
+    spread_windows(x, 16, 1);
+    starved_task(x, deadline);
+}
+
+static void run_by_ticks(struct input *x, uint32_t ticks)
+{
+    typical_verdict(x);
+    release_all(x, ticks);
+}
+
+/* Tables */
+
+struct one_case {
+    const struct entry *entry;
+    const char *words;
+    uint32_t code;
+    void (*make)(struct input *x);
+};
+
+static const struct one_case CASES[] = {
+    {&LEAST_SUPPLY, "small: P 8, 2 windows, length 6", PALIKUDYOM_AMOUNT, small_least_supply},
+    {&LEAST_SUPPLY, "typical: P 1,000, 8 windows, length 2,500", PALIKUDYOM_AMOUNT, typical_least_supply},
+    {&LEAST_SUPPLY, "worst: P 65,536, 64 windows, length 983,039", PALIKUDYOM_AMOUNT, worst_least_supply},
+    {&CRITICAL, "small: P 8, 2 windows", PALIKUDYOM_AMOUNT, small_table},
+    {&CRITICAL, "typical: P 1,000, 8 windows", PALIKUDYOM_AMOUNT, typical_table},
+    {&CRITICAL, "heavy: P 384, 64 windows", PALIKUDYOM_AMOUNT, heavy_critical},
+    {&DELAY, "small: P 8, 2 windows", PALIKUDYOM_DELAY, small_table},
+    {&DELAY, "typical: P 1,000, 8 windows", PALIKUDYOM_DELAY, typical_table},
+    {&DELAY, "heavy: P 768, 64 windows", PALIKUDYOM_DELAY, heavy_delay},
+    {&VERDICT, "small: P 8, 2 windows, 2 tasks, meets, H 8", PALIKUDYOM_MEETS, small_verdict},
+    {&VERDICT, "typical: P 1,000, 8 windows, 8 tasks, meets, H 10,000", PALIKUDYOM_MEETS, typical_verdict},
+    {&VERDICT, "heavy: P 160, 64 windows, 32 tasks, meets, H 1,000,000", PALIKUDYOM_MEETS, heavy_verdict},
+    {&BOUND, "small: P 8, 2 windows, the lower of 2 tasks", PALIKUDYOM_BOUND, small_bound},
+    {&BOUND, "typical: P 1,000, 8 windows, the lowest of 8 tasks", PALIKUDYOM_BOUND, typical_bound},
+    {&BOUND, "heavy: P 160, 64 windows, the lowest of 32 tasks, D 4,000, no bound", PALIKUDYOM_NO_BOUND, heavy_bound},
+    {&RUN, "small: P 8, 2 windows, 2 tasks, 2 jobs, 10 ticks", PALIKUDYOM_MET, small_run},
+    {&RUN, "typical: P 1,000, 8 windows, 8 tasks, 36 jobs, 10,000 ticks", PALIKUDYOM_MET, typical_run},
+    {&RUN, "worst: P 65,536, 64 windows, 32 tasks, 4,096 jobs, 1,100,000 ticks", PALIKUDYOM_MET, worst_run},
+};
+
+static const struct one_case CHECKED_ONCE[] = {
+    {&RUN_CHECKED_ONCE, "small", PALIKUDYOM_MET, small_run},
+    {&RUN_CHECKED_ONCE, "typical", PALIKUDYOM_MET, typical_run},
+    {&RUN_CHECKED_ONCE, "worst", PALIKUDYOM_MET, worst_run},
+};
+
+struct growth {
+    const struct entry *entry;
+    const char *grows;
+    const char *words; /* what stays */
+    uint32_t code;
+    void (*make)(struct input *x, uint32_t size);
+    uint32_t sizes[4]; /* 0: no more */
+};
+
+static const struct growth GROWTHS[] = {
+    {&LEAST_SUPPLY, "P", "8 windows, length P − 1", PALIKUDYOM_AMOUNT, least_supply_by_frame, {1024, 2048, 4096, 8192}},
+    {&CRITICAL, "P", "8 windows", PALIKUDYOM_AMOUNT, table_by_frame, {128, 256, 512, 1024}},
+    {&DELAY, "P", "8 windows", PALIKUDYOM_DELAY, table_by_frame, {256, 512, 1024, 2048}},
+    {&VERDICT, "P", "8 windows, 3 tasks, H 65,536", PALIKUDYOM_MEETS, verdict_by_frame, {1024, 2048, 4096, 8192}},
+    {&BOUND, "P", "8 windows, 2 tasks, D 500, no bound", PALIKUDYOM_NO_BOUND, bound_by_frame, {1024, 2048, 4096, 8192}},
+    {&RUN, "P", "8 windows, 1 task, 50,000 ticks", PALIKUDYOM_MET, run_by_frame, {1024, 2048, 4096, 8192}},
+    {&LEAST_SUPPLY, "windows", "P 4,096, length 4,095", PALIKUDYOM_AMOUNT, least_supply_by_windows, {1, 8, 64}},
+    {&CRITICAL, "windows", "P 256", PALIKUDYOM_AMOUNT, table_by_windows, {1, 8, 64}},
+    {&DELAY, "windows", "P 256", PALIKUDYOM_DELAY, table_by_windows, {1, 8, 64}},
+    {&VERDICT, "windows", "P 1,024, 3 tasks, H 65,536", PALIKUDYOM_MEETS, verdict_by_windows, {1, 8, 64}},
+    {&BOUND, "windows", "P 1,024, 2 tasks, D 500, no bound", PALIKUDYOM_NO_BOUND, bound_by_windows, {1, 8, 64}},
+    {&RUN, "windows", "P 4,096, 1 task, 50,000 ticks", PALIKUDYOM_MET, run_by_windows, {1, 8, 64}},
+    {&LEAST_SUPPLY, "length + 1", "P 1,000, 8 windows", PALIKUDYOM_AMOUNT, least_supply_by_length, {10000, 100000, 1000000}},
+    {&VERDICT, "H", "P 1,000, 8 windows, 3 tasks", PALIKUDYOM_MEETS, verdict_by_cycle, {10000, 100000, 1000000}},
+    {&BOUND, "D", "P 16, 1 window, 2 tasks, no bound", PALIKUDYOM_NO_BOUND, bound_by_deadline, {10000, 100000, 1000000}},
+    {&RUN, "ticks", "P 1,000, 8 windows, 8 tasks", PALIKUDYOM_MET, run_by_ticks, {10000, 100000, 1000000}},
+};
+
+/* three figures of a time, with its unit */
+static void print_time(double s)
+{
+    static const char *const units[] = {"s", "ms", "µs", "ns"};
+    size_t unit = 0;
+    while (s < 1 && unit < LENGTH(units) - 1) {
+        s *= 1000;
+        unit++;
+    }
+    printf("%.*f %s", s < 10 ? 2 : s < 100 ? 1 : 0, s, units[unit]);
+}
+
+/* a number up to 999,999,999 with its commas */
+static void print_number(uint32_t n)
+{
+    if (n < 1000)
+        printf("%u", (unsigned)n);
+    else {
+        print_number(n / 1000);
+        printf(",%03u", (unsigned)(n % 1000));
+    }
+}
+
+static struct input input; /* the one in use: too large for the stack */
+
+static void print_case(const struct one_case *c)
+{
+    memset(&input, 0, sizeof input);
+    c->make(&input);
+    compare(c->entry, c->words, c->code, &input);
+    double proved, plain;
+    measure_both(c->entry, &input, &proved, &plain);
+    printf("| %s | %s | ", c->entry->name, c->words);
+    print_time(proved);
+    printf(" | ");
+    print_time(plain);
+    printf(" | %.2f |\n", proved / plain);
+}
+
+static void print_growth(const struct growth *g)
+{
+    double times[LENGTH(g->sizes)];
+    size_t count = 0;
+    while (count < LENGTH(g->sizes) && g->sizes[count] != 0) {
+        memset(&input, 0, sizeof input);
+        g->make(&input, g->sizes[count]);
+        compare(g->entry, g->words, g->code, &input);
+        times[count++] = measure_proved(g->entry, &input);
+    }
+    printf("| %s | %s | %s | ", g->entry->name, g->words, g->grows);
+    for (size_t i = 0; i < count; i++) {
+        printf("%s", i == 0 ? "" : "; ");
+        print_number(g->sizes[i]);
+        printf(": ");
+        print_time(times[i]);
+    }
+    printf(" | ");
+    for (size_t i = 1; i < count; i++)
+        printf("%s%.1f", i == 1 ? "" : ", ", times[i] / times[i - 1]);
+    printf(" |\n");
+}
+
+int main(void)
+{
+    printf("The proved code and plain C of the same algorithms:\n\n");
+    printf("| entry | input | proved | plain C | ratio |\n|---|---|---:|---:|---:|\n");
+    for (size_t i = 0; i < LENGTH(CASES); i++)
+        print_case(&CASES[i]);
+    printf("\nThe run's inputs again, beside plain C that checks the table once and not again at each tick:\n\n");
+    printf("| entry | input | proved | plain C | ratio |\n|---|---|---:|---:|---:|\n");
+    for (size_t i = 0; i < LENGTH(CHECKED_ONCE); i++)
+        print_case(&CHECKED_ONCE[i]);
+    printf("\nHow the proved code's time grows:\n\n");
+    printf("| entry | what stays | what grows | proved | factor a step |\n|---|---|---|---|---|\n");
+    for (size_t i = 0; i < LENGTH(GROWTHS); i++)
+        print_growth(&GROWTHS[i]);
+    return 0;
+}

@@ -1,0 +1,24 @@
+/* The six timed entries in plain C, as palikudyom.h declares the proved ones: the same arguments, the same answers and the same buffers after a call. */
+#ifndef PLAIN_H
+#define PLAIN_H
+
+#include "palikudyom.h"
+
+struct palikudyom_answer plain_least_supply(uint32_t frame, const uint32_t *windows, size_t windows_len, uint32_t length);
+
+struct palikudyom_answer plain_critical(uint32_t frame, const uint32_t *windows, size_t windows_len, uint32_t *out, size_t out_len);
+
+struct palikudyom_answer plain_delay(uint32_t frame, const uint32_t *windows, size_t windows_len);
+
+struct palikudyom_answer plain_verdict(uint32_t frame, const uint32_t *windows, size_t windows_len, const uint32_t *tasks, size_t tasks_len);
+
+struct palikudyom_answer plain_bound(uint32_t frame, const uint32_t *windows, size_t windows_len, const uint32_t *tasks, size_t tasks_len, uint32_t index);
+
+struct palikudyom_answer plain_run(uint32_t frame, const uint32_t *windows, size_t windows_len, const uint32_t *tasks, size_t tasks_len, uint32_t ticks,
+                                   const uint32_t *jobs, size_t jobs_len, uint32_t *counts, size_t counts_len);
+
+/* The run of one who trusts his own check: the table is checked before the first tick, and not again at each. */
+struct palikudyom_answer plain_run_checked_once(uint32_t frame, const uint32_t *windows, size_t windows_len, const uint32_t *tasks, size_t tasks_len,
+                                                uint32_t ticks, const uint32_t *jobs, size_t jobs_len, uint32_t *counts, size_t counts_len);
+
+#endif

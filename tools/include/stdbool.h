@@ -1,0 +1,3 @@
+#define bool _Bool
+#define false 0
+#define true 1

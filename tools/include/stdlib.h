@@ -1,0 +1,1 @@
+_Noreturn void exit(int status);
