@@ -8,6 +8,7 @@ use checker::answer::Verdict;
 use checker::answer::size;
 use libc::STDOUT_FILENO;
 use machine::run::Ran;
+use plan::line::MOST;
 use plan::line::line;
 
 fn word(text: &[u8]) {
@@ -94,9 +95,9 @@ pub fn margin(m: Margin) {
     newline();
 }
 
-// The line of a verdict, as `plan` makes it: at most 86 bytes, of a miss with the largest numbers. Whether it was written.
+// The line of a verdict, as `plan` makes it; it is never longer than its most. Whether it was written.
 pub fn verdict(v: Verdict) -> bool {
-    let mut text = [0u8; 86];
+    let mut text = [0u8; MOST];
     match line(v, &mut text) {
         Amount::Of(n) => {
             let n = n as usize;

@@ -16,7 +16,7 @@ ghost use Rattle.checker.specs.Told.{no, toldAmount, toldVerdict};
 ghost use Rattle.plan.specs.Put.{Put};
 
 // A line has at most 36 bytes of words and four numbers of 20 digits.
-const MOST: usize = 116;
+pub const MOST: usize = 116;
 
 // A word, then a number.
 fn put_part(out: &mut [u8], at: usize, word: &[u8], n: u64) -> usize
