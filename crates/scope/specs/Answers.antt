@@ -1,12 +1,12 @@
 -- Document 01, "Refusal numbers": what each entry checks, in which order, and what it answers and writes, on any numbers at all.
-use Prim.Native.Nat.{ℕ, _*_, _/_, _%_}
-use mathlib.Core.Bool.{Bool, true, false, not, _||_}
+use Prim.Native.Nat.{ℕ, _/_}
+use mathlib.Core.Bool.{Bool, true, false, _||_}
 use mathlib.Core.Option.{Option, none, some}
 use mathlib.Core.List.{List, [], _∷_}
 use lib.Dec.{leb, ltb, eqb}
 use lib.IntN.{ℤ}
 use lib.ListN.{length}
-use Rattle.scope.specs.Numbers.{written}
+use Rattle.scope.specs.Numbers.{badCount, written}
 use Rattle.scope.specs.Limits.{mostFrame, mostWindows, mostTasks, mostCycle, mostLength, mostTicks, mostJobs}
 use Rattle.scope.specs.Ticks.{perFrame, leastSupply}
 use Rattle.scope.specs.Windows.{Board, Window, windowsOf, supplied, badWindow}
@@ -58,7 +58,7 @@ unlessKept (fault number place) new old = old
 
 -- 1: window list odd, empty, or over 64 windows
 unfoldable pub windowListFault : List ℕ → Fault
-windowListFault ws = faultIf (not (eqb (length ws % 2) 0) || eqb (length ws) 0 || ltb (2 * mostWindows) (length ws)) 1 0
+windowListFault ws = faultIf (badCount 2 mostWindows ws || eqb (length ws) 0) 1 0
 
 -- 2: P outside 1 to 65,536
 unfoldable pub frameFault : Board → Fault
@@ -70,7 +70,7 @@ windowFault b ws = faultAt 3 (badWindow b (windowsOf ws))
 
 -- 4: task list not in threes, or over 32 tasks
 unfoldable pub taskListFault : List ℕ → Fault
-taskListFault ts = faultIf (not (eqb (length ts % 3) 0) || ltb (3 * mostTasks) (length ts)) 4 0
+taskListFault ts = faultIf (badCount 3 mostTasks ts) 4 0
 
 -- 5: a task breaks its rule
 unfoldable pub taskFault : List ℕ → Fault
@@ -94,7 +94,7 @@ roomFault needed room = faultIf (ltb room needed) 8 needed
 
 -- 10: job list not in threes, over 4,096 jobs, or n over 1,100,000
 unfoldable pub jobListFault : ℕ → List ℕ → Fault
-jobListFault n js = faultIf (not (eqb (length js % 3) 0) || ltb (3 * mostJobs) (length js) || ltb mostTicks n) 10 0
+jobListFault n js = faultIf (badCount 3 mostJobs js || ltb mostTicks n) 10 0
 
 -- 11: a job breaks the legal list rule
 unfoldable pub jobFault : List ℕ → ℕ → List ℕ → Fault

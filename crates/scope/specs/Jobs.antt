@@ -5,7 +5,7 @@ use mathlib.Core.Option.{Option}
 use mathlib.Core.List.{List}
 use lib.Dec.{leb, ltb, eqb}
 use lib.ListN.{length, getD}
-use Rattle.scope.specs.Numbers.{all, first, threes, lexically}
+use Rattle.scope.specs.Numbers.{all, first, pieces, lexically}
 use Rattle.scope.specs.Tasks.{Task, taskAt}
 
 pub record Job : Type 0 where
@@ -18,7 +18,7 @@ job r i w = record { release = r; task = i; work = w }
 
 -- the jobs of a list of numbers: release, task index, work, release, ..
 abbrev pub jobsOf : List ℕ → List Job
-jobsOf = threes job
+jobsOf = pieces 3 job
 
 abbrev pub jobAt : List Job → ℕ → Job
 jobAt js j = getD js j (job 0 0 0)

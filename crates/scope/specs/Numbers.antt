@@ -1,7 +1,7 @@
 -- How document 01 picks and collects numbers: sums, the least, the greatest, the first that passes a test; lists made of them.
 -- Each grows at its end, as a loop does.
-use Prim.Native.Nat.{ℕ, zero, suc, _+_, min, max}
-use mathlib.Core.Bool.{Bool, true, false, cond, _&&_, _||_}
+use Prim.Native.Nat.{ℕ, zero, suc, _+_, _/_, _%_, min, max}
+use mathlib.Core.Bool.{Bool, true, false, not, cond, _&&_, _||_}
 use mathlib.Core.Option.{Option, none, some}
 use mathlib.Core.List.{List, [], _∷_, _++_}
 use lib.Dec.{ltb, eqb}
@@ -69,18 +69,25 @@ unfoldable pub keep : (ℕ → Bool) → ℕ → List ℕ
 keep p zero = []
 keep p (suc n) = keep p n ++ cond (p n) (n ∷ []) []
 
--- a list of numbers read two at a time; a number left over at the end is not read
-unfoldable pub twos : {A : Type 0} → (ℕ → ℕ → A) → List ℕ → List A
-twos f [] = []
-twos f (a ∷ []) = []
-twos f (a ∷ b ∷ l) = f a b ∷ twos f l
+-- what k numbers make
+abbrev pub Of : ℕ → Type 0 → Type 0
+Of zero A = A
+Of (suc k) A = ℕ → Of k A
 
--- a list of numbers read three at a time; numbers left over at the end are not read
-unfoldable pub threes : {A : Type 0} → (ℕ → ℕ → ℕ → A) → List ℕ → List A
-threes f [] = []
-threes f (a ∷ []) = []
-threes f (a ∷ b ∷ []) = []
-threes f (a ∷ b ∷ c ∷ l) = f a b c ∷ threes f l
+-- pieces of k numbers, of which the first, already begun, misses m
+unfoldable pub piecesFrom : {A : Type 0} (k : ℕ) → Of k A → List ℕ → (m : ℕ) → Of m A → List A
+piecesFrom k f [] m g = []
+piecesFrom k f (a ∷ l) zero g = []
+piecesFrom k f (a ∷ l) (suc zero) g = g a ∷ piecesFrom k f l k f
+piecesFrom k f (a ∷ l) (suc (suc m)) g = piecesFrom k f l (suc m) (g a)
+
+-- a list of numbers read k at a time; numbers left over at the end are not read
+unfoldable pub pieces : {A : Type 0} (k : ℕ) → Of k A → List ℕ → List A
+pieces k f l = piecesFrom k f l k f
+
+-- the list is not in pieces of k numbers, or has over `most` of them
+unfoldable pub badCount : ℕ → ℕ → List ℕ → Bool
+badCount k most l = not (eqb (length l % k) 0) || ltb most (length l / k)
 
 -- a lent buffer with a list written at its front; the rest of the buffer stays
 unfoldable pub written : List ℕ → List ℕ → List ℕ

@@ -6,7 +6,7 @@ use mathlib.Core.List.{List, [], _∷_}
 use lib.Dec.{leb, ltb}
 use lib.IntN.{ℤ, pos, _-ℤ_}
 use lib.ListN.{length, getD}
-use Rattle.scope.specs.Numbers.{first, threes}
+use Rattle.scope.specs.Numbers.{first, pieces}
 use Rattle.scope.specs.Limits.{mostOfTask}
 use Rattle.scope.specs.Ticks.{leastSupply}
 
@@ -21,7 +21,7 @@ task c t d = record { C = c; T = t; D = d }
 
 -- the tasks of a list of numbers: C, T, D, C, T, D, ..
 abbrev pub tasksOf : List ℕ → List Task
-tasksOf = threes task
+tasksOf = pieces 3 task
 
 abbrev pub taskAt : List Task → ℕ → Task
 taskAt ts i = getD ts i (task 0 0 0)

@@ -5,7 +5,7 @@ use mathlib.Core.Option.{Option}
 use mathlib.Core.List.{List, [], _∷_}
 use lib.Dec.{leb, ltb, eqb}
 use lib.ListN.{length, getD}
-use Rattle.scope.specs.Numbers.{first, twos}
+use Rattle.scope.specs.Numbers.{first, pieces}
 
 -- what, beside the windows, decides which ticks are supplied
 pub record Board : Type 0 where
@@ -21,7 +21,7 @@ window s e = record { start = s; end = e }
 
 -- the windows of a list of numbers: start, end, start, end, ..
 abbrev pub windowsOf : List ℕ → List Window
-windowsOf = twos window
+windowsOf = pieces 2 window
 
 abbrev pub windowAt : List Window → ℕ → Window
 windowAt ws i = getD ws i (window 0 0)

@@ -1,13 +1,14 @@
 -- What an entry that does not refuse has checked
 use mathlib.Core.Path.{_≡_, refl}
-use mathlib.Core.Bool.{Bool, true, false, not, _||_}
+use mathlib.Core.Bool.{Bool, true, false}
 use mathlib.Core.Option.{Option, none, some}
 use mathlib.Core.List.{List}
 use Prim.Native.Nat.{ℕ, _*_, _%_, _≤_, _<_}
 use native.Mathlib.Omega.{arith}
 use lib.Dec.{ltb, eqb}
 use lib.ListN.{length}
-use borrow.Author.Tests.{ltb-false, leb-false, eqb-true, eqb-false, not-false}
+use borrow.Author.Tests.{ltb-false, leb-false, eqb-false, ne-eqb}
+use Rattle.scope.specs.Numbers.{badCount}
 use Rattle.scope.specs.Limits.{mostFrame, mostWindows, mostTasks, mostCycle, mostLength, mostTicks, mostJobs}
 use Rattle.scope.specs.Windows.{Board, windowsOf, supplied, badWindow}
 use Rattle.scope.specs.Tasks.{tasksOf, badTask}
@@ -18,6 +19,8 @@ use Rattle.scope.specs.Jobs.{jobsOf, badJob}
 use Rattle.scope.specs.Machine.{edf}
 use Rattle.scope.specs.Run.{Ran, ran}
 use Rattle.scope.specs.Answers.{Fault, Fault.fine, Fault.fault, Answer.given, faultIf, faultAt, _orElse_, unless, windowListFault, frameFault, windowFault, taskListFault, taskFault, cycleFault, lengthFault, absentFault, tableFault, groupFault, verdictAnswer, boundAnswer, jobListFault, jobFault, roomFault, runFault, runAnswer}
+use Rattle.theory.specs.Numbers.{or-neither}
+use Rattle.theory.specs.Lists.{count-fine, fine-count}
 use Rattle.theory.specs.Tasks.{TaskRules, Within, task-rules}
 
 -- ---- faults
@@ -42,10 +45,6 @@ pub unless-given : {A : Type 0} (f : Fault) (a v : A) → unless f a ≡ given v
 unless-given fine a v e = (refl, cc)
 unless-given (fault n p) a v e = let z : _≡_ {A = ℕ} 0 1 = cc in absurd (omega arith)
 
-pub or-false : (a b : Bool) → (a || b) ≡ false → (a ≡ false) × (b ≡ false)
-or-false true b e = (e, elim b [ true ↦ e | false ↦ refl ])
-or-false false b e = (refl, e)
-
 -- ---- tables, groups and lengths that pass their checks
 
 pub record LegalTable (b : Board) (ws : List ℕ) : Type 0 where
@@ -59,11 +58,14 @@ pub record LegalTable (b : Board) (ws : List ℕ) : Type 0 where
 pub window-list-legal : (ws : List ℕ) → windowListFault ws ≡ fine → (length ws % 2 ≡ 0) × (0 < length ws) × (length ws ≤ 2 * mostWindows)
 unfolding windowListFault
 window-list-legal ws e =
-    let odd = not (eqb (length ws % 2) 0) in
-    let l = or-false (odd || eqb (length ws) 0) (ltb (2 * mostWindows) (length ws)) (faultIf-fine _ 1 0 e) in
-    let m = or-false odd (eqb (length ws) 0) (l .0) in
-    let filled = eqb-false (length ws) 0 (m .1) in
-    (eqb-true (length ws % 2) 0 (not-false _ (m .0)), omega (arith, filled), ltb-false (2 * mostWindows) (length ws) (l .1))
+    let l = or-neither (badCount 2 mostWindows ws) (eqb (length ws) 0) (faultIf-fine _ 1 0 e) in
+    let c = count-fine 2 mostWindows ws (l .0) in
+    let filled = eqb-false (length ws) 0 (l .1) in
+    (c .0, omega (arith, filled), omega (arith, c .0, c .1))
+
+pub window-list-fine : (ws : List ℕ) → length ws % 2 ≡ 0 → 0 < length ws → length ws ≤ 2 * mostWindows → windowListFault ws ≡ fine
+unfolding windowListFault
+window-list-fine ws e p h = rw (fine-count 2 mostWindows ws e (omega arith), ne-eqb (length ws) 0 (λ z. omega arith))
 
 pub table-legal : (b : Board) (ws : List ℕ) → tableFault b ws ≡ fine → LegalTable b ws
 unfolding tableFault frameFault windowFault
@@ -71,7 +73,7 @@ table-legal b ws e =
     let p = orElse-fine (windowListFault ws) (frameFault b orElse windowFault b ws) e in
     let q = orElse-fine (frameFault b) (windowFault b ws) (p .1) in
     let l = window-list-legal ws (p .0) in
-    let f = or-false (eqb (b .frame) 0) (ltb mostFrame (b .frame)) (faultIf-fine _ 2 0 (q .0)) in
+    let f = or-neither (eqb (b .frame) 0) (ltb mostFrame (b .frame)) (faultIf-fine _ 2 0 (q .0)) in
     let framed = eqb-false (b .frame) 0 (f .0) in
     record {
       frame = omega (arith, framed);
@@ -92,8 +94,12 @@ pub record LegalGroup (ts : List ℕ) : Type 0 where
 pub task-list-legal : (ts : List ℕ) → taskListFault ts ≡ fine → (length ts % 3 ≡ 0) × (length ts ≤ 3 * mostTasks)
 unfolding taskListFault
 task-list-legal ts e =
-    let l = or-false (not (eqb (length ts % 3) 0)) (ltb (3 * mostTasks) (length ts)) (faultIf-fine _ 4 0 e) in
-    (eqb-true (length ts % 3) 0 (not-false _ (l .0)), ltb-false (3 * mostTasks) (length ts) (l .1))
+    let c = count-fine 3 mostTasks ts (faultIf-fine _ 4 0 e) in
+    (c .0, omega (arith, c .0, c .1))
+
+pub task-list-fine : (ts : List ℕ) → length ts % 3 ≡ 0 → length ts ≤ 3 * mostTasks → taskListFault ts ≡ fine
+unfolding taskListFault
+task-list-fine ts e h = rw (fine-count 3 mostTasks ts e (omega arith))
 
 pub group-legal : (ts : List ℕ) → groupFault ts ≡ fine → LegalGroup ts
 unfolding groupFault taskFault
@@ -120,10 +126,9 @@ length-legal t e = ltb-false mostLength t (faultIf-fine (ltb mostLength t) 7 0 e
 pub job-list-legal : (n : ℕ) (js : List ℕ) → jobListFault n js ≡ fine → (length js % 3 ≡ 0) × (length js ≤ 3 * mostJobs) × (n ≤ mostTicks)
 unfolding jobListFault
 job-list-legal n js e =
-    let odd = not (eqb (length js % 3) 0) in
-    let l = or-false (odd || ltb (3 * mostJobs) (length js)) (ltb mostTicks n) (faultIf-fine _ 10 0 e) in
-    let m = or-false odd (ltb (3 * mostJobs) (length js)) (l .0) in
-    (eqb-true (length js % 3) 0 (not-false _ (m .0)), ltb-false (3 * mostJobs) (length js) (m .1), ltb-false mostTicks n (l .1))
+    let l = or-neither (badCount 3 mostJobs js) (ltb mostTicks n) (faultIf-fine _ 10 0 e) in
+    let c = count-fine 3 mostJobs js (l .0) in
+    (c .0, omega (arith, c .0, c .1), ltb-false mostTicks n (l .1))
 
 -- ---- entries that answer
 

@@ -5,7 +5,7 @@ use mathlib.Core.List.{List, [], _∷_, _++_}
 use Prim.Native.Nat.{ℕ, zero, suc, _-_, _*_, _≤_, _<_}
 use native.Mathlib.Omega.{arith}
 use lib.ListN.{length, getD, take, replicate, length-append}
-use Rattle.scope.specs.Numbers.{threes, twos, greatest}
+use Rattle.scope.specs.Numbers.{piecesFrom, pieces, badCount, greatest}
 use Rattle.scope.specs.Ticks.{supply, leastSupply}
 use Rattle.scope.specs.Windows.{inWindow, covers, supplied}
 use Rattle.scope.specs.Tasks.{tasksOf, demand}
@@ -82,7 +82,7 @@ w11-exact = exact-bound (on 8) X w11 1 (bound 7) w11-bounds 7 .0 refl .3
 -- W7 meets, so W13's run, of which the table gives the counts 4 and 7, is met with counts of at most 4 and 7
 w13-in-time : (outcome (supplied (on 8) X) (edf (tasksOf w7) (jobsOf w13)) (tasksOf w7) (jobsOf w13) 10 ≡ met)
     × (getD (counts (supplied (on 8) X) (edf (tasksOf w7) (jobsOf w13)) (tasksOf w7) (jobsOf w13) 10) 1 0 ≤ 7)
-unfolding threes
+unfolding piecesFrom pieces
 w13-in-time =
     let legal = runs (on 8) X w7 10 w13 3 (record { outcome = met; backlog = 2 }) w13-runs .jobs in
     let m = edf-meets (on 8) X w7 8 w7-meets 10 (jobsOf w13) legal in
@@ -97,7 +97,7 @@ w4-way : Way
 w4-way k = some (record { task = 0; turn = k - 5 })
 
 w4-served : Served (supplied (on 8) X) (tasksOf (1 ∷ 4 ∷ 4 ∷ [])) w4-way 2 8
-unfolding threes twos inWindow covers supplied supply givenTo w4-way
+unfolding piecesFrom pieces inWindow covers supplied supply givenTo w4-way
 w4-served zero zero l d = omega arith
 w4-served zero (suc zero) l d = omega arith
 w4-served zero (suc (suc m)) l d = absurd (omega arith)
@@ -116,7 +116,7 @@ unfolding planBytes numberBytes numberBytesWithin numbersBytes
 w6-bytes = refl
 
 w6-writable : Writable w6-plan
-unfolding windowListFault taskListFault greatest
+unfolding badCount windowListFault taskListFault greatest
 w6-writable =
     record {
       frame = omega arith;
@@ -173,7 +173,7 @@ longest-bytes = omega (
 )
 
 longest-writable : Writable longest
-unfolding longest windowListFault taskListFault greatest
+unfolding longest badCount windowListFault taskListFault greatest
 longest-writable =
     record {
       frame = omega arith;

@@ -10,7 +10,7 @@ use native.Mathlib.Decide.{decLe}
 use lib.Arith.{mod-mul}
 use lib.Dec.{leb, ltb}
 use borrow.Author.Tests.{le-leb, lt-leb, lt-ltb, le-ltb}
-use Rattle.scope.specs.Numbers.{bit, twos}
+use Rattle.scope.specs.Numbers.{bit, piecesFrom, pieces}
 use Rattle.scope.specs.Ticks.{Periodic, supply, leastSupply}
 use Rattle.scope.specs.Windows.{Board, windowsOf, inWindow, covers, supplied}
 use Rattle.scope.specs.Demands.{finerBoard, finerWindows}
@@ -131,7 +131,7 @@ module _ (q : ℕ) (pos : 1 ≤ q) where
 
   -- a part lies in a finer window where its tick lies in the window
   finer-covers : (ws : List ℕ) (y : ℕ) → covers (windowsOf (finerWindows q ws)) y ≡ covers (windowsOf ws) (y / q)
-  unfolding twos covers inWindow
+  unfolding piecesFrom pieces covers inWindow
   finer-covers [] y = refl
   finer-covers (a ∷ []) y = refl
   finer-covers (a ∷ b ∷ ws) y = rw (finer-start a y, finer-end y b, finer-covers ws y)

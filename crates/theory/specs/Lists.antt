@@ -1,64 +1,149 @@
--- Laws of flat lists of numbers: read two or three at a time, and kept by a test
-use mathlib.Core.Path.{_≡_, refl, sym, ap}
-use mathlib.Core.Bool.{Bool, true, false}
-use mathlib.Core.Logic.{_⊎_, inl, inr}
-use mathlib.Core.List.{List, [], _∷_, _++_, append-nil}
-use Prim.Native.Nat.{ℕ, zero, suc, _+_, _*_, _/_, _%_, _<_}
+-- Laws of flat lists of numbers: read k at a time, counted by the piece, and kept by a test
+use mathlib.Core.Path.{_≡_, refl, sym, ap, _∙_}
+use mathlib.Core.Bool.{Bool, true, false, not, _||_, or-true}
+use mathlib.Core.Logic.{_≢_, _⊎_, inl, inr}
+use mathlib.Core.List.{List, [], _∷_, _++_, append-nil, append-assoc}
+use Prim.Native.Nat.{ℕ, zero, suc, _+_, _-_, _*_, _/_, _%_, _≤_, _<_}
 use native.Mathlib.Omega.{arith}
+use native.Mathlib.Numerals.{add-one}
+use native.Mathlib.Nat.{add-div-right, div-eq-of-lt, div-zero}
 use native.Mathlib.Decide.{decLt}
-use lib.ListN.{length, getD, length-append, List·getD-append}
-use lib.Seq.{getD-at}
-use Rattle.scope.specs.Numbers.{keep, twos, threes}
-use Rattle.theory.specs.Numbers.{bool-cases}
+use lib.Dec.{eqb}
+use lib.ListN.{length, getD, take, drop, length-append, length-drop, take-append-drop, List·getD-append}
+use lib.Seq.{getD-at, length-take-le}
+use borrow.Author.Tests.{lt-ltb, le-ltb, ltb-false, eqb-true, eq-eqb, ne-eqb, not-false}
+use Rattle.scope.specs.Numbers.{Of, piecesFrom, pieces, badCount, keep}
+use Rattle.theory.specs.Numbers.{bool-cases, or-neither}
 
--- ---- two at a time
+-- ---- k at a time
 
-module _ {A : Type 0} (f : ℕ → ℕ → A) where
-  pub twos-length : (l : List ℕ) → length (twos f l) ≡ length l / 2
-  unfolding twos
-  twos-length [] = refl
-  twos-length (a ∷ []) = refl
-  twos-length (a ∷ b ∷ l) = omega (arith, twos-length l)
+-- what the k numbers from place n on make
+unfoldable pub made : {A : Type 0} (k : ℕ) → Of k A → List ℕ → ℕ → A
+made zero f l n = f
+made (suc k) f l n = made k (f (getD l n 0)) l (suc n)
 
-  pub twos-at : (d : A) (l : List ℕ) (i : ℕ) → 2 * i + 1 < length l → getD (twos f l) i d ≡ f (getD l (2 * i) 0) (getD l (2 * i + 1) 0)
-  unfolding twos
-  twos-at d [] i h = absurd (omega arith)
-  twos-at d (a ∷ []) i h = absurd (omega arith)
-  twos-at d (a ∷ b ∷ l) zero h = refl
-  twos-at d (a ∷ b ∷ l) (suc i) h =
-      let e₀ : 2 * suc i ≡ suc (suc (2 * i)) = omega arith in
-      let e₁ : 2 * suc i + 1 ≡ suc (suc (2 * i + 1)) = omega arith in
-      rw (e₁, e₀) (twos-at d l i (omega arith))
+made-after : {A : Type 0} (k : ℕ) (f : Of k A) (a : ℕ) (l : List ℕ) (n : ℕ) → made k f (a ∷ l) (suc n) ≡ made k f l n
+unfolding made
+made-after zero f a l n = refl
+made-after (suc k) f a l n = made-after k (f (getD l n 0)) a l (suc n)
 
-  -- after whole pairs the reading starts afresh
-  pub twos-append : (l m : List ℕ) → length l % 2 ≡ 0 → twos f (l ++ m) ≡ twos f l ++ twos f m
-  unfolding twos
-  twos-append [] m h = refl
-  twos-append (a ∷ []) m h = absurd (omega arith)
-  twos-append (a ∷ b ∷ l) m h = ap (λ (r : List A). f a b ∷ r) (twos-append l m (omega arith))
+module _ (A : Type 0) (k : ℕ) (f : Of k A) where
+  -- from a piece that misses m: it counts as k − m numbers more
+  from-length : (l : List ℕ) (m : ℕ) (g : Of m A) → 0 < m → m ≤ k → length (piecesFrom k f l m g) ≡ (length l + (k - m)) / k
+  unfolding piecesFrom
+  from-length [] m g p h = let short : 0 + (k - m) < k = omega arith in sym (div-eq-of-lt short)
+  from-length (a ∷ l) zero g p h = absurd (omega arith)
+  from-length (a ∷ l) (suc zero) g p h =
+      let e : length l + (k - k) ≡ length l = omega arith in
+      let e′ : suc (length l) + (k - 1) ≡ length l + k = omega arith in
+      omega (
+        arith,
+        from-length l k f (omega arith) (omega arith),
+        ap (λ (n : ℕ). n / k) e,
+        ap (λ (n : ℕ). n / k) e′,
+        add-div-right (length l) {k = k} (omega arith),
+      )
+  from-length (a ∷ l) (suc (suc m)) g p h =
+      let e : length l + (k - suc m) ≡ suc (length l) + (k - suc (suc m)) = omega arith in
+      from-length l (suc m) (g a) (omega arith) (omega arith) ∙ ap (λ (n : ℕ). n / k) e
 
--- ---- three at a time
+  -- the piece that misses m, and the one that comes i after it
+  from-first : (d : A) (l : List ℕ) (m : ℕ) (g : Of m A) → 0 < m → m ≤ length l → getD (piecesFrom k f l m g) 0 d ≡ made m g l 0
+  unfolding piecesFrom made
+  from-first d [] m g p h = absurd (omega arith)
+  from-first d (a ∷ l) zero g p h = absurd (omega arith)
+  from-first d (a ∷ l) (suc zero) g p h = refl
+  from-first d (a ∷ l) (suc (suc m)) g p h = from-first d l (suc m) (g a) (omega arith) (omega arith) ∙ sym (made-after (suc m) (g a) a l 0)
 
-module _ {A : Type 0} (f : ℕ → ℕ → ℕ → A) where
-  pub threes-length : (l : List ℕ) → length (threes f l) ≡ length l / 3
-  unfolding threes
-  threes-length [] = refl
-  threes-length (a ∷ []) = refl
-  threes-length (a ∷ b ∷ []) = refl
-  threes-length (a ∷ b ∷ c ∷ l) = omega (arith, threes-length l)
+  from-next : (d : A) (l : List ℕ) (m : ℕ) (g : Of m A) (i : ℕ) → 0 < k → 0 < m → m + k * i + k ≤ length l →
+      getD (piecesFrom k f l m g) (suc i) d ≡ made k f l (m + k * i)
+  unfolding piecesFrom
+  from-next d [] m g i q p h = absurd (omega arith)
+  from-next d (a ∷ l) zero g i q p h = absurd (omega arith)
+  from-next d (a ∷ l) (suc zero) g zero q p h =
+      let e : 1 + k * 0 ≡ 1 = omega arith in
+      from-first d l k f q (omega arith) ∙ sym (made-after k f a l 0) ∙ ap (made k f (a ∷ l)) (sym e)
+  from-next d (a ∷ l) (suc zero) g (suc i) q p h =
+      let e : 1 + k * suc i ≡ suc (k + k * i) = omega arith in
+      from-next d l k f i q q (omega arith) ∙ sym (made-after k f a l (k + k * i)) ∙ ap (made k f (a ∷ l)) (sym e)
+  from-next d (a ∷ l) (suc (suc m)) g i q p h =
+      let e : suc (suc m) + k * i ≡ suc (suc m + k * i) = omega arith in
+      from-next d l (suc m) (g a) i q (omega arith) (omega arith) ∙ sym (made-after k f a l (suc m + k * i)) ∙ ap (made k f (a ∷ l)) (sym e)
 
-  pub threes-at : (d : A) (l : List ℕ) (i : ℕ) → 3 * i + 2 < length l →
-      getD (threes f l) i d ≡ f (getD l (3 * i) 0) (getD l (3 * i + 1) 0) (getD l (3 * i + 2) 0)
-  unfolding threes
-  threes-at d [] i h = absurd (omega arith)
-  threes-at d (a ∷ []) i h = absurd (omega arith)
-  threes-at d (a ∷ b ∷ []) i h = absurd (omega arith)
-  threes-at d (a ∷ b ∷ c ∷ l) zero h = refl
-  threes-at d (a ∷ b ∷ c ∷ l) (suc i) h =
-      let e₀ : 3 * suc i ≡ suc (suc (suc (3 * i))) = omega arith in
-      let e₁ : 3 * suc i + 1 ≡ suc (suc (suc (3 * i + 1))) = omega arith in
-      let e₂ : 3 * suc i + 2 ≡ suc (suc (suc (3 * i + 2))) = omega arith in
-      rw (e₁, e₂, e₀) (threes-at d l i (omega arith))
+  -- a list of just the numbers that are missed, in front of others
+  from-append : (l r : List ℕ) (m : ℕ) (g : Of m A) → 0 < m → length l ≡ m → piecesFrom k f (l ++ r) m g ≡ made m g l 0 ∷ piecesFrom k f r k f
+  unfolding piecesFrom made
+  from-append [] r m g p h = absurd (omega arith)
+  from-append (a ∷ l) r zero g p h = absurd (omega arith)
+  from-append (a ∷ []) r (suc zero) g p h = refl
+  from-append (a ∷ b ∷ l) r (suc zero) g p h = absurd (omega arith)
+  from-append (a ∷ l) r (suc (suc m)) g p h =
+      from-append l r (suc m) (g a) (omega arith) (omega arith) ∙ ap (λ (x : A). x ∷ piecesFrom k f r k f) (sym (made-after (suc m) (g a) a l 0))
+
+-- how many pieces
+pub pieces-length : (A : Type 0) (k : ℕ) (f : Of k A) (l : List ℕ) → length (pieces k f l) ≡ length l / k
+unfolding pieces piecesFrom
+pieces-length A zero f [] = sym (div-zero 0)
+pieces-length A zero f (a ∷ l) = sym (div-zero (suc (length l)))
+pieces-length A (suc k) f l =
+    let e : length l + (suc k - suc k) ≡ length l = omega arith in
+    from-length A (suc k) f l (suc k) f (omega arith) (omega arith) ∙ ap (λ (n : ℕ). n / suc k) e
+
+module _ (A : Type 0) (k : ℕ) (f : Of k A) (some : 0 < k) where
+  -- piece i is made of the k numbers from place k · i on
+  pub piece-at : (d : A) (l : List ℕ) (i : ℕ) → k * i + k ≤ length l → getD (pieces k f l) i d ≡ made k f l (k * i)
+  unfolding pieces
+  piece-at d l zero h = let e : k * 0 ≡ 0 = omega arith in from-first A k f d l k f some (omega arith) ∙ ap (made k f l) (sym e)
+  piece-at d l (suc i) h =
+      let e : k * suc i ≡ k + k * i = omega arith in
+      from-next A k f d l k f i some some (omega arith) ∙ ap (made k f l) (sym e)
+
+  -- after whole pieces the reading starts afresh
+  pub pieces-append : (n : ℕ) (l r : List ℕ) → length l ≡ k * n → pieces k f (l ++ r) ≡ pieces k f l ++ pieces k f r
+  unfolding pieces piecesFrom
+  pieces-append zero [] r h = refl
+  pieces-append zero (a ∷ l) r h = absurd (omega arith)
+  pieces-append (suc n) l r h =
+      rw (take-append-drop k l) at (go (take k l) (drop k l) (length-take-le k l (omega arith)) (pieces-append n (drop k l) r (omega (arith, length-drop k l))))
+    where
+      go : (x y : List ℕ) → length x ≡ k → pieces k f (y ++ r) ≡ pieces k f y ++ pieces k f r → pieces k f ((x ++ y) ++ r) ≡ pieces k f (x ++ y) ++ pieces k f r
+      go x y e ih =
+          ap (λ (z : List ℕ). piecesFrom k f z k f) (append-assoc x y r) ∙ from-append A k f x (y ++ r) k f some e ∙ ap (λ (z : List A). made k f x 0 ∷ z) ih
+          ∙ ap (λ (z : List A). z ++ pieces k f r) (sym (from-append A k f x y k f some e))
+
+-- a piece of two numbers, and one of three
+pub two-at : {A : Type 0} (f : ℕ → ℕ → A) (d : A) (l : List ℕ) (i : ℕ) → 2 * i + 1 < length l →
+    getD (pieces 2 f l) i d ≡ f (getD l (2 * i) 0) (getD l (2 * i + 1) 0)
+unfolding made
+two-at {A} f d l i h = piece-at A 2 f (omega arith) d l i (omega arith) ∙ rw (add-one (2 * i))
+
+pub three-at : {A : Type 0} (f : ℕ → ℕ → ℕ → A) (d : A) (l : List ℕ) (i : ℕ) → 3 * i + 2 < length l →
+    getD (pieces 3 f l) i d ≡ f (getD l (3 * i) 0) (getD l (3 * i + 1) 0) (getD l (3 * i + 2) 0)
+unfolding made
+three-at {A} f d l i h =
+    let e : 3 * i + 2 ≡ suc (suc (3 * i)) = omega arith in
+    piece-at A 3 f (omega arith) d l i (omega arith) ∙ rw (e, add-one (3 * i))
+
+-- ---- the count of a list's numbers
+
+module _ (k most : ℕ) (l : List ℕ) where
+  pub count-fine : badCount k most l ≡ false → (length l % k ≡ 0) × (length l / k ≤ most)
+  unfolding badCount
+  count-fine e =
+      let n = or-neither (not (eqb (length l % k) 0)) _ e in
+      (eqb-true (length l % k) 0 (not-false _ (n .0)), ltb-false most (length l / k) (n .1))
+
+  pub fine-count : length l % k ≡ 0 → length l / k ≤ most → badCount k most l ≡ false
+  unfolding badCount
+  fine-count h e = rw (eq-eqb (length l % k) 0 h, le-ltb most (length l / k) e)
+
+  pub left-over-count : length l % k ≢ 0 → badCount k most l ≡ true
+  unfolding badCount
+  left-over-count h = rw (ne-eqb (length l % k) 0 h)
+
+  pub over-count : most < length l / k → badCount k most l ≡ true
+  unfolding badCount
+  over-count h = rw (lt-ltb most (length l / k) h) (or-true (not (eqb (length l % k) 0)))
 
 -- ---- the numbers below n that pass a test
 

@@ -1,6 +1,6 @@
 -- Laws of sums, of the least, the greatest and the first, over any function and any test of numbers
 use mathlib.Core.Path.{_≡_, refl, sym, ap, _∙_}
-use mathlib.Core.Bool.{Bool, true, false, cond, _&&_, and-eq-true-iff, true≢false, false≢true}
+use mathlib.Core.Bool.{Bool, true, false, cond, _&&_, _||_, and-eq-true-iff, true≢false, false≢true}
 use mathlib.Core.Logic.{_≢_, _⊎_, inl, inr}
 use mathlib.Core.Option.{Option, none, some}
 use Prim.Native.Nat.{ℕ, zero, suc, _+_, _*_, _≤_, _<_}
@@ -22,6 +22,10 @@ both-and p q = cc
 pub bool-cases : (b : Bool) → (b ≡ true) ⊎ (b ≡ false)
 bool-cases true = inl refl
 bool-cases false = inr refl
+
+pub or-neither : (a b : Bool) → (a || b) ≡ false → (a ≡ false) × (b ≡ false)
+or-neither true b e = (e, elim b [ true ↦ e | false ↦ refl ])
+or-neither false b e = (refl, e)
 
 -- a ≤ x and y ≤ e, as a test
 abbrev pub fits : ℕ → ℕ → ℕ → ℕ → Bool

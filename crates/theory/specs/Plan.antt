@@ -10,7 +10,8 @@ use borrow.Author.Tests.{ltb-false, eqb-false, lt-ltb, le-ltb, ne-eqb}
 use Rattle.scope.specs.Limits.{mostWindows, mostTasks}
 use Rattle.scope.specs.Answers.{Fault, Fault.fine, Fault.fault, Answer, Answer.given, Answer.refused, unless}
 use Rattle.scope.specs.Plan.{Read, Read.read, Read.bad, readNumber, readNumbers, Plan, orNine, past, windowCountFault, taskCountFault, restFault, tasksFrom, windowsFrom, planOf, planAnswer}
-use Rattle.theory.specs.Answers.{faultIf-fine, unless-given, or-false}
+use Rattle.theory.specs.Numbers.{or-neither}
+use Rattle.theory.specs.Answers.{faultIf-fine, unless-given}
 use Rattle.theory.specs.Seven.{number-next, number-small, first-number}
 use Rattle.theory.specs.Series.{numbers-next, first-numbers}
 
@@ -23,7 +24,7 @@ mostPlanBytes = 5 * (1 + 2 * mostWindows + 3 * mostTasks) + 2
 pub window-count : (m : ℕ) → windowCountFault m ≡ fine → (0 < m) × (m ≤ mostWindows)
 unfolding windowCountFault
 window-count m e =
-    let l = or-false (eqb m 0) (ltb mostWindows m) (faultIf-fine _ 1 0 e) in
+    let l = or-neither (eqb m 0) (ltb mostWindows m) (faultIf-fine _ 1 0 e) in
     let some = eqb-false m 0 (l .0) in
     (omega (arith, some), ltb-false mostWindows m (l .1))
 

@@ -9,7 +9,7 @@ use borrow.Author.Tests.{lt-ltb, le-ltb, eq-eqb, ne-eqb}
 use Rattle.scope.specs.Limits.{mostWindows, mostTasks, mostNumber}
 use Rattle.scope.specs.Answers.{Fault.fine, Answer.given, Answer.refused, windowListFault, taskListFault}
 use Rattle.scope.specs.Plan.{Plan, restFault, planOf, numberBytes, numbersBytes, planBytes}
-use Rattle.theory.specs.Answers.{window-list-legal, task-list-legal}
+use Rattle.theory.specs.Answers.{window-list-legal, window-list-fine, task-list-legal, task-list-fine}
 use Rattle.theory.specs.Seven.{UpTo, number-most, number-ahead, written-number}
 use Rattle.theory.specs.Series.{numbers-most, numbers-ahead, drop-past, written-numbers}
 use Rattle.theory.specs.Plan.{window-count, window-count-fine, task-count, task-count-fine, PlanAt, windows-next, tasks-next, plan-at, plan-read}
@@ -22,14 +22,6 @@ pub record Writable (p : Plan) : Type 0 where
   pub tasks : UpTo mostNumber (p .tasks)
   pub windowList : windowListFault (p .windows) ≡ fine
   pub taskList : taskListFault (p .tasks) ≡ fine
-
-window-list-fine : (ws : List ℕ) → length ws % 2 ≡ 0 → 0 < length ws → length ws ≤ 2 * mostWindows → windowListFault ws ≡ fine
-unfolding windowListFault
-window-list-fine ws e p h = rw (eq-eqb (length ws % 2) 0 e, ne-eqb (length ws) 0 (λ z. omega arith), le-ltb (2 * mostWindows) (length ws) h)
-
-task-list-fine : (ts : List ℕ) → length ts % 3 ≡ 0 → length ts ≤ 3 * mostTasks → taskListFault ts ≡ fine
-unfolding taskListFault
-task-list-fine ts e h = rw (eq-eqb (length ts % 3) 0 e, le-ltb (3 * mostTasks) (length ts) h)
 
 -- ---- the five parts of a plan's bytes
 

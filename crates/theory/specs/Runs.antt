@@ -4,18 +4,18 @@ use mathlib.Core.Bool.{Bool, true, false, not, cond, _&&_, _||_, or-true, or-fal
 use mathlib.Core.Logic.{_⊎_, inl, inr}
 use mathlib.Core.Option.{none}
 use mathlib.Core.List.{List, [], _∷_, _++_, append-assoc}
-use Prim.Native.Nat.{ℕ, zero, suc, _+_, _-_, _*_, _%_, _≤_, _<_}
+use Prim.Native.Nat.{ℕ, zero, suc, _+_, _-_, _*_, _/_, _%_, _≤_, _<_}
 use native.Mathlib.Omega.{arith}
 use native.Mathlib.Numerals.{add-one}
 use native.Mathlib.Decide.{ℕ-discrete, decLt}
 use lib.Dec.{ltb, eqb}
 use lib.ListN.{length, getD, length-append}
 use borrow.Author.Tests.{lt-ltb, le-ltb, le-leb, lt-leb, eq-eqb}
-use Rattle.scope.specs.Numbers.{keep, twos}
+use Rattle.scope.specs.Numbers.{keep, piecesFrom, pieces}
 use Rattle.scope.specs.Windows.{Board, Window, window, windowsOf, windowAt, inWindow, covers, windowLegal, badWindow}
 use Rattle.scope.specs.Partition.{within, edge, runs}
 use Rattle.theory.specs.Numbers.{both-and, bool-cases, below-suc, none-first}
-use Rattle.theory.specs.Lists.{twos-length, twos-at, twos-append, keep-hit, keep-miss, Rising, keep-rising}
+use Rattle.theory.specs.Lists.{pieces-length, two-at, pieces-append, keep-hit, keep-miss, Rising, keep-rising}
 
 -- ---- rising numbers, none above the frame, read two at a time are legal windows
 
@@ -27,10 +27,10 @@ module _ (l : List ℕ) where
   endOf i = (windowAt (windowsOf l) i) .end
 
   pub start-at : (i : ℕ) → 2 * i + 1 < length l → startOf i ≡ getD l (2 * i) 0
-  start-at i h = ap (λ (w : Window). w .start) (twos-at window (window 0 0) l i h)
+  start-at i h = ap (λ (w : Window). w .start) (two-at window (window 0 0) l i h)
 
   pub end-at : (i : ℕ) → 2 * i + 1 < length l → endOf i ≡ getD l (2 * i + 1) 0
-  end-at i h = ap (λ (w : Window). w .end) (twos-at window (window 0 0) l i h)
+  end-at i h = ap (λ (w : Window). w .end) (two-at window (window 0 0) l i h)
 
 module _ (b : Board) (l : List ℕ) (r : Rising l (b .frame + 1)) where
   after-start : (i : ℕ) → 2 * i + 1 < length l → startOf l i < endOf l i
@@ -58,7 +58,7 @@ module _ (b : Board) (l : List ℕ) (r : Rising l (b .frame + 1)) where
   unfolding badWindow
   rising-rule =
       none-first (λ i. not (windowLegal b (windowsOf l) i)) (length (windowsOf l))
-      (λ i h. ap not (rising-legal i (omega (arith, twos-length window l))))
+      (λ i h. ap not (rising-legal i (omega (arith, pieces-length Window 2 window l))))
 
 -- ---- a test in the ticks below n
 
@@ -97,9 +97,9 @@ covers-last (v ∷ ws) w k =
 
 covers-more : (l : List ℕ) (s e k : ℕ) → length l % 2 ≡ 0 →
     covers (windowsOf (l ++ (s ∷ e ∷ []))) k ≡ (covers (windowsOf l) k || inWindow (window s e) k)
-unfolding twos
+unfolding piecesFrom pieces
 covers-more l s e k h =
-    ap (λ (ws : List Window). covers ws k) (twos-append window l (s ∷ e ∷ []) h) ∙ covers-last (windowsOf l) (window s e) k
+    ap (λ (ws : List Window). covers ws k) (pieces-append Window 2 window (omega arith) (length l / 2) l (s ∷ e ∷ []) (omega arith)) ∙ covers-last (windowsOf l) (window s e) k
 
 -- a window over the ticks s to n − 1, at all of which p holds
 within-window : (p : ℕ → Bool) (s n : ℕ) → s < n → ((x : ℕ) → s ≤ x → x < n → p x ≡ true) → (k : ℕ) →
@@ -186,7 +186,7 @@ module _ (q : ℕ → Bool) where
       closed (before-suc n ∙ e) (rw z (closed-stays (l ++ (s ∷ n ∷ [])) n e (open-closes l s n o)))
 
   state : (n : ℕ) → State n
-  unfolding keep twos covers
+  unfolding keep piecesFrom pieces covers
   state zero = closed refl (record { even = refl; cover = λ k. sym (within-out q 0 k (omega arith)) })
   state (suc n) = step n (bool-cases (q n)) (state n)
 
