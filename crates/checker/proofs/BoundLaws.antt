@@ -9,6 +9,7 @@ use native.Mathlib.Numerals.{add-one}
 use lib.ListN.{length}
 use borrow.Author.Count.{below-more}
 use borrow.Author.Tests.{le-leb, lt-leb}
+use Rattle.scope.specs.Limits.{mostTasks, mostOfTask, mostLength}
 use Rattle.scope.specs.Numbers.{sum}
 use Rattle.scope.specs.Ticks.{leastSupply}
 use Rattle.scope.specs.Windows.{Board, supplied}
@@ -16,7 +17,7 @@ use Rattle.scope.specs.Tasks.{Task, task, tasksOf, taskAt}
 use Rattle.scope.specs.Bound.{Bound.bound, Bound.noBound, ceil, asked, suffices, orNoBound, response}
 use Rattle.scope.specs.Answers.{Fault.fine, Fault.fault, Answer.given, Answer.refused, _orElse_, tableFault, groupFault, absentFault, boundAnswer}
 use Rattle.theory.specs.Numbers.{sum-le, sum-same, none-first, some-first}
-use Rattle.theory.specs.Lists.{threes-length}
+use Rattle.theory.specs.Lists.{pieces-length}
 use Rattle.theory.specs.Answers.{LegalGroup}
 use Rattle.theory.specs.Tasks.{TaskRule}
 use Rattle.theory.specs.Bound.{test-enough, test-no}
@@ -47,11 +48,12 @@ module _ (ts : List Task) (i t : ℕ) where
   askedTo-whole = refl
 
 -- ceil(t/T) is at most t + T
-pub asked-most : (x : Task) (t : ℕ) → TaskRule x → t ≤ 1000000 → askedBy t x ≤ 2000000000000
+pub asked-most : (x : Task) (t : ℕ) → TaskRule x → t ≤ mostLength → askedBy t x ≤ (mostLength + mostOfTask) * mostOfTask
 asked-most x t ok h =
-    mul-le-mul {n₂ = 2000000} {m₂ = 1000000} (omega (arith, div-le-self (t + (x .T - 1)) (x .T), ok .period-most)) (ok .work-most)
+    mul-le-mul {n₂ = mostLength + mostOfTask} {m₂ = mostOfTask} (omega (arith, div-le-self (t + (x .T - 1)) (x .T), ok .period-most)) (ok .work-most)
 
-pub askedTo-most : (ts : List ℕ) (i t j : ℕ) → LegalGroup ts → t ≤ 1000000 → i < length ts / 3 → j ≤ length ts / 3 → askedTo (tasksOf ts) i t j ≤ 64000001000000
+pub askedTo-most : (ts : List ℕ) (i t j : ℕ) → LegalGroup ts → t ≤ mostLength → i < length ts / 3 → j ≤ length ts / 3 →
+    askedTo (tasksOf ts) i t j ≤ mostTasks * ((mostLength + mostOfTask) * mostOfTask) + mostOfTask
 unfolding askedTo
 askedTo-most ts i t j ok h l m =
     let x : ℕ → Task = taskAt (tasksOf ts) in
@@ -59,8 +61,8 @@ askedTo-most ts i t j ok h l m =
       arith,
       ok .few,
       read-rule ts i (x i) ok l refl .work-most,
-      sum-same 2000000000000 j,
-      sum-le (λ k. askedBy t (x k)) (λ k. 2000000000000) j (λ k u. asked-most (x k) t (read-rule ts k (x k) ok (omega arith) refl) h),
+      sum-same ((mostLength + mostOfTask) * mostOfTask) j,
+      sum-le (λ k. askedBy t (x k)) (λ k. (mostLength + mostOfTask) * mostOfTask) j (λ k u. asked-most (x k) t (read-rule ts k (x k) ok (omega arith) refl) h),
     )
 
 -- ---- the first length that suffices
@@ -99,10 +101,10 @@ module _ (b : Board) (ws ts : List ℕ) (i : ℕ) where
     unfolding boundAnswer absentFault
     bound-absent h =
         refused-then (tableFault b ws) (groupFault ts) (absentFault ts i) _ e
-        (sym (if-true _ 7 0 (le-leb (length (tasksOf ts)) i (omega (arith, threes-length task ts)))))
+        (sym (if-true _ 7 0 (le-leb (length (tasksOf ts)) i (omega (arith, pieces-length _ 3 task ts)))))
 
     pub bound-given : i < length ts / 3 → given (response (supplied b ws) (b .frame) (tasksOf ts) i) ≡ boundAnswer b ws ts i
     unfolding boundAnswer absentFault
     bound-given h =
         given-then (tableFault b ws) (groupFault ts) (absentFault ts i) _ e
-        (sym (if-false _ 7 0 (lt-leb (length (tasksOf ts)) i (omega (arith, threes-length task ts)))))
+        (sym (if-false _ 7 0 (lt-leb (length (tasksOf ts)) i (omega (arith, pieces-length _ 3 task ts)))))

@@ -2,7 +2,7 @@
 use mathlib.Core.Path.{_≡_, refl, sym, ap₂, _∙_}
 use mathlib.Core.Bool.{Bool}
 use mathlib.Core.List.{List}
-use Prim.Native.Nat.{ℕ, zero, suc, _+_, _-_, _/_, _^_, _≤_, _<_}
+use Prim.Native.Nat.{ℕ, zero, suc, _+_, _-_, _*_, _/_, _^_, _≤_, _<_}
 use native.Mathlib.Omega.{arith}
 use native.Mathlib.Decide.{decLt}
 use native.Mathlib.Nat.{add-zero, sub-zero, div-le-self, mul-le-mul}
@@ -13,13 +13,14 @@ use mir.Syntax.{w64}
 use mir.Val.{toZ, ofZ, SFits}
 use mir.ValLaws.{toZ-ofZ}
 use borrow.Author.Tests.{lt-ltb, le-ltb}
+use Rattle.scope.specs.Limits.{mostTasks, mostOfTask, mostLength}
 use Rattle.scope.specs.Numbers.{sum}
 use Rattle.scope.specs.Ticks.{leastSupply}
 use Rattle.scope.specs.Tasks.{Task, task, tasksOf, taskAt, taskDemand, demand, margin}
 use Rattle.scope.specs.Windows.{Board, supplied}
 use Rattle.scope.specs.Answers.{Fault.fine, Fault.fault, Answer.given, Answer.refused, _orElse_, tableFault, groupFault, lengthFault, marginAnswer}
 use Rattle.theory.specs.Numbers.{sum-le, sum-same}
-use Rattle.theory.specs.Lists.{threes-length}
+use Rattle.theory.specs.Lists.{pieces-length}
 use Rattle.theory.specs.Answers.{LegalGroup}
 use Rattle.theory.specs.Tasks.{TaskRule, jobsIn, jobsIn-short, jobsIn-long, demand-jobs, demand-sum}
 use Rattle.checker.proofs.FaultLaws.{refused-first, refused-then, given-then}
@@ -41,29 +42,29 @@ demandTo-next ts t i = rw (add-one i)
 
 pub demandTo-whole : (ts : List ℕ) (t i : ℕ) → i ≡ length ts / 3 → demandTo (tasksOf ts) t i ≡ demand (tasksOf ts) t
 unfolding demandTo
-demandTo-whole ts t i e = rw (e ∙ sym (threes-length task ts)) (sym (demand-sum (tasksOf ts) t))
+demandTo-whole ts t i e = rw (e ∙ sym (pieces-length _ 3 task ts)) (sym (demand-sum (tasksOf ts) t))
 
 -- ---- how large: jobs come at least a tick apart and are due after at least one
 
-jobs-most : (x : Task) (t : ℕ) → TaskRule x → t ≤ 1000000 → jobsIn (x .T) (x .D) t ≤ 1000000
+jobs-most : (x : Task) (t : ℕ) → TaskRule x → t ≤ mostLength → jobsIn (x .T) (x .D) t ≤ mostLength
 jobs-most x t ok h =
     elim (decLt t (x .D)) [
       | yes l ↦ omega (arith, jobsIn-short (x .T) (x .D) t l)
       | no l ↦ omega (arith, jobsIn-long (x .T) (x .D) t (omega arith), div-le-self (t - x .D) (x .T), ok .due)
     ]
 
-task-most : (x : Task) (t : ℕ) → TaskRule x → t ≤ 1000000 → taskDemand x t ≤ 1000000000000
+task-most : (x : Task) (t : ℕ) → TaskRule x → t ≤ mostLength → taskDemand x t ≤ mostLength * mostOfTask
 task-most x t ok h = omega (arith, demand-jobs x t, mul-le-mul (jobs-most x t ok h) (ok .work-most))
 
-pub demandTo-most : (ts : List ℕ) (t i : ℕ) → LegalGroup ts → t ≤ 1000000 → i ≤ length ts / 3 → demandTo (tasksOf ts) t i ≤ 32000000000000
+pub demandTo-most : (ts : List ℕ) (t i : ℕ) → LegalGroup ts → t ≤ mostLength → i ≤ length ts / 3 → demandTo (tasksOf ts) t i ≤ mostTasks * (mostLength * mostOfTask)
 unfolding demandTo
 demandTo-most ts t i ok h l =
     let x : ℕ → Task = taskAt (tasksOf ts) in
     omega (
       arith,
       ok .few,
-      sum-same 1000000000000 i,
-      sum-le (λ k. taskDemand (x k) t) (λ k. 1000000000000) i (λ k j. task-most (x k) t (read-rule ts k (x k) ok (omega arith) refl) h),
+      sum-same (mostLength * mostOfTask) i,
+      sum-le (λ k. taskDemand (x k) t) (λ k. mostLength * mostOfTask) i (λ k j. task-most (x k) t (read-rule ts k (x k) ok (omega arith) refl) h),
     )
 
 -- ---- the difference of two naturals as a signed number

@@ -6,6 +6,7 @@ use Prim.Native.Nat.{ℕ, _<_}
 use Rattle.scope.specs.Numbers.{first}
 use Rattle.scope.specs.Answers.{Fault, Fault.fine, Fault.fault, Answer.given, Answer.refused, faultIf, faultAt, _orElse_, unless, unlessKept}
 use Rattle.theory.specs.Numbers.{some-first, none-first}
+use Rattle.theory.specs.Answers.{unless-given, unless-refused}
 
 pub if-true : (b : Bool) (n p : ℕ) → b ≡ true → fault n p ≡ faultIf b n p
 if-true b n p e = rw e
@@ -24,6 +25,13 @@ module _ {n p : ℕ} where
 
   pub kept-by : (f : Fault) (new old : List ℕ) → f ≡ fault n p → old ≡ unlessKept f new old
   kept-by f new old e = rw e
+
+  -- a refusal was this fault, and of a value that was given there was none
+  pub fault-of : {A : Type 0} (f : Fault) (a : A) → refused n p ≡ unless f a → fault n p ≡ f
+  fault-of f a e = sym (unless-refused f a n p (sym e))
+
+pub none-of : {A : Type 0} (f : Fault) (a v : A) → given v ≡ unless f a → fine ≡ f
+none-of f a v e = sym (unless-given f a v (sym e) .0)
 
 -- the second of two, where the first is fine
 pub or-fine : (f g : Fault) → f ≡ fine → (f orElse g) ≡ g

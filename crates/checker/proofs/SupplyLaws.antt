@@ -11,7 +11,7 @@ use lib.Seq.{drop-cons}
 use Rattle.scope.specs.Numbers.{bit, least}
 use Rattle.scope.specs.Ticks.{Periodic, supply, perFrame, leastSupply}
 use Rattle.scope.specs.Windows.{Window, window, windowsOf, windowAt, inWindow, covers}
-use Rattle.theory.specs.Lists.{twos-length}
+use Rattle.theory.specs.Lists.{pieces-length}
 use Rattle.theory.specs.Ticks.{supply-slide, supply-le, least-over-all-starts, least-frames}
 
 -- ---- from window i on
@@ -25,7 +25,7 @@ module _ (numbers : List ℕ) (i k : ℕ) where
   covers-step : i < length numbers / 2 → coversFrom numbers i k ≡ (inWindow (windowAt (windowsOf numbers) i) k || coversFrom numbers (i + 1) k)
   unfolding covers
   covers-step h =
-      let l : i < length (windowsOf numbers) = omega (arith, twos-length window numbers) in
+      let l : i < length (windowsOf numbers) = omega (arith, pieces-length _ 2 window numbers) in
       rw (add-one i, drop-cons (windowsOf numbers) i (window 0 0) l)
 
   -- a window w, read at i, holds the tick or does not
@@ -39,7 +39,7 @@ module _ (numbers : List ℕ) (i k : ℕ) where
   pub covers-end : length numbers / 2 ≤ i → coversFrom numbers i k ≡ false
   unfolding covers
   covers-end h =
-      none (drop i (windowsOf numbers)) (length-drop i (windowsOf numbers) ∙ omega (arith, twos-length window numbers))
+      none (drop i (windowsOf numbers)) (length-drop i (windowsOf numbers) ∙ omega (arith, pieces-length _ 2 window numbers))
     where
       none : (ws : List Window) → length ws ≡ 0 → covers ws k ≡ false
       none [] e = refl

@@ -1,20 +1,18 @@
 -- Tasks as the code reads, tests and counts them
-use mathlib.Core.Path.{_≡_, _∙_}
-use mathlib.Core.Logic.{_≢_}
-use mathlib.Core.Bool.{Bool, true, false, not, _&&_, or-true}
+use mathlib.Core.Path.{_≡_}
+use mathlib.Core.Bool.{Bool, true, false, _&&_}
 use mathlib.Core.List.{List}
-use Prim.Native.Nat.{ℕ, _+_, _-_, _*_, _/_, _%_, _≤_, _<_}
+use Prim.Native.Nat.{ℕ, _+_, _-_, _*_, _/_, _≤_, _<_}
 use native.Mathlib.Omega.{arith}
 use native.Mathlib.Nat.{div-le-self, mul-le-mul}
-use native.Mathlib.Decide.{decLe}
-use lib.Dec.{eqb}
 use lib.ListN.{length}
-use borrow.Author.Tests.{lt-ltb, le-ltb, ne-eqb}
-use Rattle.scope.specs.Numbers.{firstBy}
+use borrow.Author.Tests.{lt-ltb, le-ltb}
+use Rattle.scope.specs.Numbers.{firstBy, badCount}
+use Rattle.scope.specs.Limits.{mostTasks}
 use Rattle.scope.specs.Tasks.{Task, task, tasksOf, taskAt, taskLegal, badTask, taskDemand}
-use Rattle.scope.specs.Answers.{Fault.fine, Fault.fault, Answer.given, Answer.refused, taskListFault, taskFault, taskAnswer}
-use Rattle.theory.specs.Lists.{threes-length}
-use Rattle.theory.specs.Answers.{fault-not-fine, LegalGroup}
+use Rattle.scope.specs.Answers.{Fault.fine, Fault.fault, Answer.given, Answer.refused, faultIf, taskListFault, taskFault, taskAnswer}
+use Rattle.theory.specs.Lists.{pieces-length, over-count}
+use Rattle.theory.specs.Answers.{LegalGroup}
 use Rattle.theory.specs.Tasks.{TaskRule}
 use Rattle.checker.proofs.FaultLaws.{breaks-at, breaks-nowhere}
 
@@ -29,7 +27,7 @@ and-no a b e = rw e
 -- ---- a task of a legal group, as it is read
 
 pub read-rule : (ts : List ℕ) (i : ℕ) (x : Task) → LegalGroup ts → i < length ts / 3 → x ≡ taskAt (tasksOf ts) i → TaskRule x
-read-rule ts i x ok l e = rw e (ok .rules i (omega (arith, threes-length task ts)))
+read-rule ts i x ok l e = rw e (ok .rules i (omega (arith, pieces-length _ 3 task ts)))
 
 -- ---- one task alone
 
@@ -58,20 +56,12 @@ work-most a b w h k = mul-le-mul {n₁ = a / b + 1} {m₁ = w} {n₂ = 429496729
 -- ---- a list of tasks: in threes and at most 32, then each by its rule
 
 module _ (ts : List ℕ) where
-  pub not-threes : length ts % 3 ≢ 0 → fault 4 0 ≡ taskListFault ts
+  pub list-by : (t : Bool) → badCount 3 mostTasks ts ≡ t → faultIf t 4 0 ≡ taskListFault ts
   unfolding taskListFault
-  not-threes h = rw (ne-eqb (length ts % 3) 0 h)
+  list-by t e = rw e
 
-  pub too-many : 96 < length ts → fault 4 0 ≡ taskListFault ts
-  unfolding taskListFault
-  too-many h = rw (lt-ltb 96 (length ts) h, or-true (not (eqb (length ts % 3) 0)))
-
-  pub list-fine : length ts % 3 ≡ 0 → length ts ≤ 96 → fine ≡ taskListFault ts
-  unfolding taskListFault
-  list-fine h k = rw (h, le-ltb 96 (length ts) k)
-
-  pub list-short : taskListFault ts ≡ fine → length ts ≤ 96
-  list-short e = elim (decLe (length ts) 96) [ yes h ↦ h | no h ↦ absurd (fault-not-fine (too-many (omega arith) ∙ e)) ]
+  pub too-many : mostTasks < length ts / 3 → fault 4 0 ≡ taskListFault ts
+  too-many h = list-by true (over-count 3 mostTasks ts h)
 
   -- whether task k keeps its rule
   abbrev pub kept : ℕ → Bool
@@ -80,8 +70,8 @@ module _ (ts : List ℕ) where
   -- the first that does not is at fault
   pub task-bad : (i : ℕ) → i < length ts / 3 → ((k : ℕ) → k < i → kept k ≡ true) → kept i ≡ false → fault 5 i ≡ taskFault ts
   unfolding taskFault badTask
-  task-bad i l low e = breaks-at 5 kept (length (tasksOf ts)) i (omega (arith, threes-length task ts)) low e
+  task-bad i l low e = breaks-at 5 kept (length (tasksOf ts)) i (omega (arith, pieces-length _ 3 task ts)) low e
 
   pub tasks-fine : ((k : ℕ) → k < length ts / 3 → kept k ≡ true) → fine ≡ taskFault ts
   unfolding taskFault badTask
-  tasks-fine all = breaks-nowhere 5 kept (length (tasksOf ts)) (λ k l. all k (omega (arith, threes-length task ts)))
+  tasks-fine all = breaks-nowhere 5 kept (length (tasksOf ts)) (λ k l. all k (omega (arith, pieces-length _ 3 task ts)))

@@ -1,14 +1,22 @@
 -- The rule of windows, by the cases that the code tells apart
 use mathlib.Core.Path.{_≡_, refl, sym, ap, _∙_}
-use mathlib.Core.Bool.{Bool, true, false, not, cond, _&&_}
+use mathlib.Core.Bool.{Bool, true, false, not, cond, _&&_, _||_}
 use mathlib.Core.Option.{none, some}
 use mathlib.Core.List.{List}
 use Prim.Native.Nat.{ℕ, _-_}
-use lib.Dec.{ltb}
+use native.Mathlib.Omega.{arith}
+use lib.Dec.{ltb, eqb}
+use lib.ListN.{length}
 use borrow.Author.Tests.{eq-eqb, ne-eqb}
-use Rattle.scope.specs.Numbers.{firstBy}
+use Rattle.scope.specs.Numbers.{firstBy, badCount}
+use Rattle.scope.specs.Limits.{mostWindows}
 use Rattle.scope.specs.Windows.{Board, Window, windowAt, windowFits, windowLegal, badWindow}
-use Rattle.scope.specs.Answers.{Answer.given, Answer.refused, faultAt, unless, windowAnswer}
+use Rattle.scope.specs.Answers.{Answer.given, Answer.refused, faultIf, faultAt, unless, windowListFault, windowAnswer}
+
+-- the list: how its numbers are counted, and whether there are any
+pub list-by : (ws : List ℕ) (t u : Bool) → badCount 2 mostWindows ws ≡ t → eqb (length ws) 0 ≡ u → faultIf (t || u) 1 0 ≡ windowListFault ws
+unfolding windowListFault
+list-by ws t u e e′ = rw (e, e′)
 
 module _ (b : Board) (ws : List Window) (i : ℕ) where
   pub misfit : windowFits b (windowAt ws i) ≡ false → false ≡ windowLegal b ws i
@@ -33,3 +41,18 @@ window-alone b w t e =
     go : (x : Bool) → unless (faultAt 3 (cond (not (x && true)) (some 0) none)) w ≡ cond x (given w) (refused 3 0)
     go true = refl
     go false = refl
+
+-- and back: what its constructor answers says whether it fits
+pub fitting : (b : Board) (w v : Window) → given v ≡ windowAnswer b w → (windowFits b w ≡ true) × (v ≡ w)
+fitting b w v e = go (windowFits b w) refl
+  where
+    go : (t : Bool) → windowFits b w ≡ t → (windowFits b w ≡ true) × (v ≡ w)
+    go true h = let q : given v ≡ given w = e ∙ sym (window-alone b w true h) in (h, cc)
+    go false h = let q : given v ≡ refused 3 0 = e ∙ sym (window-alone b w false h) in let z : _≡_ {A = ℕ} 0 1 = cc in absurd (omega arith)
+
+pub unfitting : (b : Board) (w : Window) (n p : ℕ) → refused n p ≡ windowAnswer b w → windowFits b w ≡ false
+unfitting b w n p e = go (windowFits b w) refl
+  where
+    go : (t : Bool) → windowFits b w ≡ t → windowFits b w ≡ false
+    go true h = let q : given w ≡ refused n p = window-alone b w true h ∙ sym e in let z : _≡_ {A = ℕ} 0 1 = cc in absurd (omega arith)
+    go false h = h

@@ -21,11 +21,13 @@ impl Board {
     pub fn new(frame: u32) -> MadeBoard
         ensures { λ r. ⌜ toldBoard r ≡ boardAnswer frame ⌝ }
     {
-        let board = Board { frame };
-        match check_frame(board) {
-            Checked::Bad(r) => MadeBoard::Refused(r),
-            Checked::Fine => MadeBoard::Is(board),
+        if frame == 0 {
+            return MadeBoard::Refused(Refusal::Frame);
         }
+        if Board::LONGEST < frame {
+            return MadeBoard::Refused(Refusal::Frame);
+        }
+        MadeBoard::Is(Board { frame })
     }
 }
 
@@ -33,12 +35,8 @@ impl Board {
 pub(crate) fn check_frame(board: Board) -> Checked
     ensures { λ r. ⌜ faultOf r ≡ frameFault (boardOf board) ⌝ }
 {
-    let frame = board.frame;
-    if frame == 0 {
-        return Checked::Bad(Refusal::Frame);
+    match Board::new(board.frame) {
+        MadeBoard::Is(_) => Checked::Fine,
+        MadeBoard::Refused(r) => Checked::Bad(r),
     }
-    if Board::LONGEST < frame {
-        return Checked::Bad(Refusal::Frame);
-    }
-    Checked::Fine
 }

@@ -8,6 +8,7 @@ use crate::task::task_at;
 ghost use mathlib.Core.Path.{_≡_};
 ghost use Prim.Native.Nat.{_≤_, _<_, _/_};
 ghost use lib.ListN.{length as lengthOf};
+ghost use Rattle.scope.specs.Limits.{mostFrame, mostOfTask, mostLength};
 ghost use Rattle.scope.specs.Windows.{supplied as suppliedBy};
 ghost use Rattle.scope.specs.Tasks.{tasksOf};
 ghost use Rattle.scope.specs.Bound.{ceil, asked, response};
@@ -17,7 +18,7 @@ ghost use Rattle.checker.specs.Told.{boardOf, toldBound};
 
 // ceil(length / period).
 fn rounded_up(length: u32, period: u32) -> u32
-    requires { ⌜ (length ≤ 1000000) × (1 ≤ period) × (period ≤ 1000000) ⌝ }
+    requires { ⌜ (length ≤ mostLength) × (1 ≤ period) × (period ≤ mostOfTask) ⌝ }
     ensures { λ r. ⌜ r ≡ ceil length period ⌝ }
 {
     (length + (period - 1)) / period
@@ -25,7 +26,7 @@ fn rounded_up(length: u32, period: u32) -> u32
 
 // What task `index` and those above it ask for in `length` ticks.
 fn asked_of(tasks: &[u32], index: usize, length: u32) -> u64
-    requires { ⌜ LegalGroup (now tasks) × (index < lengthOf (tasksOf (now tasks))) × (length ≤ 1000000) ⌝ }
+    requires { ⌜ LegalGroup (now tasks) × (index < lengthOf (tasksOf (now tasks))) × (length ≤ mostLength) ⌝ }
     ensures { λ r. ⌜ r ≡ asked (tasksOf (now (tasks .entry))) index length ⌝ }
 {
     let task = task_at(tasks, index);
@@ -42,7 +43,7 @@ fn asked_of(tasks: &[u32], index: usize, length: u32) -> u64
 
 // The least length up to the deadline whose least supply is at least what is asked.
 fn response_of(board: Board, windows: &[u32], tasks: &[u32], index: usize) -> Bound
-    requires { ⌜ (0 < board .frame) × (board .frame ≤ 65536) × LegalGroup (now tasks) × (index < lengthOf (tasksOf (now tasks))) ⌝ }
+    requires { ⌜ (0 < board .frame) × (board .frame ≤ mostFrame) × LegalGroup (now tasks) × (index < lengthOf (tasksOf (now tasks))) ⌝ }
     ensures { λ r. ⌜ toldBound r ≡ given (response (suppliedBy (boardOf board) (now (windows .entry))) (board .frame) (tasksOf (now (tasks .entry))) index) ⌝ }
 {
     let task = task_at(tasks, index);

@@ -1,8 +1,8 @@
 use crate::board::Board;
-use crate::task::Task;
 use crate::task::task_at;
 ghost use mathlib.Core.Path.{_≡_};
 ghost use Prim.Native.Nat.{_≤_, _<_};
+ghost use Rattle.scope.specs.Limits.{mostFrame};
 ghost use Rattle.scope.specs.Tasks.{tasksOf};
 ghost use Rattle.scope.specs.Cycle.{gcd as gcdBy, cycle};
 ghost use Rattle.theory.specs.Answers.{LegalGroup};
@@ -20,9 +20,14 @@ pub(crate) enum Cycle {
     Over,
 }
 
+impl Cycle {
+    // The cycle of a frame and a group: at most 1,000,000.
+    pub const LONGEST: u64 = 1000000;
+}
+
 // The cycle of a legal board and group, or that it is over its limit, as soon as the least common multiple passes it.
 pub(crate) fn cycle_of(board: Board, tasks: &[u32]) -> Cycle
-    requires { ⌜ (0 < board .frame) × (board .frame ≤ 65536) × LegalGroup (now tasks) ⌝ }
+    requires { ⌜ (0 < board .frame) × (board .frame ≤ mostFrame) × LegalGroup (now tasks) ⌝ }
     ensures { λ r. ⌜ r ≡ foundCycle (cycle (board .frame) (tasksOf (now (tasks .entry)))) ⌝ }
 {
     let frame = board.frame;
@@ -33,7 +38,7 @@ pub(crate) fn cycle_of(board: Board, tasks: &[u32]) -> Cycle
         let task = task_at(tasks, i);
         let period = task.period as u64;
         h = h / gcd(h, period) * period;
-        if Task::LONGEST_CYCLE < h {
+        if Cycle::LONGEST < h {
             return Cycle::Over;
         }
         i += 1;

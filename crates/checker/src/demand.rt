@@ -11,6 +11,7 @@ use crate::task::task_at;
 ghost use mathlib.Core.Path.{_≡_};
 ghost use Prim.Native.Nat.{_≤_};
 ghost use lib.IntN.{pos, _-ℤ_};
+ghost use Rattle.scope.specs.Limits.{mostTasks, mostOfTask, mostLength};
 ghost use Rattle.scope.specs.Tasks.{tasksOf, demand as demandBy};
 ghost use Rattle.scope.specs.Answers.{demandAnswer, marginAnswer};
 ghost use Rattle.theory.specs.Answers.{LegalGroup};
@@ -18,8 +19,8 @@ ghost use Rattle.checker.specs.Told.{boardOf, toldAmount, toldMargin};
 
 // The demand of a legal group.
 pub(crate) fn demand_of(tasks: &[u32], length: u32) -> u64
-    requires { ⌜ LegalGroup (now tasks) × (length ≤ 1000000) ⌝ }
-    ensures { λ r. ⌜ (r ≡ demandBy (tasksOf (now (tasks .entry))) length) × (r ≤ 32000000000000) ⌝ }
+    requires { ⌜ LegalGroup (now tasks) × (length ≤ mostLength) ⌝ }
+    ensures { λ r. ⌜ (r ≡ demandBy (tasksOf (now (tasks .entry))) length) × (r ≤ mostTasks * (mostLength * mostOfTask)) ⌝ }
 {
     let count = tasks.len() / 3;
     let mut sum = 0;
@@ -34,7 +35,7 @@ pub(crate) fn demand_of(tasks: &[u32], length: u32) -> u64
 
 // Supply minus demand, a signed number.
 fn difference(supply: u32, demand: u64) -> i64
-    requires { ⌜ demand ≤ 32000000000000 ⌝ }
+    requires { ⌜ demand ≤ mostTasks * (mostLength * mostOfTask) ⌝ }
     ensures { λ r. ⌜ r ≡ pos supply -ℤ pos demand ⌝ }
 {
     (supply as i64) - (demand as i64)

@@ -21,10 +21,10 @@ impl Length {
     pub fn new(ticks: u32) -> MadeLength
         ensures { λ r. ⌜ toldLength r ≡ lengthAnswer ticks ⌝ }
     {
-        match check_length(ticks) {
-            Checked::Bad(r) => MadeLength::Refused(r),
-            Checked::Fine => MadeLength::Is(Length { ticks }),
+        if Length::LONGEST < ticks {
+            return MadeLength::Refused(Refusal::Asked);
         }
+        MadeLength::Is(Length { ticks })
     }
 }
 
@@ -32,8 +32,8 @@ impl Length {
 pub(crate) fn check_length(ticks: u32) -> Checked
     ensures { λ r. ⌜ faultOf r ≡ lengthFault ticks ⌝ }
 {
-    if Length::LONGEST < ticks {
-        return Checked::Bad(Refusal::Asked);
+    match Length::new(ticks) {
+        MadeLength::Is(_) => Checked::Fine,
+        MadeLength::Refused(r) => Checked::Bad(r),
     }
-    Checked::Fine
 }

@@ -5,6 +5,7 @@ pub mod bound;
 pub mod cycle;
 pub mod demand;
 pub mod length;
+pub mod list;
 pub mod partition;
 pub mod supply;
 pub mod task;

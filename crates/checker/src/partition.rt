@@ -11,6 +11,7 @@ ghost use mathlib.Core.Path.{_≡_};
 ghost use mathlib.Core.Bool.{cond};
 ghost use Prim.Native.Nat.{_+_, _<_, _≤_, max};
 ghost use lib.ListN.{length};
+ghost use Rattle.scope.specs.Limits.{mostFrame};
 ghost use Rattle.scope.specs.Numbers.{written};
 ghost use Rattle.scope.specs.Ticks.{perFrame};
 ghost use Rattle.scope.specs.Windows.{supplied as suppliedBy};
@@ -20,7 +21,7 @@ ghost use Rattle.checker.specs.Told.{boardOf, toldAmount, toldDelay};
 
 // Whether k is a tick of the frame at which the least supply rises.
 fn is_critical(board: Board, windows: &[u32], k: u32) -> bool
-    requires { ⌜ (0 < board .frame) × (board .frame ≤ 65536) ⌝ }
+    requires { ⌜ (0 < board .frame) × (board .frame ≤ mostFrame) ⌝ }
     ensures { λ r. ⌜ r ≡ within (rises (suppliedBy (boardOf board) (now (windows .entry))) (board .frame)) (board .frame) k ⌝ }
 {
     let frame = board.frame;
@@ -34,7 +35,7 @@ fn is_critical(board: Board, windows: &[u32], k: u32) -> bool
 
 // How many numbers the critical partition has.
 fn count_edges(board: Board, windows: &[u32]) -> u32
-    requires { ⌜ (0 < board .frame) × (board .frame ≤ 65536) ⌝ }
+    requires { ⌜ (0 < board .frame) × (board .frame ≤ mostFrame) ⌝ }
     ensures { λ r. ⌜ r ≡ length (criticalOf (boardOf board) (now (windows .entry))) ⌝ }
 {
     let frame = board.frame;
@@ -54,7 +55,7 @@ fn count_edges(board: Board, windows: &[u32]) -> u32
 
 // Writes the critical partition at the front of out.
 fn write_edges(board: Board, windows: &[u32], out: &mut [u32])
-    requires { ⌜ (0 < board .frame) × (board .frame ≤ 65536) × (length (criticalOf (boardOf board) (now windows)) ≤ length (now out)) ⌝ }
+    requires { ⌜ (0 < board .frame) × (board .frame ≤ mostFrame) × (length (criticalOf (boardOf board) (now windows)) ≤ length (now out)) ⌝ }
     ensures { λ r. ⌜ now (out .exit) ≡ written (criticalOf (boardOf board) (now (windows .entry))) (now (out .entry)) ⌝ }
 {
     let frame = board.frame;
@@ -94,7 +95,7 @@ pub fn critical(board: Board, windows: &[u32], out: &mut [u32]) -> Amount
 
 // A·t − P·(least supply of t), where `whole` is A.
 fn lag_of(board: Board, windows: &[u32], whole: u32, t: u32) -> u64
-    requires { ⌜ (0 < board .frame) × (board .frame ≤ 65536) × (t ≤ board .frame) × (whole ≡ perFrame (suppliedBy (boardOf board) (now windows)) (board .frame)) ⌝ }
+    requires { ⌜ (0 < board .frame) × (board .frame ≤ mostFrame) × (t ≤ board .frame) × (whole ≡ perFrame (suppliedBy (boardOf board) (now windows)) (board .frame)) ⌝ }
     ensures { λ r. ⌜ r ≡ lag (suppliedBy (boardOf board) (now (windows .entry))) (board .frame) t ⌝ }
 {
     let frame = board.frame;
@@ -104,7 +105,7 @@ fn lag_of(board: Board, windows: &[u32], whole: u32, t: u32) -> u64
 
 // The greatest of these over t in 0 to P.
 fn delay_of(board: Board, windows: &[u32], whole: u32) -> u64
-    requires { ⌜ (0 < board .frame) × (board .frame ≤ 65536) × (whole ≡ perFrame (suppliedBy (boardOf board) (now windows)) (board .frame)) ⌝ }
+    requires { ⌜ (0 < board .frame) × (board .frame ≤ mostFrame) × (whole ≡ perFrame (suppliedBy (boardOf board) (now windows)) (board .frame)) ⌝ }
     ensures { λ r. ⌜ r ≡ delayBy (suppliedBy (boardOf board) (now (windows .entry))) (board .frame) ⌝ }
 {
     let frame = board.frame;
@@ -151,7 +152,7 @@ fn run_on(n: u32, on: bool) -> u32
 
 // The longest run of unsupplied ticks inside one frame.
 fn outage_of(board: Board, windows: &[u32]) -> u32
-    requires { ⌜ (0 < board .frame) × (board .frame ≤ 65536) ⌝ }
+    requires { ⌜ (0 < board .frame) × (board .frame ≤ mostFrame) ⌝ }
     ensures { λ r. ⌜ r ≡ outageBy (suppliedBy (boardOf board) (now (windows .entry))) (board .frame) ⌝ }
 {
     let frame = board.frame;

@@ -8,6 +8,7 @@ use crate::window::check_table;
 use crate::window::window_at;
 ghost use mathlib.Core.Path.{_≡_};
 ghost use Prim.Native.Nat.{_+_, _<_, _≤_};
+ghost use Rattle.scope.specs.Limits.{mostFrame, mostLength};
 ghost use Rattle.scope.specs.Numbers.{bit};
 ghost use Rattle.scope.specs.Ticks.{supply, leastSupply};
 ghost use Rattle.scope.specs.Windows.{windowsOf, covers, supplied as suppliedBy};
@@ -73,7 +74,7 @@ pub(crate) fn slid(board: Board, windows: &[u32], start: u32, length: u32, n: u3
 
 // The least supply over the starts of a frame, by moving the start tick by tick.
 fn least_over_starts(board: Board, windows: &[u32], length: u32) -> u32
-    requires { ⌜ (0 < board .frame) × (board .frame ≤ 65536) × (length ≤ 1000000) ⌝ }
+    requires { ⌜ (0 < board .frame) × (board .frame ≤ mostFrame) × (length ≤ mostLength) ⌝ }
     ensures { λ r. ⌜ r ≡ leastSupply (suppliedBy (boardOf board) (now (windows .entry))) (board .frame) length ⌝ }
 {
     let frame = board.frame;
@@ -92,7 +93,7 @@ fn least_over_starts(board: Board, windows: &[u32], length: u32) -> u32
 
 // The least supply of a length: A for each whole frame, and the least supply of the rest.
 pub(crate) fn least_of(board: Board, windows: &[u32], length: u32) -> u32
-    requires { ⌜ (0 < board .frame) × (board .frame ≤ 65536) × (length ≤ 1000000) ⌝ }
+    requires { ⌜ (0 < board .frame) × (board .frame ≤ mostFrame) × (length ≤ mostLength) ⌝ }
     ensures { λ r. ⌜ r ≡ leastSupply (suppliedBy (boardOf board) (now (windows .entry))) (board .frame) length ⌝ }
 {
     let frame = board.frame;

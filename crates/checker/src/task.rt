@@ -1,6 +1,7 @@
 use crate::answer::Checked;
 use crate::answer::Refusal;
 use crate::board::Board;
+use crate::list::bad_count;
 use crate::window::check_table;
 ghost use mathlib.Core.Path.{_≡_};
 ghost use Prim.Native.Nat.{_+_, _*_, _<_, _≤_};
@@ -27,9 +28,6 @@ impl Task {
 
     // C, T and D: 1 to 1,000,000.
     pub const LARGEST: u32 = 1000000;
-
-    // The cycle of a frame and a group: at most 1,000,000.
-    pub const LONGEST_CYCLE: u64 = 1000000;
 
     pub fn new(work: u32, period: u32, deadline: u32) -> MadeTask
         ensures { λ r. ⌜ toldTask r ≡ taskAnswer (record { C = work; T = period; D = deadline }) ⌝ }
@@ -96,11 +94,7 @@ pub(crate) fn task_at(tasks: &[u32], i: usize) -> Task
 pub fn check_task_list(tasks: &[u32]) -> Checked
     ensures { λ r. ⌜ faultOf r ≡ taskListFault (now (tasks .entry)) ⌝ }
 {
-    let numbers = tasks.len();
-    if numbers % 3 != 0 {
-        return Checked::Bad(Refusal::TaskList);
-    }
-    if 3 * Task::MOST < numbers {
+    if bad_count(tasks, 3, Task::MOST) {
         return Checked::Bad(Refusal::TaskList);
     }
     Checked::Fine

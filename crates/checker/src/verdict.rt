@@ -12,6 +12,7 @@ use crate::task::check_group;
 ghost use mathlib.Core.Path.{_≡_};
 ghost use Prim.Native.Nat.{_≤_, _<_};
 ghost use lib.Dec.{ltb};
+ghost use Rattle.scope.specs.Limits.{mostFrame, mostCycle, mostLength};
 ghost use Rattle.scope.specs.Ticks.{leastSupply};
 ghost use Rattle.scope.specs.Windows.{supplied as suppliedBy};
 ghost use Rattle.scope.specs.Tasks.{tasksOf};
@@ -22,7 +23,7 @@ ghost use Rattle.checker.specs.Told.{boardOf, toldVerdict};
 
 // Whether the demand of a length exceeds its least supply. A demand that has not risen above `before`, which the least supply carries, needs no supply.
 fn exceeds(board: Board, windows: &[u32], length: u32, before: u64, demand: u64) -> bool
-    requires { ⌜ (0 < board .frame) × (board .frame ≤ 65536) × (length ≤ 1000000) × (before ≤ leastSupply (suppliedBy (boardOf board) (now windows)) (board .frame) length) ⌝ }
+    requires { ⌜ (0 < board .frame) × (board .frame ≤ mostFrame) × (length ≤ mostLength) × (before ≤ leastSupply (suppliedBy (boardOf board) (now windows)) (board .frame) length) ⌝ }
     ensures { λ r. ⌜ r ≡ ltb (leastSupply (suppliedBy (boardOf board) (now (windows .entry))) (board .frame) length) demand ⌝ }
 {
     if demand <= before {
@@ -34,7 +35,7 @@ fn exceeds(board: Board, windows: &[u32], length: u32, before: u64, demand: u64)
 
 // The first length whose demand exceeds the least supply, and its first start that holds the least supply.
 fn search(board: Board, windows: &[u32], tasks: &[u32], cycle: u32) -> Verdict
-    requires { ⌜ (0 < board .frame) × (board .frame ≤ 65536) × LegalGroup (now tasks) × (cycle ≤ 1000000) ⌝ }
+    requires { ⌜ (0 < board .frame) × (board .frame ≤ mostFrame) × LegalGroup (now tasks) × (cycle ≤ mostCycle) ⌝ }
     ensures { λ r. ⌜ toldVerdict r ≡ given (verdictBy (suppliedBy (boardOf board) (now (windows .entry))) (board .frame) (tasksOf (now (tasks .entry))) cycle) ⌝ }
 {
     let frame = board.frame;

@@ -2,6 +2,7 @@ use crate::answer::Checked;
 use crate::answer::Refusal;
 use crate::board::Board;
 use crate::board::check_frame;
+use crate::list::bad_count;
 ghost use mathlib.Core.Path.{_≡_};
 ghost use Prim.Native.Nat.{_+_, _*_, _<_, _≤_};
 ghost use lib.ListN.{length};
@@ -70,28 +71,26 @@ fn window_legal(board: Board, windows: &[u32], i: usize) -> bool
     ensures { λ r. ⌜ r ≡ windowLegal (boardOf board) (windowsOf (now (windows .entry))) i ⌝ }
 {
     let window = window_at(windows, i);
-    if !window.fits(board) {
-        return false;
+    match Window::new(board, window.start, window.end) {
+        MadeWindow::Refused(_) => false,
+        MadeWindow::Is(window) => {
+            if i == 0 {
+                return true;
+            }
+            let previous = window_at(windows, i - 1);
+            previous.end < window.start
+        }
     }
-    if i == 0 {
-        return true;
-    }
-    let previous = window_at(windows, i - 1);
-    previous.end < window.start
 }
 
 // Refusal 1.
 pub fn check_window_list(windows: &[u32]) -> Checked
     ensures { λ r. ⌜ faultOf r ≡ windowListFault (now (windows .entry)) ⌝ }
 {
-    let numbers = windows.len();
-    if numbers % 2 != 0 {
+    if bad_count(windows, 2, Window::MOST) {
         return Checked::Bad(Refusal::WindowList);
     }
-    if numbers == 0 {
-        return Checked::Bad(Refusal::WindowList);
-    }
-    if 2 * Window::MOST < numbers {
+    if windows.len() == 0 {
         return Checked::Bad(Refusal::WindowList);
     }
     Checked::Fine

@@ -18,7 +18,7 @@ use Rattle.scope.specs.Bound.{Bound, response}
 use Rattle.scope.specs.Jobs.{jobsOf, badJob}
 use Rattle.scope.specs.Machine.{edf}
 use Rattle.scope.specs.Run.{Ran, ran}
-use Rattle.scope.specs.Answers.{Fault, Fault.fine, Fault.fault, Answer.given, faultIf, faultAt, _orElse_, unless, windowListFault, frameFault, windowFault, taskListFault, taskFault, cycleFault, lengthFault, absentFault, tableFault, groupFault, verdictAnswer, boundAnswer, jobListFault, jobFault, roomFault, runFault, runAnswer}
+use Rattle.scope.specs.Answers.{Fault, Fault.fine, Fault.fault, Answer.given, Answer.refused, faultIf, faultAt, _orElse_, unless, windowListFault, frameFault, windowFault, taskListFault, taskFault, cycleFault, lengthFault, absentFault, tableFault, groupFault, verdictAnswer, boundAnswer, jobListFault, jobFault, roomFault, runFault, runAnswer}
 use Rattle.theory.specs.Numbers.{or-neither}
 use Rattle.theory.specs.Lists.{count-fine, fine-count}
 use Rattle.theory.specs.Tasks.{TaskRules, Within, task-rules}
@@ -44,6 +44,11 @@ orElse-fine (fault n p) g e = absurd (fault-not-fine e)
 pub unless-given : {A : Type 0} (f : Fault) (a v : A) → unless f a ≡ given v → (f ≡ fine) × (a ≡ v)
 unless-given fine a v e = (refl, cc)
 unless-given (fault n p) a v e = let z : _≡_ {A = ℕ} 0 1 = cc in absurd (omega arith)
+
+-- and a refusal is a fault's own
+pub unless-refused : {A : Type 0} (f : Fault) (a : A) (n p : ℕ) → unless f a ≡ refused n p → f ≡ fault n p
+unless-refused fine a n p e = let z : _≡_ {A = ℕ} 0 1 = cc in absurd (omega arith)
+unless-refused (fault m q) a n p e = let same : m ≡ n = cc in let there : q ≡ p = cc in rw (same, there)
 
 -- ---- tables, groups and lengths that pass their checks
 

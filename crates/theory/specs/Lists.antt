@@ -1,14 +1,14 @@
 -- Laws of flat lists of numbers: read k at a time, counted by the piece, and kept by a test
 use mathlib.Core.Path.{_≡_, refl, sym, ap, _∙_}
-use mathlib.Core.Bool.{Bool, true, false, not, _||_, or-true}
+use mathlib.Core.Bool.{Bool, true, false, not, _||_, or-true, or-false}
 use mathlib.Core.Logic.{_≢_, _⊎_, inl, inr}
 use mathlib.Core.List.{List, [], _∷_, _++_, append-nil, append-assoc}
 use Prim.Native.Nat.{ℕ, zero, suc, _+_, _-_, _*_, _/_, _%_, _≤_, _<_}
 use native.Mathlib.Omega.{arith}
 use native.Mathlib.Numerals.{add-one}
-use native.Mathlib.Nat.{add-div-right, div-eq-of-lt, div-zero}
+use native.Mathlib.Nat.{add-div-right, div-eq-of-lt, div-zero, mod-zero}
 use native.Mathlib.Decide.{decLt}
-use lib.Dec.{eqb}
+use lib.Dec.{ltb, eqb}
 use lib.ListN.{length, getD, take, drop, length-append, length-drop, take-append-drop, List·getD-append}
 use lib.Seq.{getD-at, length-take-le}
 use borrow.Author.Tests.{lt-ltb, le-ltb, ltb-false, eqb-true, eq-eqb, ne-eqb, not-false}
@@ -133,9 +133,13 @@ module _ (k most : ℕ) (l : List ℕ) where
       let n = or-neither (not (eqb (length l % k) 0)) _ e in
       (eqb-true (length l % k) 0 (not-false _ (n .0)), ltb-false most (length l / k) (n .1))
 
-  pub fine-count : length l % k ≡ 0 → length l / k ≤ most → badCount k most l ≡ false
+  -- in pieces: it is at fault by their number alone
+  pub whole-count : length l % k ≡ 0 → badCount k most l ≡ ltb most (length l / k)
   unfolding badCount
-  fine-count h e = rw (eq-eqb (length l % k) 0 h, le-ltb most (length l / k) e)
+  whole-count h = rw (eq-eqb (length l % k) 0 h)
+
+  pub fine-count : length l % k ≡ 0 → length l / k ≤ most → badCount k most l ≡ false
+  fine-count h e = whole-count h ∙ le-ltb most (length l / k) e
 
   pub left-over-count : length l % k ≢ 0 → badCount k most l ≡ true
   unfolding badCount
@@ -144,6 +148,11 @@ module _ (k most : ℕ) (l : List ℕ) where
   pub over-count : most < length l / k → badCount k most l ≡ true
   unfolding badCount
   over-count h = rw (lt-ltb most (length l / k) h) (or-true (not (eqb (length l % k) 0)))
+
+-- pieces of no numbers: none but an empty list has them
+pub none-count : (k most : ℕ) (l : List ℕ) → k ≡ 0 → badCount k most l ≡ not (eqb (length l) 0)
+unfolding badCount
+none-count k most l e = rw (e, mod-zero (length l), div-zero (length l), le-ltb most 0 (omega arith), or-false (not (eqb (length l) 0)))
 
 -- ---- the numbers below n that pass a test
 

@@ -1,24 +1,35 @@
-use Rattle.scope.specs.Answers.{frameFault}
-use borrow.Author.Tests.{eq-eqb, ne-eqb, lt-ltb, le-ltb}
+use mathlib.Core.Path.{sym, ap, _∙_}
+use borrow.Author.Needs.{needs}
+use Rattle.scope.specs.Answers.{boardAnswer}
+use Rattle.checker.specs.Told.{toldBoard}
+use Rattle.checker.proofs.FaultLaws.{fault-of, none-of}
 use Rattle.checker.proofs.board.check_frame.Statement.{statement}
 use Rattle.checker.proofs.board.check_frame.Tie as tie
 use Rattle.checker.proofs.board.check_frame.Reads as reads
 use Rattle.checker.proofs.board.check_frame.Lts as lts
+use Rattle.checker.proofs.board.Board.new.Reads as new-reads
 
--- src/board.rt:38:9
+-- src/board.rt:38:11
+new-requires : tie.Need-new-requires
+new-requires c κs = search needs
+
+-- src/board.rt:39:29
+enum-told : tie.Need-enum-told
+enum-told c = search needs
+
+-- src/board.rt:40:28
+enum-known-r : tie.Need-enum-known-r
+enum-known-r c = search needs
+
+-- src/board.rt:35:1
 returns : tie.Need-returns
-unfolding frameFault
-returns c = rw (eq-eqb _ _ (c .if1 .taken))
+unfolding boardAnswer
+returns c = none-of _ _ _ (sym (ap toldBoard (c .enum-told .given .1)) ∙ c .before .before .new .ensures)
 
--- src/board.rt:41:9
+-- src/board.rt:35:1
 returns-2 : tie.Need-returns-2
-unfolding frameFault
-returns-2 c = rw (ne-eqb _ _ (c .before .if1 .left), lt-ltb _ _ (c .if2 .taken))
-
--- src/board.rt:33:1
-returns-3 : tie.Need-returns-3
-unfolding frameFault
-returns-3 c = rw (ne-eqb _ _ (c .before .if1 .left), le-ltb _ _ (c .if2 .left))
+unfolding boardAnswer
+returns-2 c = fault-of _ _ (sym (ap toldBoard (c .before .r .given .1)) ∙ c .before .before .before .new .ensures)
 
 pub check-frame-spec : {M : Type 1} → statement M
-check-frame-spec = tie.close (tie.spec returns returns-2 returns-3)
+check-frame-spec = tie.close (tie.spec new-requires enum-told enum-known-r returns returns-2)

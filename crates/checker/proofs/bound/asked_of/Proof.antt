@@ -1,6 +1,7 @@
 use borrow.Author.Needs.{needs}
+use Rattle.scope.specs.Limits.{mostTasks, mostOfTask, mostLength}
 use Rattle.scope.specs.Tasks.{Task, task, tasksOf, taskAt}
-use Rattle.theory.specs.Lists.{threes-length}
+use Rattle.theory.specs.Lists.{pieces-length}
 use Rattle.theory.specs.Tasks.{TaskRule}
 use Rattle.checker.specs.Told.{taskOf}
 use Rattle.checker.proofs.TaskLaws.{read-rule}
@@ -23,7 +24,7 @@ abbrev μ-loop : tie.MeasureT-loop
 
 -- src/bound.rt:31:9
 task-at-requires : tie.Need-task-at-requires Inv-loop μ-loop
-task-at-requires c κs = omega (arith, threes-length task (c .before .args .tasks .now))
+task-at-requires c κs = omega (arith, pieces-length _ 3 task (c .before .args .tasks .now))
 
 -- src/bound.rt:32:19
 cast-sum : tie.Need-cast-sum Inv-loop μ-loop
@@ -35,18 +36,18 @@ loop-holds c = (omega arith, ap (λ (x : Task). x .C) (c .before .task-at .ensur
 
 -- src/bound.rt:35:13
 task-at-requires-2 : tie.Need-task-at-requires-2 Inv-loop μ-loop
-task-at-requires-2 c κs = omega (arith, threes-length task (c .before .before .before .before .before .args .tasks .now))
+task-at-requires-2 c κs = omega (arith, pieces-length _ 3 task (c .before .before .before .before .before .args .tasks .now))
 
 -- src/bound.rt:36:13
 -- the task just read keeps its rule
 rule : (c : tie.After-task-at2 Inv-loop μ-loop) → TaskRule (taskOf (c .task-at2 .result))
 rule c =
     let a = c .before .before .before .before .before .before in
-    read-rule (a .args .tasks .now) (c .before .before .loop .j) _ (a .pre .0) (omega (arith, threes-length task (a .args .tasks .now))) (c .task-at2 .ensures)
+    read-rule (a .args .tasks .now) (c .before .before .loop .j) _ (a .pre .0) (omega (arith, pieces-length _ 3 task (a .args .tasks .now))) (c .task-at2 .ensures)
 
 -- what it asks for, that this is small, and that it is what the sum grows by
 term : (c : tie.After-struct-known2 Inv-loop μ-loop) → let a = c .before .before .before .before .before .before .before .before .args in let l = c .before .before .before .before .loop in
-    (c .before .rounded-up .result * c .before .before .task-at2 .result .work ≤ 2000000000000) × (l .sum ≤ 64000001000000)
+    (c .before .rounded-up .result * c .before .before .task-at2 .result .work ≤ (mostLength + mostOfTask) * mostOfTask) × (l .sum ≤ mostTasks * ((mostLength + mostOfTask) * mostOfTask) + mostOfTask)
     × (askedTo (tasksOf (a .tasks .now)) (a .index) (a .length) (l .j + 1) ≡ l .sum + c .before .rounded-up .result * c .before .before .task-at2 .result .work)
 term c =
     let a = c .before .before .before .before .before .before .before .before in
@@ -57,7 +58,7 @@ term c =
     let e : c .before .rounded-up .result * r .result .work ≡ askedBy t (taskOf (r .result)) = ap (λ (n : ℕ). n * r .result .work) (c .before .rounded-up .ensures) in
     let f : askedBy t (taskOf (r .result)) ≡ askedBy t (taskAt (tasksOf ts) (l .j)) = ap (askedBy t) (r .ensures) in (
       omega (arith, e, asked-most (taskOf (r .result)) t (rule (c .before .before)) (a .pre .2)),
-      omega (arith, l .inv .1, askedTo-most ts (a .args .index) t (l .j) (a .pre .0) (a .pre .2) (omega (arith, threes-length task ts)) (omega (arith, threes-length task ts))),
+      omega (arith, l .inv .1, askedTo-most ts (a .args .index) t (l .j) (a .pre .0) (a .pre .2) (omega (arith, pieces-length _ 3 task ts)) (omega (arith, pieces-length _ 3 task ts))),
       omega (arith, l .inv .1, askedTo-next (tasksOf ts) (a .args .index) t (l .j), e, f),
     )
 

@@ -1,7 +1,7 @@
 use Rattle.checker.proofs.BoundLaws.{bound-refused, bound-absent, bound-given}
 use Rattle.checker.specs.Told.{boardOf, faultOf}
 use Rattle.theory.specs.Answers.{checked-legal}
-use Rattle.theory.specs.Lists.{threes-length}
+use Rattle.theory.specs.Lists.{pieces-length}
 use Rattle.scope.specs.Answers.{Fault.fine, _orElse_, tableFault, groupFault}
 use Rattle.scope.specs.Tasks.{task}
 use mathlib.Core.Path.{sym, ap, _∙_, _≡_}
@@ -35,7 +35,7 @@ group-fine c = sym (c .before .before .check-group .ensures) ∙ ap faultOf (c .
 response-of-requires : tie.Need-response-of-requires
 response-of-requires c κs =
     let k = checked-legal _ _ _ (group-fine (c .before)) in
-    (k .0 .frame, k .0 .frame-most, k .1, omega (arith, threes-length task (c .before .before .before .before .before .before .args .tasks .now)))
+    (k .0 .frame, k .0 .frame-most, k .1, omega (arith, pieces-length _ 3 task (c .before .before .before .before .before .before .args .tasks .now)))
 
 -- src/bound.rt:62:1
 returns : tie.Need-returns

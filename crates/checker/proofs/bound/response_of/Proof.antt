@@ -1,8 +1,9 @@
 use borrow.Author.Needs.{needs}
+use Rattle.scope.specs.Limits.{mostOfTask}
 use Rattle.scope.specs.Windows.{supplied}
 use Rattle.scope.specs.Tasks.{Task, task, tasksOf, taskAt}
 use Rattle.scope.specs.Answers.{Answer.given}
-use Rattle.theory.specs.Lists.{threes-length}
+use Rattle.theory.specs.Lists.{pieces-length}
 use Rattle.checker.specs.Told.{boardOf}
 use Rattle.checker.proofs.TaskLaws.{read-rule}
 use Rattle.checker.proofs.BoundLaws.{Short, short-first, short-next, bound-found, no-bound-found}
@@ -26,16 +27,16 @@ abbrev μ-loop : tie.MeasureT-loop
 
 -- src/bound.rt:48:9
 task-at-requires : tie.Need-task-at-requires Inv-loop μ-loop
-task-at-requires c κs = omega (arith, threes-length task (c .before .before .args .tasks .now))
+task-at-requires c κs = omega (arith, pieces-length _ 3 task (c .before .before .args .tasks .now))
 
 -- src/bound.rt:51:5
 -- the deadline is the task's, and small
 due : (c : tie.After-task-at Inv-loop μ-loop) → let a = c .before .before .before .args in
-    (c .task-at .result .deadline ≡ (taskAt (tasksOf (a .tasks .now)) (a .index)) .D) × (c .task-at .result .deadline ≤ 1000000)
+    (c .task-at .result .deadline ≡ (taskAt (tasksOf (a .tasks .now)) (a .index)) .D) × (c .task-at .result .deadline ≤ mostOfTask)
 due c =
     let a = c .before .before .before in (
       ap (λ (x : Task). x .D) (c .task-at .ensures),
-      read-rule (a .args .tasks .now) (a .args .index) _ (a .pre .2) (omega (arith, threes-length task (a .args .tasks .now))) (c .task-at .ensures) .due-most,
+      read-rule (a .args .tasks .now) (a .args .index) _ (a .pre .2) (omega (arith, pieces-length _ 3 task (a .args .tasks .now))) (c .task-at .ensures) .due-most,
     )
 
 loop-holds : tie.Need-loop-holds Inv-loop μ-loop

@@ -1,6 +1,7 @@
 use mathlib.Core.Path.{_≡_, refl}
 use Prim.Native.Nat.{_+_, _-_, _*_, _/_, _≤_}
 use lib.ListN.{length, drop}
+use Rattle.scope.specs.Limits.{mostOfTask, mostCycle}
 use Rattle.scope.specs.Tasks.{tasksOf}
 use Rattle.scope.specs.Cycle.{cycle}
 use Rattle.theory.specs.Cycle.{gcd-pos}
@@ -16,7 +17,7 @@ use Rattle.checker.proofs.cycle.gcd.Reads as gcd-reads
 use Rattle.checker.proofs.task.task_at.Reads as task-at-reads
 
 abbrev Inv-loop : tie.InvT-loop
-Inv-loop tasks frame count h₀ i₀ h i = (i ≤ count) × (count ≡ length tasks / 3) × (h ≤ 1000000) × (cycle frame (tasksOf tasks) ≡ cycle h (drop i (tasksOf tasks)))
+Inv-loop tasks frame count h₀ i₀ h i = (i ≤ count) × (count ≡ length tasks / 3) × (h ≤ mostCycle) × (cycle frame (tasksOf tasks) ≡ cycle h (drop i (tasksOf tasks)))
 
 abbrev μ-loop : tie.MeasureT-loop
 μ-loop tasks frame count h₀ i₀ h i = count - i
@@ -42,7 +43,7 @@ gcd-requires : tie.Need-gcd-requires Inv-loop μ-loop
 gcd-requires c κs = search needs
 
 -- the period that is read
-period : (c : tie.After-task-at Inv-loop μ-loop) → (1 ≤ c .task-at .result .period) × (c .task-at .result .period ≤ 1000000)
+period : (c : tie.After-task-at Inv-loop μ-loop) → (1 ≤ c .task-at .result .period) × (c .task-at .result .period ≤ mostOfTask)
 period c =
     let b = c .before .before .before .before in
     let r = read-rule _ _ _ (b .pre .2) (omega arith) (c .task-at .ensures) in (r .period, r .period-most)

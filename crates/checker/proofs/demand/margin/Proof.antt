@@ -1,5 +1,6 @@
 use mathlib.Core.Path.{_≡_, sym, ap, _∙_}
 use Prim.Native.Nat.{_≤_}
+use Rattle.scope.specs.Limits.{mostLength}
 use Rattle.scope.specs.Answers.{Fault.fine, _orElse_, Answer.given, tableFault, groupFault, lengthFault}
 use Rattle.theory.specs.Answers.{LegalTable, LegalGroup, checked-legal, length-legal}
 use Rattle.checker.specs.Told.{boardOf, faultOf}
@@ -50,7 +51,7 @@ length-fine c = sym (c .before .before .check-length .ensures) ∙ ap faultOf (c
 
 -- what they say of the table, the group and the length
 known : (c : tie.After-enum-told2) → let a = c .before .before .before .before .before .before .before .before .args in
-    LegalTable (boardOf (a .board)) (a .windows .now) × LegalGroup (a .tasks .now) × (a .length ≤ 1000000)
+    LegalTable (boardOf (a .board)) (a .windows .now) × LegalGroup (a .tasks .now) × (a .length ≤ mostLength)
 known c =
     let p = checked-legal _ _ _ (group-fine (c .before .before .before)) in (p .0, p .1, length-legal _ (length-fine c))
 

@@ -1,19 +1,35 @@
-use Rattle.scope.specs.Answers.{lengthFault}
-use borrow.Author.Tests.{lt-ltb, le-ltb}
+use mathlib.Core.Path.{sym, ap, _∙_}
+use borrow.Author.Needs.{needs}
+use Rattle.scope.specs.Answers.{lengthAnswer}
+use Rattle.checker.specs.Told.{toldLength}
+use Rattle.checker.proofs.FaultLaws.{fault-of, none-of}
 use Rattle.checker.proofs.length.check_length.Statement.{statement}
 use Rattle.checker.proofs.length.check_length.Tie as tie
 use Rattle.checker.proofs.length.check_length.Reads as reads
 use Rattle.checker.proofs.length.check_length.Lts as lts
+use Rattle.checker.proofs.length.Length.new.Reads as new-reads
 
--- src/length.rt:36:9
+-- src/length.rt:35:11
+new-requires : tie.Need-new-requires
+new-requires c κs = search needs
+
+-- src/length.rt:36:30
+enum-told : tie.Need-enum-told
+enum-told c = search needs
+
+-- src/length.rt:37:29
+enum-known-r : tie.Need-enum-known-r
+enum-known-r c = search needs
+
+-- src/length.rt:32:1
 returns : tie.Need-returns
-unfolding lengthFault
-returns c = rw (lt-ltb _ _ (c .if1 .taken))
+unfolding lengthAnswer
+returns c = none-of _ _ _ (sym (ap toldLength (c .enum-told .given .1)) ∙ c .before .before .new .ensures)
 
 -- src/length.rt:32:1
 returns-2 : tie.Need-returns-2
-unfolding lengthFault
-returns-2 c = rw (le-ltb _ _ (c .if1 .left))
+unfolding lengthAnswer
+returns-2 c = fault-of _ _ (sym (ap toldLength (c .before .r .given .1)) ∙ c .before .before .before .new .ensures)
 
 pub check-length-spec : {M : Type 1} → statement M
-check-length-spec = tie.close (tie.spec returns returns-2)
+check-length-spec = tie.close (tie.spec new-requires enum-told enum-known-r returns returns-2)

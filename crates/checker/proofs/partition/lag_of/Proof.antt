@@ -1,6 +1,7 @@
 use mathlib.Core.Path.{ap₂}
 use Prim.Native.Nat.{ℕ, _-_, _*_, _≤_}
 use native.Mathlib.Nat.{mul-le-mul}
+use Rattle.scope.specs.Limits.{mostFrame}
 use Rattle.scope.specs.Windows.{supplied}
 use Rattle.scope.specs.Partition.{lag}
 use Rattle.theory.specs.Ticks.{supply-le}
@@ -17,7 +18,7 @@ use Rattle.checker.proofs.supply.least_of.Reads as least-of-reads
 
 -- the two products fit, and the second is at most the first
 record Known (frame least whole t : ℕ) : Type 0 where
-  pub first : whole * t ≤ 65536 * 65536
+  pub first : whole * t ≤ mostFrame * mostFrame
   pub order : frame * least ≤ whole * t
 
 known : (c : tie.After-least-of) → let a = c .before .before .args in Known (a .board .frame) (c .least-of .result) (a .whole) (a .t)
@@ -25,8 +26,8 @@ known c =
     let a = c .before .before .args in
     let pre = c .before .before .pre in
     let σ = supplied (boardOf (a .board)) (a .windows .now) in
-    let A≤ : a .whole ≤ 65536 = omega (arith, pre .3, supply-le σ 0 (a .board .frame)) in
-    let t≤ : a .t ≤ 65536 = omega arith in
+    let A≤ : a .whole ≤ mostFrame = omega (arith, pre .3, supply-le σ 0 (a .board .frame)) in
+    let t≤ : a .t ≤ mostFrame = omega arith in
     record {
       first = mul-le-mul A≤ t≤;
       order = rw (pre .3, c .least-of .ensures) (least-average σ (a .board .frame) (supplied-periodic _ _ (pre .0)) (a .t));

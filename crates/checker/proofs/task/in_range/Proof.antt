@@ -1,5 +1,6 @@
 use borrow.Author.Tests.{le-leb, lt-leb}
 use lib.Dec.{leb}
+use Rattle.scope.specs.Limits.{mostOfTask}
 use Rattle.checker.proofs.TaskLaws.{and-yes, and-no}
 use Rattle.checker.proofs.task.in_range.Statement.{statement}
 use Rattle.checker.proofs.task.in_range.Tie as tie
@@ -8,11 +9,11 @@ use Rattle.checker.proofs.task.in_range.Lts as lts
 
 -- src/task.rt:74:1
 returns : tie.Need-returns
-returns c = let x = c .before .args .x in and-yes (leb 1 x) (leb x 1000000) (le-leb 1 x (c .if1 .taken))
+returns c = let x = c .before .args .x in and-yes (leb 1 x) (leb x mostOfTask) (le-leb 1 x (c .if1 .taken))
 
 -- src/task.rt:74:1
 returns-2 : tie.Need-returns-2
-returns-2 c = let x = c .before .args .x in and-no (leb 1 x) (leb x 1000000) (lt-leb 1 x (c .if1 .left))
+returns-2 c = let x = c .before .args .x in and-no (leb 1 x) (leb x mostOfTask) (lt-leb 1 x (c .if1 .left))
 
 pub in-range-spec : {M : Type 1} → statement M
 in-range-spec = tie.close (tie.spec returns returns-2)

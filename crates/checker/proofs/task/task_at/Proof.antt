@@ -1,6 +1,6 @@
 use mathlib.Core.Path.{sym}
 use Rattle.scope.specs.Tasks.{task}
-use Rattle.theory.specs.Lists.{threes-at}
+use Rattle.theory.specs.Lists.{three-at}
 use borrow.Author.Needs.{needs}
 use Rattle.checker.proofs.task.task_at.Statement.{statement}
 use Rattle.checker.proofs.task.task_at.Tie as tie
@@ -53,7 +53,7 @@ shared-slice-read-deadline c = search needs
 
 -- src/task.rt:81:1
 returns : tie.Need-returns
-returns c = let b = c .before .before .before in sym (threes-at task (task 0 0 0) (b .args .tasks .now) (b .args .i) (b .pre))
+returns c = let b = c .before .before .before in sym (three-at task (task 0 0 0) (b .args .tasks .now) (b .args .i) (b .pre))
 
 pub task-at-spec : {M : Type 1} → statement M
 task-at-spec =

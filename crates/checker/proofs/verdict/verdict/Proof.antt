@@ -1,3 +1,4 @@
+use Rattle.scope.specs.Limits.{mostCycle}
 use Rattle.checker.proofs.VerdictLaws.{verdict-refused, verdict-over, verdict-given}
 use Rattle.checker.proofs.CycleLaws.{was-over, was-found}
 use Rattle.checker.specs.Told.{boardOf, faultOf}
@@ -39,7 +40,7 @@ group-fine c = sym (c .before .before .check-group .ensures) ∙ ap faultOf (c .
 
 -- and the cycle is within its limit
 cycle-fine : (c : tie.After-known-told2) → let a = c .before .before .before .before .before .before .before .before .before .args in
-    (cycle (a .board .frame) (tasksOf (a .tasks .now)) ≡ c .before .cycle .given .0 .0) × (cycle (a .board .frame) (tasksOf (a .tasks .now)) ≤ 1000000)
+    (cycle (a .board .frame) (tasksOf (a .tasks .now)) ≡ c .before .cycle .given .0 .0) × (cycle (a .board .frame) (tasksOf (a .tasks .now)) ≤ mostCycle)
 cycle-fine c = was-found _ _ (sym (c .before .before .before .cycle-of .ensures) ∙ c .before .cycle .given .1)
 
 cycle-of-requires : tie.Need-cycle-of-requires

@@ -1,40 +1,29 @@
-use Rattle.scope.specs.Answers.{windowListFault}
-use borrow.Author.Tests.{eq-eqb, ne-eqb, lt-ltb, le-ltb}
-use Prim.Native.Nat.{_%_}
-use lib.ListN.{length}
+use mathlib.Core.Path.{refl, sym, _∙_}
+use mathlib.Core.Bool.{true, false}
 use borrow.Author.Needs.{needs}
+use borrow.Author.Tests.{eq-eqb, ne-eqb}
+use Rattle.checker.proofs.WindowLaws.{list-by}
 use Rattle.checker.proofs.window.check_window_list.Statement.{statement}
 use Rattle.checker.proofs.window.check_window_list.Tie as tie
 use Rattle.checker.proofs.window.check_window_list.Reads as reads
 use Rattle.checker.proofs.window.check_window_list.Lts as lts
+use Rattle.checker.proofs.list.bad_count.Reads as bad-count-reads
 
--- src/window.rt:89:9
+-- src/window.rt:90:8
+bad-count-requires : tie.Need-bad-count-requires
+bad-count-requires c κs = search needs
+
+-- src/window.rt:91:9
 returns : tie.Need-returns
-unfolding windowListFault
-returns c = rw (ne-eqb _ _ (c .if1 .taken))
+returns c = list-by _ true _ (sym (c .before .bad-count .ensures) ∙ c .if1 .taken) refl
 
--- src/window.rt:92:9
+-- src/window.rt:94:9
 returns-2 : tie.Need-returns-2
-unfolding windowListFault
-returns-2 c = rw (eq-eqb (length (c .before .before .args .windows .now) % 2) 0 (c .before .if1 .left), eq-eqb (length (c .before .before .args .windows .now)) 0 (c .if2 .taken))
+returns-2 c = list-by _ false true (sym (c .before .before .bad-count .ensures) ∙ c .before .if1 .left) (eq-eqb _ _ (c .if2 .taken))
 
--- src/window.rt:94:8
-mul-if3 : tie.Need-mul-if3
-mul-if3 c = search needs
-
--- src/window.rt:95:9
+-- src/window.rt:87:1
 returns-3 : tie.Need-returns-3
-unfolding windowListFault
-returns-3 c =
-    let l = length (c .before .before .before .args .windows .now) in
-    rw (eq-eqb (l % 2) 0 (c .before .before .if1 .left), ne-eqb l 0 (c .before .if2 .left), lt-ltb 128 l (c .if3 .taken))
-
--- src/window.rt:84:1
-returns-4 : tie.Need-returns-4
-unfolding windowListFault
-returns-4 c =
-    let l = length (c .before .before .before .args .windows .now) in
-    rw (eq-eqb (l % 2) 0 (c .before .before .if1 .left), ne-eqb l 0 (c .before .if2 .left), le-ltb 128 l (c .if3 .left))
+returns-3 c = list-by _ false false (sym (c .before .before .bad-count .ensures) ∙ c .before .if1 .left) (ne-eqb _ _ (c .if2 .left))
 
 pub check-window-list-spec : {M : Type 1} → statement M
-check-window-list-spec = tie.close (tie.spec returns returns-2 mul-if3 returns-3 returns-4)
+check-window-list-spec = tie.close (tie.spec bad-count-requires returns returns-2 returns-3)

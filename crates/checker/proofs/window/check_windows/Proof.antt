@@ -1,6 +1,6 @@
 use Rattle.checker.proofs.FaultLaws.{breaks-at, breaks-nowhere}
 use Rattle.checker.specs.Told.{boardOf}
-use Rattle.theory.specs.Lists.{twos-length}
+use Rattle.theory.specs.Lists.{pieces-length}
 use Rattle.scope.specs.Answers.{windowFault}
 use Rattle.scope.specs.Windows.{window, windowsOf, windowLegal, badWindow}
 use borrow.Author.Count.{below-none, below-more}
@@ -38,7 +38,7 @@ unfolding windowFault badWindow
 returns c =
     let a = c .before .before .before .before .before .args in
     let l = c .before .before .before .loop in
-    breaks-at 3 (windowLegal (boardOf (a .board)) (windowsOf (a .windows .now))) _ (l .i) (omega (arith, twos-length window (a .windows .now))) (l .inv .2)
+    breaks-at 3 (windowLegal (boardOf (a .board)) (windowsOf (a .windows .now))) _ (l .i) (omega (arith, pieces-length _ 2 window (a .windows .now))) (l .inv .2)
     (sym (c .before .window-legal .ensures) ∙ not-true _ (c .if1 .taken))
 
 -- src/window.rt:112:9
@@ -59,7 +59,7 @@ unfolding windowFault badWindow
 returns-2 c =
     let a = c .before .before .before .args in
     let l = c .before .loop in
-    breaks-nowhere 3 (windowLegal (boardOf (a .board)) (windowsOf (a .windows .now))) _ (λ k h. l .inv .2 k (omega (arith, twos-length window (a .windows .now))))
+    breaks-nowhere 3 (windowLegal (boardOf (a .board)) (windowsOf (a .windows .now))) _ (λ k h. l .inv .2 k (omega (arith, pieces-length _ 2 window (a .windows .now))))
 
 pub check-windows-spec : {M : Type 1} → statement M
 check-windows-spec =

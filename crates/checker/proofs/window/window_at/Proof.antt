@@ -1,4 +1,4 @@
-use Rattle.theory.specs.Lists.{twos-at}
+use Rattle.theory.specs.Lists.{two-at}
 use Rattle.scope.specs.Windows.{window}
 use mathlib.Core.Path.{sym}
 use borrow.Author.Needs.{needs}
@@ -37,7 +37,7 @@ shared-slice-read-end c = search needs
 
 -- src/window.rt:58:1
 returns : tie.Need-returns
-returns c = sym (twos-at window (window 0 0) _ _ (c .before .before .pre))
+returns c = sym (two-at window (window 0 0) _ _ (c .before .before .pre))
 
 pub window-at-spec : {M : Type 1} → statement M
 window-at-spec =

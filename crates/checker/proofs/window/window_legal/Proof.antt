@@ -1,58 +1,81 @@
-use Rattle.checker.proofs.WindowLaws.{misfit, first-window, next-window}
-use Rattle.scope.specs.Windows.{Window, windowFits}
-use lib.Dec.{ltb}
-use borrow.Author.Tests.{not-true, not-false}
-use mathlib.Core.Path.{sym, ap, ap₂, _∙_}
+use mathlib.Core.Path.{_≡_, sym, ap, ap₂, _∙_}
 use borrow.Author.Needs.{needs}
+use mathlib.Core.Bool.{true}
+use lib.Dec.{ltb}
+use Rattle.scope.specs.Windows.{Window, windowsOf, windowAt, windowFits}
+use Rattle.scope.specs.Answers.{Answer.given, windowAnswer}
+use Rattle.checker.specs.Told.{boardOf, windowOf, toldWindow}
+use Rattle.checker.proofs.WindowLaws.{misfit, first-window, next-window, fitting, unfitting}
 use Rattle.checker.proofs.window.window_legal.Statement.{statement}
 use Rattle.checker.proofs.window.window_legal.Tie as tie
 use Rattle.checker.proofs.window.window_legal.Reads as reads
 use Rattle.checker.proofs.window.window_legal.Lts as lts
-use Rattle.checker.proofs.window.Window.fits.Reads as fits-reads
+use Rattle.checker.proofs.window.Window.new.Reads as new-reads
 use Rattle.checker.proofs.window.window_at.Reads as window-at-reads
 
--- src/window.rt:72:9
+-- src/window.rt:73:9
 window-at-requires : tie.Need-window-at-requires
 window-at-requires c κs = search needs
 
--- src/window.rt:73:9
-fits-requires : tie.Need-fits-requires
-fits-requires c κs = search needs
+-- src/window.rt:74:11
+new-requires : tie.Need-new-requires
+new-requires c κs = search needs
 
--- src/window.rt:74:9
+-- src/window.rt:75:35
+enum-told : tie.Need-enum-told
+enum-told c = search needs
+
+-- src/window.rt:76:24
+enum-known-window : tie.Need-enum-known-window
+enum-known-window c = search needs
+
+-- the window that was made is window i of the list, and fits
+fits : (c : tie.After-new) → let a = c .before .before .before .args in
+    (v : Window) → given v ≡ windowAnswer (boardOf (a .board)) (windowOf (c .before .window-at .result)) →
+    (windowFits (boardOf (a .board)) (windowAt (windowsOf (a .windows .now)) (a .i)) ≡ true) × (v ≡ windowAt (windowsOf (a .windows .now)) (a .i))
+fits c v e =
+    let read = c .before .window-at .ensures in
+    let f = fitting _ _ _ e in
+    (sym (ap (windowFits _) read) ∙ f .0, f .1 ∙ read)
+
+-- src/window.rt:78:17
 returns : tie.Need-returns
 returns c =
-    misfit _ _ _ (sym (ap (windowFits _) (c .before .before .window-at .ensures)) ∙ sym (c .before .fits2 .ensures) ∙ not-true _ (c .if1 .taken))
+    let x = c .before .before .before .before in
+    first-window _ _ _ (fits x _ (sym (ap toldWindow (c .before .before .window .given .1)) ∙ x .new .ensures) .0) (c .if1 .taken)
 
--- src/window.rt:77:9
-returns-2 : tie.Need-returns-2
-returns-2 c =
-    first-window _ _ _ (sym (ap (windowFits _) (c .before .before .before .window-at .ensures)) ∙ sym (c .before .before .fits2 .ensures) ∙ not-false _ (c .before .if1 .left)) (c .if2 .taken)
-
--- src/window.rt:79:39
+-- src/window.rt:80:47
 sub-window-at : tie.Need-sub-window-at
 sub-window-at c = search needs
 
--- src/window.rt:79:9
+-- src/window.rt:80:17
 window-at-requires-2 : tie.Need-window-at-requires-2
 window-at-requires-2 c κs = search needs
 
--- src/window.rt:68:1
+-- src/window.rt:69:1
+returns-2 : tie.Need-returns-2
+returns-2 c =
+    let x = c .before .before in
+    misfit _ _ _ (sym (ap (windowFits _) (x .before .window-at .ensures)) ∙ unfitting _ _ _ _ (sym (ap toldWindow (c .enum-told .given .1)) ∙ x .new .ensures))
+
+-- src/window.rt:69:1
 returns-3 : tie.Need-returns-3
 returns-3 c =
-    let w = c .before .before .before .before .before .before .window-at in
-    let fits = sym (ap (windowFits _) (w .ensures)) ∙ sym (c .before .before .before .before .before .fits2 .ensures) ∙ not-false _ (c .before .before .before .before .if1 .left) in
-    ap₂ (λ (p x : Window). ltb (p .end) (x .start)) (c .before .before .window-at2 .ensures) (w .ensures)
-    ∙ next-window _ _ _ fits (c .before .before .before .if2 .left)
+    let x = c .before .before .before .before .before .before .before in
+    let f = fits x _ (sym (ap toldWindow (c .before .before .before .before .before .window .given .1)) ∙ x .new .ensures) in
+    ap₂ (λ (p w : Window). ltb (p .end) (w .start)) (c .before .before .window-at2 .ensures) (f .1)
+    ∙ next-window _ _ _ (f .0) (c .before .before .before .if1 .left)
 
 pub window-legal-spec : {M : Type 1} → statement M
 window-legal-spec =
     tie.close
     (tie.spec
     window-at-requires
-    fits-requires
+    new-requires
+    enum-told
+    enum-known-window
     returns
-    returns-2
     sub-window-at
     window-at-requires-2
+    returns-2
     returns-3)

@@ -1,0 +1,30 @@
+use mathlib.Core.Path.{sym}
+use borrow.Author.Needs.{needs}
+use Rattle.theory.specs.Lists.{whole-count, left-over-count, none-count}
+use Rattle.checker.proofs.list.bad_count.Statement.{statement}
+use Rattle.checker.proofs.list.bad_count.Tie as tie
+use Rattle.checker.proofs.list.bad_count.Reads as reads
+use Rattle.checker.proofs.list.bad_count.Lts as lts
+
+-- src/list.rt:11:9
+returns : tie.Need-returns
+returns c = sym (none-count _ _ _ (c .if1 .taken))
+
+-- src/list.rt:13:8
+rem-if2 : tie.Need-rem-if2
+rem-if2 c = search needs
+
+-- src/list.rt:14:9
+returns-2 : tie.Need-returns-2
+returns-2 c = sym (left-over-count _ _ _ (c .if2 .taken))
+
+-- src/list.rt:16:12
+div-result : tie.Need-div-result
+div-result c = search needs
+
+-- src/list.rt:6:1
+returns-3 : tie.Need-returns-3
+returns-3 c = sym (whole-count _ _ _ (c .if2 .left))
+
+pub bad-count-spec : {M : Type 1} → statement M
+bad-count-spec = tie.close (tie.spec returns rem-if2 returns-2 div-result returns-3)
