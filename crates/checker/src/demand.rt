@@ -9,7 +9,7 @@ use crate::task::check_group;
 use crate::task::check_tasks;
 use crate::task::task_at;
 ghost use mathlib.Core.Path.{_≡_};
-ghost use Prim.Native.Nat.{_≤_};
+ghost use Prim.Native.Nat.{_*_, _≤_};
 ghost use lib.IntN.{pos, _-ℤ_};
 ghost use Rattle.scope.specs.Limits.{mostTasks, mostOfTask, mostLength};
 ghost use Rattle.scope.specs.Tasks.{tasksOf, demand as demandBy};

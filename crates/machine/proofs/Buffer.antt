@@ -7,6 +7,7 @@ use native.Mathlib.Decide.{ℕ-discrete}
 use lib.ListN.{length, set, length-set}
 use lib.Seq.{getD-set-same, getD-set-other}
 use borrow.Author.Tests.{lt-ltb, le-ltb}
+use Rattle.scope.specs.Limits.{mostJobs}
 use Rattle.scope.specs.Jobs.{Job, releaseOf}
 use Rattle.machine.specs.Relation.{Kept, noted}
 
@@ -28,10 +29,10 @@ kept-more f m d l h kp = record {
 -- ---- the count of a job that ended, by cases
 
 module _ (js : List Job) (k j : ℕ) (l : List ℕ) where
-  pub noted-none : 4096 ≤ j → l ≡ noted js k j l
+  pub noted-none : mostJobs ≤ j → l ≡ noted js k j l
   unfolding noted
-  noted-none h = rw (le-ltb j 4096 h)
+  noted-none h = rw (le-ltb j mostJobs h)
 
-  pub noted-one : (r : ℕ) → j < 4096 → r ≡ releaseOf js j → set l j (k - r) ≡ noted js k j l
+  pub noted-one : (r : ℕ) → j < mostJobs → r ≡ releaseOf js j → set l j (k - r) ≡ noted js k j l
   unfolding noted
-  noted-one r h e = rw (lt-ltb j 4096 h, e)
+  noted-one r h e = rw (lt-ltb j mostJobs h, e)

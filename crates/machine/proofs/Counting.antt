@@ -12,6 +12,7 @@ use lib.Dec.{ltb}
 use lib.ListN.{length, getD, set, drop, length-set, List·getD-append}
 use lib.Seq.{getD-set-same, getD-set-other, getD-append-add, getD-drop, ext-getD}
 use borrow.Author.Tests.{lt-ltb, le-ltb, eq-eqb, ne-eqb}
+use Rattle.scope.specs.Limits.{mostJobs}
 use Rattle.scope.specs.Numbers.{sooner, firstBy, first, listed, written}
 use Rattle.scope.specs.Jobs.{Job, releaseOf, workOf}
 use Rattle.scope.specs.Machine.{workLeft}
@@ -94,14 +95,14 @@ module _ (σ : ℕ → Bool) (before : ℕ → ℕ → Bool) (js : List Job) whe
       rest : (j : ℕ) → j < length js → j ≢ e → count σ before js (k + 1) j ≡ count σ before js k j
       rest j a u = elim (decLt 0 (left k j)) [ yes q ↦ count-goes k j (en .other j a u q) | no q ↦ count-ended k j (omega arith) ]
 
-      idle : e ≡ noJob → Kept (count σ before js (k + 1)) (length js) d (cond (ltb e 4096) (set l e c) l)
+      idle : e ≡ noJob → Kept (count σ before js (k + 1)) (length js) d (cond (ltb e mostJobs) (set l e c) l)
       idle q =
-          rw (le-ltb e 4096 (omega arith))
+          rw (le-ltb e mostJobs (omega arith))
           (record { same = kp .same; low = λ j a. kp .low j a ∙ sym (rest j a (omega arith)); high = kp .high })
 
-      ends : (e < length js) × (0 < left k e) × (left (k + 1) e ≡ 0) → Kept (count σ before js (k + 1)) (length js) d (cond (ltb e 4096) (set l e c) l)
+      ends : (e < length js) × (0 < left k e) × (left (k + 1) e ≡ 0) → Kept (count σ before js (k + 1)) (length js) d (cond (ltb e mostJobs) (set l e c) l)
       ends p =
-          rw (lt-ltb e 4096 (omega (arith, p .0)))
+          rw (lt-ltb e mostJobs (omega (arith, p .0)))
           (record {
             same = length-set l e c ∙ kp .same;
             low = λ j a. elim (ℕ-discrete j e) [

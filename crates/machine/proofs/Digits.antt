@@ -8,6 +8,7 @@ use native.Mathlib.Omega.{arith}
 use lib.Arith.{digits-mod}
 use lib.Pow.{pow-pos, pow-lt, pow-add}
 use lib.Bits.{bitAnd, bitOr, bitXor, differ, and-step, or-step, xor-step, and-shr, or-shr, xor-shr}
+use Rattle.scope.specs.Limits.{mostTasks}
 use Rattle.machine.specs.Bits.{digit}
 
 pub two-pos : 0 < 2
@@ -75,5 +76,5 @@ pub digit-pow-other : (i j : ℕ) → i ≢ j → digit (2 ^ i) j ≡ 0
 digit-pow-other i j ne = elim (decLt i j) [ yes l ↦ digit-pow-below i j l | no n ↦ digit-pow-above i j (omega arith) ]
 
 -- the machine's `1 << i` at 32 bits
-pub one-shl : (i : ℕ) → i < 32 → (1 * 2 ^ i) % 2 ^ 32 ≡ 2 ^ i
+pub one-shl : (i : ℕ) → i < mostTasks → (1 * 2 ^ i) % 2 ^ 32 ≡ 2 ^ i
 one-shl i l = ap (λ (y : ℕ). y % 2 ^ 32) (one-mul (2 ^ i)) ∙ mod-eq-of-lt (pow-lt l)

@@ -10,6 +10,7 @@ use native.Mathlib.Decide.{decLt}
 use lib.Dec.{leb, ltb}
 use lib.ListN.{length, getD}
 use borrow.Author.Tests.{ltb-true, ltb-false, leb-true, le-leb}
+use Rattle.scope.specs.Limits.{mostTasks}
 use Rattle.scope.specs.Numbers.{first}
 use Rattle.scope.specs.Tasks.{Task, taskAt}
 use Rattle.scope.specs.Jobs.{Job, taskOf, deadline}
@@ -61,8 +62,8 @@ module _ (s : RunState) (t : ℕ) where
     least = below-suc (λ i. lateTask i ≡ true → jobAt n ≤ jobAt i) n h (λ z. omega arith);
   }
 
-  module _ (small : (i : ℕ) → i < 32 → lateTask i ≡ true → jobAt i < noJob) where
-    late-found : (n : ℕ) → n ≤ 32 → Found n (lateTo s t n)
+  module _ (small : (i : ℕ) → i < mostTasks → lateTask i ≡ true → jobAt i < noJob) where
+    late-found : (n : ℕ) → n ≤ mostTasks → Found n (lateTo s t n)
     unfolding lateTo lowerIn
     late-found zero l = inl (refl, λ i a e. absurd (omega arith))
     late-found (suc n) l = go (late-found n (omega arith)) (lateTask n) refl
@@ -87,7 +88,7 @@ module _ (s : RunState) (t : ℕ) where
 module _ (ts : List Task) (js : List Job) (tasks : Tasks ts) (legal : Jobs ts js) (work : List ℕ) (t : ℕ) (s : RunState)
     (h : Holds ts js work s) (sp : Split js t t (s .next)) where
   -- the job of a late task is late
-  task-late : (i : ℕ) → i < 32 → lateTask s t i ≡ true → (jobAt s t i < length js) × (late ts js t work (jobAt s t i) ≡ true)
+  task-late : (i : ℕ) → i < mostTasks → lateTask s t i ≡ true → (jobAt s t i < length js) × (late ts js t work (jobAt s t i) ≡ true)
   unfolding late
   task-late i l e =
       let p = and-both (mem (s .pending) i) (leb (getD (s .due) i 0) t) e in
@@ -98,23 +99,23 @@ module _ (ts : List Task) (js : List Job) (tasks : Tasks ts) (legal : Jobs ts js
       )
 
   -- a late job is that of a late task: it is released, for its deadline is after its release
-  late-task : (j : ℕ) → j < length js → late ts js t work j ≡ true → (taskOf js j < 32) × (lateTask s t (taskOf js j) ≡ true) × (jobAt s t (taskOf js j) ≡ j)
+  late-task : (j : ℕ) → j < length js → late ts js t work j ≡ true → (taskOf js j < mostTasks) × (lateTask s t (taskOf js j) ≡ true) × (jobAt s t (taskOf js j) ≡ j)
   unfolding late
   late-task j l e =
       let p = fits-true (deadline ts js j) t 1 (getD work j 0) e in
       let i : ℕ = taskOf js j in
       let due : 1 ≤ (taskAt ts i) .D = tasks .rules i (legal .known j l) .due in
-      let low : i < 32 = omega (arith, legal .known j l, tasks .few) in
+      let low : i < mostTasks = omega (arith, legal .known j l, tasks .few) in
       let a : j < s .next = elim (decLt j (s .next)) [ yes a ↦ a | no a ↦ absurd (omega (arith, sp .later j (omega arith) l, p .0)) ] in
       let y = h .held j a (p .1) in
       let z = h .slot i low (y .0) in
       let d : deadline ts js (jobAt s t i) ≡ deadline ts js j = ap (deadline ts js) (y .1) in
       (low, both-and {a = mem (s .pending) i} (y .0) (le-leb (getD (s .due) i 0) t (omega (arith, z .due, d, p .0))), y .1)
 
-  found : Found s t 32 (lateTo s t 32)
-  found = late-found s t (λ i l e. omega (arith, task-late i l e .0, legal .few)) 32 (omega arith)
+  found : Found s t mostTasks (lateTo s t mostTasks)
+  found = late-found s t (λ i l e. omega (arith, task-late i l e .0, legal .few)) mostTasks (omega arith)
 
-  pub none-late : noJob ≤ lateTo s t 32 → first (late ts js t work) (length js) ≡ none
+  pub none-late : noJob ≤ lateTo s t mostTasks → first (late ts js t work) (length js) ≡ none
   none-late l = none-first (late ts js t work) (length js) (λ j a. elim (bool-cases (late ts js t work j)) [ inl e ↦ absurd (no j a e) | inr e ↦ e ])
     where
       no : (j : ℕ) → j < length js → late ts js t work j ≡ true → ⊥
@@ -123,10 +124,10 @@ module _ (ts : List Task) (js : List Job) (tasks : Tasks ts) (legal : Jobs ts js
         | inr p ↦ absurd (omega (arith, p .0))
       ]
 
-  pub one-late : lateTo s t 32 < noJob → first (late ts js t work) (length js) ≡ some (lateTo s t 32)
-  one-late l = go (lateTo s t 32) l found
+  pub one-late : lateTo s t mostTasks < noJob → first (late ts js t work) (length js) ≡ some (lateTo s t mostTasks)
+  one-late l = go (lateTo s t mostTasks) l found
     where
-      go : (r : ℕ) → r < noJob → Found s t 32 r → first (late ts js t work) (length js) ≡ some r
+      go : (r : ℕ) → r < noJob → Found s t mostTasks r → first (late ts js t work) (length js) ≡ some r
       go r l (inl p) = absurd (omega (arith, p .0))
       go r l (inr p) =
           let q = p .1 in

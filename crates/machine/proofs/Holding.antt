@@ -10,6 +10,7 @@ use lib.Dec.{ltb, eqb}
 use lib.ListN.{length, getD, set, length-set}
 use lib.Seq.{getD-set-same, getD-set-other}
 use borrow.Author.Tests.{lt-ltb, le-ltb, eqb-true, eqb-false}
+use Rattle.scope.specs.Limits.{mostTasks}
 use Rattle.scope.specs.Tasks.{Task, taskAt}
 use Rattle.scope.specs.Jobs.{Job, releaseOf, taskOf, workOf, deadline}
 use Rattle.scope.specs.Machine.{chosen, worked, tick}
@@ -78,7 +79,7 @@ module _ (ts : List Task) (js : List Job) (tasks : Tasks ts) (legal : Jobs ts js
       d : ℕ
       d = deadline ts js m
 
-      low : i < 32
+      low : i < mostTasks
       low = omega (arith, legal .known m l, tasks .few)
 
       -- the place of its own task
@@ -95,7 +96,7 @@ module _ (ts : List Task) (js : List Job) (tasks : Tasks ts) (legal : Jobs ts js
           }
 
       -- the place of another task
-      old : (x : ℕ) → x < 32 → i ≢ x → mem (s .pending) x ≡ true → Slot ts js work (nextOf ts js s) x
+      old : (x : ℕ) → x < mostTasks → i ≢ x → mem (s .pending) x ≡ true → Slot ts js work (nextOf ts js s) x
       old x a z q =
           let y = h .slot x a q in
           let u : x ≢ i = λ g. z (sym g) in
@@ -167,7 +168,7 @@ module _ (ts : List Task) (js : List Job) (tasks : Tasks ts) (legal : Jobs ts js
   -- ---- one tick of work
 
   -- the job of task i
-  module _ (s : RunState) (i : ℕ) (size : length work ≡ length js) (bound : s .next ≤ length js) (l : i < 32) (z : Slot ts js work s i) where
+  module _ (s : RunState) (i : ℕ) (size : length work ≡ length js) (bound : s .next ≤ length js) (l : i < mostTasks) (z : Slot ts js work s i) where
     -- its index, and the work left of it after the tick
     abbrev c : ℕ
     c = getD (s .job) i 0
@@ -186,7 +187,7 @@ module _ (ts : List Task) (js : List Job) (tasks : Tasks ts) (legal : Jobs ts js
     work-holds h m = go (eqb v 0) refl
       where
         -- the place of another task
-        other : (x : ℕ) → x < 32 → x ≢ i → mem (s .pending) x ≡ true → SlotOf ts js (served s i work) (s .next) (set (s .left) i v) (s .due) (s .job) x
+        other : (x : ℕ) → x < mostTasks → x ≢ i → mem (s .pending) x ≡ true → SlotOf ts js (served s i work) (s .next) (set (s .left) i v) (s .due) (s .job) x
         other x a u q =
             let y = h .slot x a q in
             let e : getD (set (s .left) i v) x 0 ≡ getD (s .left) x 0 = getD-set-other (s .left) i x v 0 u in
@@ -260,18 +261,18 @@ module _ (ts : List Task) (js : List Job) (tasks : Tasks ts) (legal : Jobs ts js
 
   -- ---- the step, under any rule of choice
 
-  step-idle : (s : RunState) (i : ℕ) → 32 ≤ i → idleOf s ≡ stepOf i s
+  step-idle : (s : RunState) (i : ℕ) → mostTasks ≤ i → idleOf s ≡ stepOf i s
   unfolding stepOf
-  step-idle s i h = rw (le-ltb i 32 h)
+  step-idle s i h = rw (le-ltb i mostTasks h)
 
-  step-work : (s : RunState) (i : ℕ) → i < 32 → 0 < getD (s .left) i 0 → workOn s i ≡ stepOf i s
+  step-work : (s : RunState) (i : ℕ) → i < mostTasks → 0 < getD (s .left) i 0 → workOn s i ≡ stepOf i s
   unfolding stepOf
-  step-work s i h p = rw (lt-ltb i 32 h, lt-ltb 0 (getD (s .left) i 0) p)
+  step-work s i h p = rw (lt-ltb i mostTasks h, lt-ltb 0 (getD (s .left) i 0) p)
 
   -- the step keeps the other fields
   pub step-keeps : (s : RunState) (i : ℕ) → ((stepOf i s) .next ≡ s .next) × ((stepOf i s) .backlog ≡ s .backlog)
   unfolding stepOf
-  step-keeps s i = go (ltb i 32 && ltb 0 (getD (s .left) i 0))
+  step-keeps s i = go (ltb i mostTasks && ltb 0 (getD (s .left) i 0))
     where
       go : (b : Bool) → ((cond b (workOn s i) (idleOf s)) .next ≡ s .next) × ((cond b (workOn s i) (idleOf s)) .backlog ≡ s .backlog)
       go true = (refl, refl)
@@ -279,27 +280,27 @@ module _ (ts : List Task) (js : List Job) (tasks : Tasks ts) (legal : Jobs ts js
 
   module _ (σ : ℕ → Bool) (before : ℕ → ℕ → Bool) (k : ℕ) (s : RunState) (i : ℕ)
       (size : length work ≡ length js) (h : Holds ts js work s) (bound : s .next ≤ length js) (is : Chosen before js k work s i) where
-    pub step-holds : Holds ts js (tick σ before js k work) (stepOf (cond (σ k) i 32) s)
+    pub step-holds : Holds ts js (tick σ before js k work) (stepOf (cond (σ k) i mostTasks) s)
     unfolding tick
     step-holds = go (σ k) is
       where
-        go : (t : Bool) → Chosen before js k work s i → Holds ts js (cond t (worked (chosen before js k work) work) work) (stepOf (cond t i 32) s)
-        go false p = subst (λ (x : RunState). Holds ts js work x) (step-idle s 32 (omega arith)) h
+        go : (t : Bool) → Chosen before js k work s i → Holds ts js (cond t (worked (chosen before js k work) work) work) (stepOf (cond t i mostTasks) s)
+        go false p = subst (λ (x : RunState). Holds ts js work x) (step-idle s mostTasks (omega arith)) h
         go true (inl p) = rw (p .1) (subst (λ (x : RunState). Holds ts js work x) (step-idle s i (p .0)) h)
         go true (inr p) =
             let z = h .slot i (p .0) (p .1) in
             rw (p .2)
             (subst (λ (x : RunState). Holds ts js (served s i work) x) (step-work s i (p .0) (z .some)) (work-holds s i size bound (p .0) z h (p .1)))
 
-    pub step-ends : Ends work (tick σ before js k work) (length js) ((stepOf (cond (σ k) i 32) s) .done)
+    pub step-ends : Ends work (tick σ before js k work) (length js) ((stepOf (cond (σ k) i mostTasks) s) .done)
     unfolding tick
     step-ends = go (σ k) is
       where
         idle : Ends work work (length js) noJob
         idle = record { other = λ j a u q. q; this = inl refl }
 
-        go : (t : Bool) → Chosen before js k work s i → Ends work (cond t (worked (chosen before js k work) work) work) (length js) ((stepOf (cond t i 32) s) .done)
-        go false p = subst (λ (x : RunState). Ends work work (length js) (x .done)) (step-idle s 32 (omega arith)) idle
+        go : (t : Bool) → Chosen before js k work s i → Ends work (cond t (worked (chosen before js k work) work) work) (length js) ((stepOf (cond t i mostTasks) s) .done)
+        go false p = subst (λ (x : RunState). Ends work work (length js) (x .done)) (step-idle s mostTasks (omega arith)) idle
         go true (inl p) = rw (p .1) (subst (λ (x : RunState). Ends work work (length js) (x .done)) (step-idle s i (p .0)) idle)
         go true (inr p) =
             let z = h .slot i (p .0) (p .1) in

@@ -1,10 +1,10 @@
 -- The rule of a legal job list: its test by cases, and what it gives
 use mathlib.Core.Path.{_≡_, refl, sym, ap, _∙_}
-use mathlib.Core.Bool.{Bool, true, false, not, cond, _&&_, _||_, or-true}
+use mathlib.Core.Bool.{Bool, true, false, not, cond, _&&_, _||_}
 use mathlib.Core.Logic.{_≢_, inl, inr}
 use mathlib.Core.Option.{none}
-use mathlib.Core.List.{List}
-use Prim.Native.Nat.{ℕ, zero, suc, _+_, _-_, _%_, _≤_, _<_, max}
+use mathlib.Core.List.{List, []}
+use Prim.Native.Nat.{ℕ, zero, suc, _+_, _-_, _≤_, _<_, max}
 use native.Mathlib.Omega.{arith}
 use native.Mathlib.Numerals.{add-one}
 use native.Mathlib.Decide.{ℕ-discrete, decLe, le-ind}
@@ -12,6 +12,8 @@ use lib.Dec.{leb, ltb, eqb}
 use lib.ListN.{length, getD, set, replicate, length-set}
 use lib.Seq.{getD-set-same, getD-set-other}
 use borrow.Author.Tests.{lt-ltb, le-ltb, leb-true, le-leb, lt-leb, eq-eqb, ne-eqb}
+use Rattle.scope.specs.Numbers.{badCount}
+use Rattle.scope.specs.Limits.{mostTasks, mostTicks, mostJobs}
 use Rattle.scope.specs.Tasks.{Task, tasksOf, taskAt}
 use Rattle.scope.specs.Jobs.{Job, jobsOf, releaseOf, taskOf, workOf, inOrder, apart, jobLegal, badJob}
 use Rattle.scope.specs.Answers.{Fault.fine, Fault.fault, Answer.given, Answer.refused, jobListFault, jobFault, runTicksAnswer}
@@ -23,30 +25,23 @@ use Rattle.machine.specs.Relation.{Jobs, freeAt, FreeTable}
 -- ---- the job list and the ticks, refusal 10
 
 module _ (n : ℕ) where
-  pub ticks-refused : 1100000 < n → refused 10 0 ≡ runTicksAnswer n
-  unfolding runTicksAnswer jobListFault
-  ticks-refused h = rw (lt-ltb 1100000 n h)
+  pub ticks-refused : mostTicks < n → refused 10 0 ≡ runTicksAnswer n
+  unfolding runTicksAnswer jobListFault badCount
+  ticks-refused h = rw (lt-ltb mostTicks n h)
 
-  pub ticks-taken : n ≤ 1100000 → given n ≡ runTicksAnswer n
-  unfolding runTicksAnswer jobListFault
-  ticks-taken h = rw (le-ltb 1100000 n h)
+  pub ticks-taken : n ≤ mostTicks → given n ≡ runTicksAnswer n
+  unfolding runTicksAnswer jobListFault badCount
+  ticks-taken h = rw (le-ltb mostTicks n h)
 
   module _ (js : List ℕ) where
-    pub not-threes : length js % 3 ≢ 0 → fault 10 0 ≡ jobListFault n js
+    pub bad-list : badCount 3 mostJobs js ≡ true → fault 10 0 ≡ jobListFault n js
     unfolding jobListFault
-    not-threes h = rw (ne-eqb (length js % 3) 0 h)
+    bad-list e = rw e
 
-    pub too-many : 12288 < length js → fault 10 0 ≡ jobListFault n js
-    unfolding jobListFault
-    too-many h = rw (lt-ltb 12288 (length js) h, or-true (not (eqb (length js % 3) 0)))
-
-    pub too-long : 1100000 < n → fault 10 0 ≡ jobListFault n js
-    unfolding jobListFault
-    too-long h = rw (lt-ltb 1100000 n h, or-true (not (eqb (length js % 3) 0) || ltb 12288 (length js)))
-
-    pub list-fine : length js % 3 ≡ 0 → length js ≤ 12288 → n ≤ 1100000 → fine ≡ jobListFault n js
-    unfolding jobListFault
-    list-fine h k l = rw (h, le-ltb 12288 (length js) k, le-ltb 1100000 n l)
+    -- of a list that is counted right the ticks alone are judged
+    pub good-list : badCount 3 mostJobs js ≡ false → jobListFault n [] ≡ jobListFault n js
+    unfolding jobListFault badCount
+    good-list e = sym (rw e)
 
 -- ---- the order, by cases
 
@@ -173,13 +168,13 @@ getD-zeros zero x = refl
 getD-zeros (suc n) zero = refl
 getD-zeros (suc n) (suc x) = getD-zeros n x
 
-pub free-first : (ts : List Task) (js : List Job) → FreeTable ts js 0 (replicate 32 0)
+pub free-first : (ts : List Task) (js : List Job) → FreeTable ts js 0 (replicate mostTasks 0)
 unfolding freeAt
-free-first ts js = record { size = refl; is = λ x l. getD-zeros 32 x }
+free-first ts js = record { size = refl; is = λ x l. getD-zeros mostTasks x }
 
 -- one job further: a legal job's task is free, so that its next free tick is T after the release
-module _ (ts : List Task) (n : ℕ) (js : List Job) (j : ℕ) (rule : JobRule ts n js j) (free : List ℕ) (table : FreeTable ts js j free) (few : length ts ≤ 32) where
-  free-at : (i v : ℕ) → i ≡ taskOf js j → v ≡ releaseOf js j + (taskAt ts i) .T → (x : ℕ) → x < 32 → getD (set free i v) x 0 ≡ freeAt ts js x (j + 1)
+module _ (ts : List Task) (n : ℕ) (js : List Job) (j : ℕ) (rule : JobRule ts n js j) (free : List ℕ) (table : FreeTable ts js j free) (few : length ts ≤ mostTasks) where
+  free-at : (i v : ℕ) → i ≡ taskOf js j → v ≡ releaseOf js j + (taskAt ts i) .T → (x : ℕ) → x < mostTasks → getD (set free i v) x 0 ≡ freeAt ts js x (j + 1)
   unfolding freeAt
   free-at i v ei ev x l =
       rw (add-one j) (elim (ℕ-discrete x i) [
@@ -221,7 +216,7 @@ module _ (ts : List Task) (n : ℕ) (js : List Job) (legal : badJob ts n js ≡ 
   up : (i j : ℕ) → i ≤ j → j < length js → releaseOf js i ≤ releaseOf js j
   up i j a = le-ind (λ (x : ℕ). x < length js → releaseOf js i ≤ releaseOf js x) (λ l. omega arith) (λ x b ih l. omega (arith, ih (omega arith), one-up x l)) j a
 
-  pub jobs-of : n ≤ 1100000 → length js ≤ 4096 → Jobs ts js
+  pub jobs-of : n ≤ mostTicks → length js ≤ mostJobs → Jobs ts js
   jobs-of small few =
       let rule = job-rules ts n js legal in
       record {

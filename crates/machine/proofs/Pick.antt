@@ -10,6 +10,7 @@ use native.Mathlib.Decide.{ℕ-discrete, decLt}
 use lib.Dec.{ltb}
 use lib.ListN.{length, getD}
 use borrow.Author.Tests.{ltb-true, ltb-false, lt-ltb, le-ltb, eq-eqb, ne-eqb}
+use Rattle.scope.specs.Limits.{mostTasks}
 use Rattle.scope.specs.Numbers.{sooner, firstBy}
 use Rattle.scope.specs.Tasks.{Task}
 use Rattle.scope.specs.Jobs.{Job, releaseOf, taskOf, deadline}
@@ -74,34 +75,34 @@ module _ (before : ℕ → ℕ → Bool) (p : ℕ → Bool) where
 module _ (q : ℕ → Bool) (due : List ℕ) where
   -- by due number and then by the member itself, as one number
   abbrev key : ℕ → ℕ
-  key i = 32 * getD due i 0 + i
+  key i = mostTasks * getD due i 0 + i
 
   abbrev Picked : ℕ → ℕ → Type 0
-  Picked n b = ((b ≡ 32) × ((i : ℕ) → i < n → q i ≡ true → ⊥)) ⊎ ((b < n) × (q b ≡ true) × ((i : ℕ) → i < n → q i ≡ true → key b ≤ key i))
+  Picked n b = ((b ≡ mostTasks) × ((i : ℕ) → i < n → q i ≡ true → ⊥)) ⊎ ((b < n) × (q b ≡ true) × ((i : ℕ) → i < n → q i ≡ true → key b ≤ key i))
 
   -- the better of two is one of them, and its key is the lesser
-  better-key : (b n : ℕ) → n < 32 → b < n → (t : Bool) → ltb (getD due n 0) (getD due b 0) ≡ t →
+  better-key : (b n : ℕ) → n < mostTasks → b < n → (t : Bool) → ltb (getD due n 0) (getD due b 0) ≡ t →
       (cond t n b < suc n) × ((cond t n b ≡ n) ⊎ (cond t n b ≡ b)) × (key (cond t n b) ≤ key b) × (key (cond t n b) ≤ key n)
   better-key b n m h true e = let z = ltb-true (getD due n 0) (getD due b 0) e in (omega arith, inl refl, omega arith, omega arith)
   better-key b n m h false e = let z = ltb-false (getD due n 0) (getD due b 0) e in (omega arith, inr refl, omega arith, omega arith)
 
-  picked : (n : ℕ) → n ≤ 32 → Picked n (pickTo q due n)
+  picked : (n : ℕ) → n ≤ mostTasks → Picked n (pickTo q due n)
   unfolding pickTo betterOf
   picked zero l = inl (refl, λ i h e. absurd (omega arith))
   picked (suc n) l = go (q n) refl (pickTo q due n) (picked n (omega arith))
     where
       go : (t : Bool) → q n ≡ t → (b : ℕ) → Picked n b →
-          Picked (suc n) (cond t (cond (ltb b 32) (cond (ltb (getD due n 0) (getD due b 0)) n b) n) b)
+          Picked (suc n) (cond t (cond (ltb b mostTasks) (cond (ltb (getD due n 0) (getD due b 0)) n b) n) b)
       go false e b (inl p) = inl (p .0, below-suc (λ i. q i ≡ true → ⊥) n (p .1) (λ z. false≢true (sym e ∙ z)))
       go false e b (inr p) =
           inr (omega (arith, p .0), p .1, below-suc (λ i. q i ≡ true → key b ≤ key i) n (p .2) (λ z. absurd (false≢true (sym e ∙ z))))
       go true e b (inl p) =
-          rw (le-ltb b 32 (omega (arith, p .0)))
+          rw (le-ltb b mostTasks (omega (arith, p .0)))
           (inr (omega arith, e, below-suc (λ i. q i ≡ true → key n ≤ key i) n (λ i h z. absurd (p .1 i h z)) (λ z. omega arith)))
       go true e b (inr p) =
           let y = better-key b n (omega arith) (p .0) (ltb (getD due n 0) (getD due b 0)) refl in
           let r : ℕ = cond (ltb (getD due n 0) (getD due b 0)) n b in
-          rw (lt-ltb b 32 (omega (arith, p .0)))
+          rw (lt-ltb b mostTasks (omega (arith, p .0)))
           (inr (
             y .0,
             elim (y .1) [ inl z ↦ ap q z ∙ e | inr z ↦ ap q z ∙ p .1 ],
@@ -113,11 +114,11 @@ module _ (q : ℕ → Bool) (due : List ℕ) where
 -- the job that the machine chooses in tick k stands at the pending task i; it chooses none where i is no task
 abbrev pub Chosen : (ℕ → ℕ → Bool) → List Job → ℕ → List ℕ → RunState → ℕ → Type 0
 Chosen before js k work s i =
-    ((32 ≤ i) × (chosen before js k work ≡ none)) ⊎ ((i < 32) × (mem (s .pending) i ≡ true) × (chosen before js k work ≡ some (getD (s .job) i 0)))
+    ((mostTasks ≤ i) × (chosen before js k work ≡ none)) ⊎ ((i < mostTasks) × (mem (s .pending) i ≡ true) × (chosen before js k work ≡ some (getD (s .job) i 0)))
 
 module _ (ts : List Task) (js : List Job) where
   -- the lesser by deadline and then task goes before the other, and not the other way round
-  edf-ahead : (a b : ℕ) → 32 * deadline ts js a + taskOf js a < 32 * deadline ts js b + taskOf js b → taskOf js a < 32 → taskOf js b < 32 →
+  edf-ahead : (a b : ℕ) → mostTasks * deadline ts js a + taskOf js a < mostTasks * deadline ts js b + taskOf js b → taskOf js a < mostTasks → taskOf js b < mostTasks →
       (edf ts js a b ≡ true) × (edf ts js b a ≡ false)
   edf-ahead a b h la lb =
       let d : ℕ = deadline ts js a in
@@ -146,13 +147,13 @@ module _ (ts : List Task) (js : List Job) where
     module _ (tasks : Tasks ts) (legal : Jobs ts js) (h : Holds ts js work s) where
       -- the code's choice is the machine's under earliest deadline first
       pub chosen-is : Chosen (edf ts js) js k work s (chosenTask s)
-      chosen-is = go (chosenTask s) (picked (mem (s .pending)) (s .due) 32 (omega arith))
+      chosen-is = go (chosenTask s) (picked (mem (s .pending)) (s .due) mostTasks (omega arith))
         where
           -- the task of a pending job
-          low : (j : ℕ) → j < length js → taskOf js j < 32
+          low : (j : ℕ) → j < length js → taskOf js j < mostTasks
           low j a = omega (arith, legal .known j a, tasks .few)
 
-          go : (i : ℕ) → Picked (mem (s .pending)) (s .due) 32 i → Chosen (edf ts js) js k work s i
+          go : (i : ℕ) → Picked (mem (s .pending)) (s .due) mostTasks i → Chosen (edf ts js) js k work s i
           go i (inl p) = inl (
             omega (arith, p .0),
             none-passes (edf ts js) (pending js k work) (length js) (λ j a q.

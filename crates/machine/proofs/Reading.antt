@@ -7,12 +7,13 @@ use Prim.Native.Nat.{ℕ, suc, _+_, _-_, _*_, _^_, _≤_, _<_}
 use native.Mathlib.Omega.{arith}
 use lib.ListN.{length, getD}
 use borrow.Author.Tests.{le-ltb, eq-eqb, ne-eqb}
+use Rattle.scope.specs.Limits.{mostFrame, mostTasks, mostJobs}
 use Rattle.scope.specs.Windows.{Board, supplied}
 use Rattle.scope.specs.Tasks.{Task, task, tasksOf, taskAt}
 use Rattle.scope.specs.Jobs.{Job, job, jobsOf, releaseOf, taskOf, workOf, deadline}
-use Rattle.scope.specs.Answers.{Fault.fine, Answer.given, Answer.refused, windowListFault, frameFault, windowFault, tableFault, suppliedAnswer}
-use Rattle.theory.specs.Lists.{threes-length, threes-at}
-use Rattle.theory.specs.Answers.{LegalTable, LegalGroup}
+use Rattle.scope.specs.Answers.{Fault.fine, Answer.given, Answer.refused, frameFault, windowFault, tableFault, suppliedAnswer}
+use Rattle.theory.specs.Lists.{pieces-length, three-at}
+use Rattle.theory.specs.Answers.{LegalTable, LegalGroup, window-list-fine}
 use Rattle.machine.specs.declared.state.RunState.{RunState}
 use Rattle.machine.specs.Slots.{putOf, nextOf, feed, releaseAt}
 use Rattle.machine.specs.Relation.{Tasks, Jobs}
@@ -21,34 +22,34 @@ use Rattle.machine.specs.Relation.{Tasks, Jobs}
 
 module _ (l : List ℕ) (j : ℕ) (h : 3 * j + 2 < length l) where
   pub release-at : getD l (3 * j) 0 ≡ releaseOf (jobsOf l) j
-  release-at = sym (ap (λ (x : Job). x .release) (threes-at job (job 0 0 0) l j h))
+  release-at = sym (ap (λ (x : Job). x .release) (three-at job (job 0 0 0) l j h))
 
   pub of-at : getD l (3 * j + 1) 0 ≡ taskOf (jobsOf l) j
-  of-at = sym (ap (λ (x : Job). x .task) (threes-at job (job 0 0 0) l j h))
+  of-at = sym (ap (λ (x : Job). x .task) (three-at job (job 0 0 0) l j h))
 
   pub work-at : getD l (3 * j + 2) 0 ≡ workOf (jobsOf l) j
-  work-at = sym (ap (λ (x : Job). x .work) (threes-at job (job 0 0 0) l j h))
+  work-at = sym (ap (λ (x : Job). x .work) (three-at job (job 0 0 0) l j h))
 
   pub most-at : getD l (3 * j) 0 ≡ (taskAt (tasksOf l) j) .C
-  most-at = sym (ap (λ (x : Task). x .C) (threes-at task (task 0 0 0) l j h))
+  most-at = sym (ap (λ (x : Task). x .C) (three-at task (task 0 0 0) l j h))
 
   pub period-at : getD l (3 * j + 1) 0 ≡ (taskAt (tasksOf l) j) .T
-  period-at = sym (ap (λ (x : Task). x .T) (threes-at task (task 0 0 0) l j h))
+  period-at = sym (ap (λ (x : Task). x .T) (three-at task (task 0 0 0) l j h))
 
   pub within-at : getD l (3 * j + 2) 0 ≡ (taskAt (tasksOf l) j) .D
-  within-at = sym (ap (λ (x : Task). x .D) (threes-at task (task 0 0 0) l j h))
+  within-at = sym (ap (λ (x : Task). x .D) (three-at task (task 0 0 0) l j h))
 
 -- ---- a job of a legal list
 
 module _ (tasks jobs : List ℕ) (tk : Tasks (tasksOf tasks)) (lg : Jobs (tasksOf tasks) (jobsOf jobs)) (j : ℕ) (l : j < length (jobsOf jobs)) where
   -- it can be read
-  pub read-job : (3 * j + 2 < length jobs) × (j < 4096)
-  read-job = omega (arith, threes-length job jobs, lg .few)
+  pub read-job : (3 * j + 2 < length jobs) × (j < mostJobs)
+  read-job = omega (arith, pieces-length _ 3 job jobs, lg .few)
 
   module _ (i : ℕ) (e : i ≡ taskOf (jobsOf jobs) j) where
     -- and so can its task
-    pub read-task : (3 * i + 2 < length tasks) × (i < 32)
-    read-task = omega (arith, threes-length task tasks, lg .known j l, tk .few)
+    pub read-task : (3 * i + 2 < length tasks) × (i < mostTasks)
+    read-task = omega (arith, pieces-length _ 3 task tasks, lg .known j l, tk .few)
 
     module _ (r : ℕ) (er : r ≡ releaseOf (jobsOf jobs) j) (d : ℕ) (ed : d ≡ (taskAt (tasksOf tasks) i) .D) where
       -- its deadline is a number of 32 bits
@@ -89,20 +90,14 @@ module _ (ts : List Task) (js : List Job) (s : RunState) where
 -- ---- lists that passed their checks
 
 pub tasks-of : (ts : List ℕ) → LegalGroup ts → Tasks (tasksOf ts)
-tasks-of ts ok = record { few = omega (arith, threes-length task ts, ok .few); rules = ok .rules; within = ok .within }
+tasks-of ts ok = record { few = omega (arith, pieces-length _ 3 task ts, ok .few); rules = ok .rules; within = ok .within }
 
 module _ (b : Board) (ws : List ℕ) (ok : LegalTable b ws) where
-  list-fine : windowListFault ws ≡ fine
-  unfolding windowListFault
-  list-fine =
-      let some : length ws ≢ 0 = λ e. omega (arith, ok .some) in
-      rw (ok .even, ne-eqb (length ws) 0 some, le-ltb 128 (length ws) (ok .few))
-
   frame-fine : frameFault b ≡ fine
   unfolding frameFault
   frame-fine =
       let some : b .frame ≢ 0 = λ e. omega (arith, ok .frame) in
-      rw (ne-eqb (b .frame) 0 some, le-ltb 65536 (b .frame) (ok .frame-most))
+      rw (ne-eqb (b .frame) 0 some, le-ltb mostFrame (b .frame) (ok .frame-most))
 
   windows-fine : windowFault b ws ≡ fine
   unfolding windowFault
@@ -111,7 +106,7 @@ module _ (b : Board) (ws : List ℕ) (ok : LegalTable b ws) where
   -- a legal table is not refused
   table-fine : tableFault b ws ≡ fine
   unfolding tableFault
-  table-fine = rw (list-fine, frame-fine, windows-fine)
+  table-fine = rw (window-list-fine ws (ok .even) (ok .some) (ok .few), frame-fine, windows-fine)
 
   -- so what is answered is whether the tick is supplied
   module _ (k : ℕ) where

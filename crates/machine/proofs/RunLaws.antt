@@ -5,13 +5,14 @@ use Prim.Native.Nat.{ℕ, _≤_, _<_}
 use native.Mathlib.Omega.{arith}
 use lib.ListN.{length}
 use borrow.Author.Tests.{lt-ltb, le-ltb}
+use Rattle.scope.specs.Limits.{mostTicks}
 use Rattle.scope.specs.Windows.{Board, supplied}
 use Rattle.scope.specs.Tasks.{tasksOf}
 use Rattle.scope.specs.Jobs.{jobsOf, job}
 use Rattle.scope.specs.Machine.{edf}
 use Rattle.scope.specs.Run.{ran}
 use Rattle.scope.specs.Answers.{Fault, Fault.fine, Fault.fault, _orElse_, tableFault, groupFault, jobListFault, jobFault, roomFault, runFault, runAnswer}
-use Rattle.theory.specs.Lists.{threes-length}
+use Rattle.theory.specs.Lists.{pieces-length}
 use Rattle.theory.specs.Answers.{LegalTable, runs}
 use Rattle.checker.proofs.FaultLaws.{or-assoc, given-by}
 use Rattle.machine.specs.Relation.{Tasks, Jobs}
@@ -40,8 +41,8 @@ module _ (b : Board) (ws ts : List ℕ) (n : ℕ) (js : List ℕ) (room : ℕ) w
 
   -- a run without a fault has all that it needs
   pub legal-run : runFault b ws ts n js room ≡ fine →
-      LegalTable b ws × Tasks (tasksOf ts) × Jobs (tasksOf ts) (jobsOf js) × (n ≤ 1100000) × (length (jobsOf js) ≤ room)
+      LegalTable b ws × Tasks (tasksOf ts) × Jobs (tasksOf ts) (jobsOf js) × (n ≤ mostTicks) × (length (jobsOf js) ≤ room)
   unfolding runAnswer
   legal-run e =
       let r = runs b ws ts n js room _ (sym (given-by (runFault b ws ts n js room) (ran (supplied b ws) (edf (tasksOf ts) (jobsOf js)) (tasksOf ts) (jobsOf js) n) e)) in
-      (r .table, tasks-of ts (r .group), jobs-of (tasksOf ts) n (jobsOf js) (r .jobs) (r .ticks) (omega (arith, threes-length job js, r .few)), r .ticks, r .roomy)
+      (r .table, tasks-of ts (r .group), jobs-of (tasksOf ts) n (jobsOf js) (r .jobs) (r .ticks) (omega (arith, pieces-length _ 3 job js, r .few)), r .ticks, r .roomy)

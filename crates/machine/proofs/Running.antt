@@ -9,6 +9,7 @@ use native.Mathlib.Omega.{arith}
 use native.Mathlib.Numerals.{add-one}
 use native.Mathlib.Decide.{decLt, le-ind}
 use lib.ListN.{length, getD}
+use Rattle.scope.specs.Limits.{mostTasks, mostJobs}
 use Rattle.scope.specs.Numbers.{greatest, first, listed, written}
 use Rattle.scope.specs.Tasks.{Task}
 use Rattle.scope.specs.Jobs.{Job, job, jobsOf, releaseOf, taskOf, deadline}
@@ -16,7 +17,7 @@ use Rattle.scope.specs.Machine.{edf, workLeft}
 use Rattle.scope.specs.Run.{Outcome, Outcome.met, Outcome.missed, late, judged, outcome, backlog, count, Ran, ran, counts}
 use Rattle.scope.specs.Answers.{Answer, Answer.given}
 use Rattle.theory.specs.Numbers.{true-fits, first-none}
-use Rattle.theory.specs.Lists.{threes-length}
+use Rattle.theory.specs.Lists.{pieces-length}
 use Rattle.theory.specs.Machine.{workLeft-before}
 use Rattle.machine.specs.declared.state.RunState.{RunState}
 use Rattle.machine.specs.Slots.{noJob, empty, arrivedOf, goesToOf, stepOf, tickOf, lateTo}
@@ -123,11 +124,11 @@ module _ (σ : ℕ → Bool) (ts : List Task) (js : List Job) (tasks : Tasks ts)
         (tick-ends ts js tasks legal σ k s (g .at) (g .ontime))
 
     -- the job that ended can be noted: it is released, for a job has all its work up to then
-    pub can-note : (jobs : List ℕ) → js ≡ jobsOf jobs → t .done < 4096 → Noting jobs (k + 1) (t .done) l
+    pub can-note : (jobs : List ℕ) → js ≡ jobsOf jobs → t .done < mostJobs → Noting jobs (k + 1) (t .done) l
     can-note jobs e h = elim (ends .this) [
       | inl q ↦ absurd (omega (arith, q))
       | inr q ↦ record {
-        known = omega (arith, q .0, ap length e, threes-length job jobs);
+        known = omega (arith, q .0, ap length e, pieces-length _ 3 job jobs);
         room = omega (arith, q .0, g .kept .same, cleared .same);
         past = rw (← e) (elim (decLt (k + 1) (releaseOf js (t .done))) [
           | yes z ↦ absurd (omega (arith, q .2, workLeft-before σ before js (k + 1) (t .done) (omega arith), legal .some (t .done) (q .0)))
@@ -137,7 +138,7 @@ module _ (σ : ℕ → Bool) (ts : List Task) (js : List Job) (tasks : Tasks ts)
     ]
 
     -- o is the buffer after the note, j the late job that is found
-    module _ (o : List ℕ) (wrote : o ≡ noted js (k + 1) (t .done) l) (j : ℕ) (found : j ≡ lateTo t (k + 1) 32) where
+    module _ (o : List ℕ) (wrote : o ≡ noted js (k + 1) (t .done) l) (j : ℕ) (found : j ≡ lateTo t (k + 1) mostTasks) where
       kept-next : Kept (count σ before js (k + 1)) (length js) d o
       kept-next = rw wrote (kept-noted σ before js k (t .done) d l (omega (arith, cleared .same)) (legal .few) ends (g .kept))
 
@@ -156,7 +157,7 @@ module _ (σ : ℕ → Bool) (ts : List Task) (js : List Job) (tasks : Tasks ts)
           (answers (missed (k + 1) j) (t .backlog) ≡ given (ran σ before ts js n)) × (o ≡ written (counts σ before ts js n) b)
       unfolding ran counts
       run-missed n a h =
-          let q : lateAt σ before ts js (k + 1) ≡ some (lateTo t (k + 1) 32) =
+          let q : lateAt σ before ts js (k + 1) ≡ some (lateTo t (k + 1) mostTasks) =
           one-late ts js tasks legal (workLeft σ before js (k + 1)) (k + 1) t (next .holds) (next .split) (omega (arith, found)) in
           let e : outcome σ before ts js n ≡ missed (k + 1) j =
           outcome-stays σ before ts js (k + 1) (k + 1) j n (outcome-next σ before ts js k (some j) (g .met) (q ∙ ap some (sym found))) a in

@@ -8,6 +8,7 @@ use native.Mathlib.Numerals.{add-one}
 use native.Mathlib.Decide.{ℕ-discrete}
 use lib.ListN.{length, getD}
 use borrow.Author.Tests.{eqb-true, eq-eqb}
+use Rattle.scope.specs.Limits.{mostTasks}
 use Rattle.scope.specs.Numbers.{bit, sum, greatest}
 use Rattle.scope.specs.Tasks.{Task}
 use Rattle.scope.specs.Jobs.{Job, taskOf}
@@ -38,7 +39,7 @@ module _ (ts : List Task) (js : List Job) (tasks : Tasks ts) (legal : Jobs ts js
     at-task j l q = let y = pending-held ts js k work s sp j l q in h .held j (y .0) (y .1)
 
     -- so task i has one pending job, or none
-    of-task : (i : ℕ) → i < 32 → (t : Bool) → mem (s .pending) i ≡ t → sum (λ j. at (taskOf js j) (bit (p j)) i) (length js) ≡ bit t
+    of-task : (i : ℕ) → i < mostTasks → (t : Bool) → mem (s .pending) i ≡ t → sum (λ j. at (taskOf js j) (bit (p j)) i) (length js) ≡ bit t
     of-task i l false e =
         sum-eq (λ j. at (taskOf js j) (bit (p j)) i) (λ j. 0) (length js)
         (λ j a. no-term (taskOf js j) i (p j) (λ g q. false≢true (sym e ∙ ap (mem (s .pending)) (sym g) ∙ at-task j a q .0)))
@@ -60,10 +61,10 @@ module _ (ts : List Task) (js : List Job) (tasks : Tasks ts) (legal : Jobs ts js
 
     pending-count : sum (λ j. bit (p j)) (length js) ≡ members (s .pending)
     pending-count =
-        sum-eq (λ j. bit (p j)) (λ j. sum (at (taskOf js j) (bit (p j))) 32) (length js)
-        (λ j a. sym (sum-at (taskOf js j) (bit (p j)) 32 (omega (arith, legal .known j a, tasks .few))))
-        ∙ sum-swap (λ j i. at (taskOf js j) (bit (p j)) i) (length js) 32
-        ∙ sum-eq (λ i. sum (λ j. at (taskOf js j) (bit (p j)) i) (length js)) (λ i. bit (mem (s .pending) i)) 32
+        sum-eq (λ j. bit (p j)) (λ j. sum (at (taskOf js j) (bit (p j))) mostTasks) (length js)
+        (λ j a. sym (sum-at (taskOf js j) (bit (p j)) mostTasks (omega (arith, legal .known j a, tasks .few))))
+        ∙ sum-swap (λ j i. at (taskOf js j) (bit (p j)) i) (length js) mostTasks
+        ∙ sum-eq (λ i. sum (λ j. at (taskOf js j) (bit (p j)) i) (length js)) (λ i. bit (mem (s .pending) i)) mostTasks
         (λ i l. of-task i l (mem (s .pending) i) refl)
 
   -- ---- the whole tick

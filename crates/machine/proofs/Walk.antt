@@ -5,6 +5,7 @@ use mathlib.Core.Bool.{true, false, true≢false}
 use mathlib.Core.List.{List}
 use native.Mathlib.Decide.{decLt, le-ind, ℕ-discrete}
 use native.Mathlib.Omega.{arith}
+use Rattle.scope.specs.Limits.{mostTasks}
 use Rattle.scope.specs.Numbers.{bit}
 use Rattle.theory.specs.Numbers.{sum-but}
 use Rattle.machine.specs.Bits.{mem, removed, members, betterOf, pickTo}
@@ -19,12 +20,12 @@ gone-more rest i low j l =
     ]
 
 -- the walk ends: the members left get fewer
-pub seen-fewer : (rest i : ℕ) → Lowest rest i → i < 32 → members (removed rest i) < members rest
+pub seen-fewer : (rest i : ℕ) → Lowest rest i → i < mostTasks → members (removed rest i) < members rest
 seen-fewer rest i low l =
     let e : bit (mem (removed rest i) i) + 1 ≡ bit (mem rest i) = rw (removed-same rest i, low .member) in
     omega (
       arith,
-      sum-but (λ j. bit (mem rest j)) (λ j. bit (mem (removed rest i) j)) 1 32 i l e
+      sum-but (λ j. bit (mem rest j)) (λ j. bit (mem (removed rest i) j)) 1 mostTasks i l e
           (λ j ne. ap bit (removed-other rest i j (λ q. ne (sym q)))),
     )
 
@@ -39,24 +40,24 @@ module _ (x : ℕ) (due : List ℕ) where
   -- the members of x below `upto` are seen, the others are left, and the best is the best of those seen
   pub record Seen (rest best : ℕ) : Type 0 where
     pub upto : ℕ
-    pub bound : upto ≤ 32
+    pub bound : upto ≤ mostTasks
     pub gone : (j : ℕ) → j < upto → mem rest j ≡ false
     pub left : (j : ℕ) → upto ≤ j → mem rest j ≡ mem x j
     pub is : best ≡ pickTo (mem x) due upto
 
-  pub seen-none : Seen x 32
+  pub seen-none : Seen x mostTasks
   unfolding pickTo
   seen-none = record { upto = 0; bound = omega arith; gone = λ j l. absurd (omega arith); left = λ j l. refl; is = refl }
 
-  pub seen-all : (rest best : ℕ) → rest ≡ 0 → Seen rest best → best ≡ pickTo (mem x) due 32
+  pub seen-all : (rest best : ℕ) → rest ≡ 0 → Seen rest best → best ≡ pickTo (mem x) due mostTasks
   seen-all rest best e s =
-      s .is ∙ sym (pick-skip (s .upto) 32 (s .bound) (λ j a b. sym (s .left j a) ∙ ap (λ (y : ℕ). mem y j) e ∙ mem-none j))
+      s .is ∙ sym (pick-skip (s .upto) mostTasks (s .bound) (λ j a b. sym (s .left j a) ∙ ap (λ (y : ℕ). mem y j) e ∙ mem-none j))
 
   -- a member that is left is not seen yet
   reached : (rest best i : ℕ) → mem rest i ≡ true → (s : Seen rest best) → s .upto ≤ i
   reached rest best i h s = elim (decLt i (s .upto)) [ yes a ↦ absurd (true≢false (sym h ∙ s .gone i a)) | no n ↦ omega arith ]
 
-  pub seen-more : (rest best i : ℕ) → Lowest rest i → i < 32 → Seen rest best → Seen (removed rest i) (betterOf due best i)
+  pub seen-more : (rest best i : ℕ) → Lowest rest i → i < mostTasks → Seen rest best → Seen (removed rest i) (betterOf due best i)
   unfolding pickTo
   seen-more rest best i low l s =
       let k : s .upto ≤ i = reached rest best i (low .member) s in

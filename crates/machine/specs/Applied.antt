@@ -4,7 +4,7 @@ use mathlib.Core.List.{List, [], _∷_}
 use Prim.Native.Nat.{ℕ, _≤_}
 use native.Mathlib.Omega.{arith}
 use lib.ListN.{getD}
-use Rattle.scope.specs.Numbers.{threes}
+use Rattle.scope.specs.Numbers.{piecesFrom, pieces}
 use Rattle.scope.specs.Windows.{supplied}
 use Rattle.scope.specs.Tasks.{tasksOf}
 use Rattle.scope.specs.Answers.{_orElse_, tableFault, groupFault, jobListFault, jobFault, roomFault, verdictAnswer, runFault, runAnswer, runOut}
@@ -33,7 +33,7 @@ let-in v p = verdict-determined v (Meets 8) (p ∙ w7-meets)
 met-in-time : (v : Verdict) → toldVerdict v ≡ verdictAnswer (boardOf board) X w7 → (r : Ran) (left : List ℕ) →
     toldRan r ≡ runAnswer (boardOf board) X w7 10 w13 3 → left ≡ runOut (boardOf board) X w7 10 w13 (9 ∷ 9 ∷ 9 ∷ []) →
     ((backlog : ℕ) × (r ≡ Met backlog)) × (getD left 1 0 ≤ 7)
-unfolding threes runAnswer runFault
+unfolding piecesFrom pieces runAnswer runFault
 met-in-time v p r left told kept =
     let fine-run = unless-given (runFault (boardOf board) X w7 10 w13 3) _ _ w13-runs .0 in
     let after-table = orElse-fine (tableFault (boardOf board) X) (groupFault w7 orElse jobListFault 10 w13 orElse jobFault w7 10 w13 orElse roomFault 2 3) fine-run .1 in

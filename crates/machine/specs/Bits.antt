@@ -1,10 +1,11 @@
--- A set of the numbers 0 to 31 as the bits of a number
+-- A set of tasks as the bits of a number
 use Prim.Native.Nat.{ℕ, zero, suc, _/_, _%_, _^_}
 use mathlib.Core.Bool.{Bool, cond}
 use lib.Bits.{bitAnd, bitOr, bitXor}
 use lib.Dec.{eqb, ltb}
 use lib.ListN.{getD}
 use mathlib.Core.List.{List}
+use Rattle.scope.specs.Limits.{mostTasks}
 use Rattle.scope.specs.Numbers.{bit, sum}
 
 -- the digit at i: 0 or 1
@@ -22,13 +23,17 @@ removed x i = bitXor x (bitAnd x (2 ^ i))
 
 -- how many members there are
 abbrev pub members : ℕ → ℕ
-members x = sum (λ i. bit (mem x i)) 32
+members x = sum (λ i. bit (mem x i)) mostTasks
 
--- the better of the best so far (32: none) and the candidate n: the one with the lesser due number, the best so far on a tie
+-- the number that stands for no task
+abbrev pub noTask : ℕ
+noTask = mostTasks
+
+-- the better of the best so far, which may be none, and the candidate n: the one with the lesser due number, the best so far on a tie
 unfoldable pub betterOf : List ℕ → ℕ → ℕ → ℕ
-betterOf due b n = cond (ltb b 32) (cond (ltb (getD due n 0) (getD due b 0)) n b) n
+betterOf due b n = cond (ltb b noTask) (cond (ltb (getD due n 0) (getD due b 0)) n b) n
 
 -- the best of the numbers below n that pass the test
 unfoldable pub pickTo : (ℕ → Bool) → List ℕ → ℕ → ℕ
-pickTo q due zero = 32
+pickTo q due zero = noTask
 pickTo q due (suc n) = cond (q n) (betterOf due (pickTo q due n) n) (pickTo q due n)

@@ -6,6 +6,7 @@ use mathlib.Core.List.{List}
 use Prim.Native.Nat.{ℕ, zero, suc, _+_, _-_, _*_, _≤_, _<_, max}
 use lib.Dec.{eqb, ltb}
 use lib.ListN.{length, getD, set}
+use Rattle.scope.specs.Limits.{mostTasks, mostTicks, mostJobs}
 use Rattle.scope.specs.Tasks.{Task, taskAt}
 use Rattle.scope.specs.Jobs.{Job, jobsOf, releaseOf, taskOf, workOf, deadline}
 use Rattle.scope.specs.Machine.{edf, workLeft}
@@ -18,16 +19,16 @@ use Rattle.machine.specs.Slots.{noJob}
 -- ---- legal lists, as facts
 
 pub record Tasks (ts : List Task) : Type 0 where
-  pub few : length ts ≤ 32
+  pub few : length ts ≤ mostTasks
   pub rules : TaskRules ts
   pub within : Within ts
 
 pub record Jobs (ts : List Task) (js : List Job) : Type 0 where
-  pub few : length js ≤ 4096
+  pub few : length js ≤ mostJobs
   pub known : (j : ℕ) → j < length js → taskOf js j < length ts
   pub some : (j : ℕ) → j < length js → 1 ≤ workOf js j
   pub most : (j : ℕ) → j < length js → workOf js j ≤ (taskAt ts (taskOf js j)) .C
-  pub small : (j : ℕ) → j < length js → releaseOf js j < 1100000
+  pub small : (j : ℕ) → j < length js → releaseOf js j < mostTicks
   pub rises : (i j : ℕ) → i ≤ j → j < length js → releaseOf js i ≤ releaseOf js j
   pub apart : (i j : ℕ) → i < j → j < length js → taskOf js i ≡ taskOf js j → releaseOf js i + (taskAt ts (taskOf js j)) .T ≤ releaseOf js j
 
@@ -38,8 +39,8 @@ freeAt ts js t (suc m) = let f = freeAt ts js t m in cond (eqb (taskOf js m) t) 
 
 -- `free` has the first free tick of each task, after the first j jobs
 pub record FreeTable (ts : List Task) (js : List Job) (j : ℕ) (free : List ℕ) : Type 0 where
-  pub size : length free ≡ 32
-  pub is : (x : ℕ) → x < 32 → getD free x 0 ≡ freeAt ts js x j
+  pub size : length free ≡ mostTasks
+  pub is : (x : ℕ) → x < mostTasks → getD free x 0 ≡ freeAt ts js x j
 
 -- ---- the relation
 
@@ -53,10 +54,10 @@ pub record SlotOf (ts : List Task) (js : List Job) (work : List ℕ) (next : ℕ
 
 -- each pending task shows its job, and each released job with work left stands at its task
 pub record HoldsOf (ts : List Task) (js : List Job) (work : List ℕ) (pending next : ℕ) (left due job : List ℕ) : Type 0 where
-  pub lefts : length left ≡ 32
-  pub dues : length due ≡ 32
-  pub jobs : length job ≡ 32
-  pub slot : (i : ℕ) → i < 32 → mem pending i ≡ true → SlotOf ts js work next left due job i
+  pub lefts : length left ≡ mostTasks
+  pub dues : length due ≡ mostTasks
+  pub jobs : length job ≡ mostTasks
+  pub slot : (i : ℕ) → i < mostTasks → mem pending i ≡ true → SlotOf ts js work next left due job i
   pub held : (j : ℕ) → j < next → 0 < getD work j 0 → (mem pending (taskOf js j) ≡ true) × (getD job (taskOf js j) 0 ≡ j)
 
 -- the state s shows the work left
@@ -79,7 +80,7 @@ pub record At (σ : ℕ → Bool) (ts : List Task) (js : List Job) (k : ℕ) (s 
 abbrev pub OnTime : (ℕ → Bool) → List Task → List Job → ℕ → Type 0
 OnTime σ ts js k = (j : ℕ) → j < length js → deadline ts js j ≤ k → getD (workLeft σ (edf ts js) js k) j 0 ≡ 0
 
--- between work and work′ job d ends, and no other; d is 4096 where none does
+-- between work and work′ job d ends, and no other; d is no job where none does
 pub record Ends (work work′ : List ℕ) (n d : ℕ) : Type 0 where
   pub other : (j : ℕ) → j < n → j ≢ d → 0 < getD work j 0 → 0 < getD work′ j 0
   pub this : (d ≡ noJob) ⊎ ((d < n) × (0 < getD work d 0) × (getD work′ d 0 ≡ 0))
@@ -97,7 +98,7 @@ zeros j = 0
 
 -- the count of the job that ended at instant k is written, if one did
 unfoldable pub noted : List Job → ℕ → ℕ → List ℕ → List ℕ
-noted js k j l = cond (ltb j 4096) (set l j (k - releaseOf js j)) l
+noted js k j l = cond (ltb j mostJobs) (set l j (k - releaseOf js j)) l
 
 -- job j of the list can be noted at instant k
 pub record Noting (jobs : List ℕ) (k j : ℕ) (l : List ℕ) : Type 0 where

@@ -4,18 +4,19 @@ use mathlib.Core.List.{List}
 use Prim.Native.Nat.{ℕ, zero, suc, _+_, _-_, max}
 use lib.Dec.{eqb, ltb, leb}
 use lib.ListN.{length, getD, set, replicate}
+use Rattle.scope.specs.Limits.{mostTasks, mostJobs}
 use Rattle.scope.specs.Tasks.{Task}
 use Rattle.scope.specs.Jobs.{Job, releaseOf, taskOf, workOf, deadline}
-use Rattle.machine.specs.Bits.{mem, added, removed, members, pickTo}
+use Rattle.machine.specs.Bits.{mem, added, removed, members, noTask, pickTo}
 use Rattle.machine.specs.declared.state.RunState.{RunState}
 
 -- the number that stands for no job
 abbrev pub noJob : ℕ
-noJob = 4096
+noJob = mostJobs
 
 -- the state before the first tick
 abbrev pub empty : RunState
-empty = record { pending = 0; next = 0; backlog = 0; done = noJob; left = replicate 32 0; due = replicate 32 0; job = replicate 32 0 }
+empty = record { pending = 0; next = 0; backlog = 0; done = noJob; left = replicate mostTasks 0; due = replicate mostTasks 0; job = replicate mostTasks 0 }
 
 -- job j of task i, with its work and its deadline, takes the task's place
 abbrev pub putOf : RunState → ℕ → ℕ → ℕ → ℕ → RunState
@@ -59,13 +60,13 @@ countedOf s = record {
 unfoldable pub arrivedOf : List Task → List Job → ℕ → RunState → RunState
 arrivedOf ts js k s = countedOf (releaseAt ts js k s)
 
--- earliest deadline first, ties to the lower task; 32 is none
+-- earliest deadline first, ties to the lower task; or none
 abbrev pub chosenTask : RunState → ℕ
-chosenTask s = pickTo (mem (s .pending)) (s .due) 32
+chosenTask s = pickTo (mem (s .pending)) (s .due) mostTasks
 
 -- the task that a tick goes to
 unfoldable pub goesToOf : Bool → RunState → ℕ
-goesToOf on s = cond on (chosenTask s) 32
+goesToOf on s = cond on (chosenTask s) noTask
 
 -- no work is done
 abbrev pub idleOf : RunState → RunState
@@ -88,7 +89,7 @@ workOn s i =
 
 -- the tick of work that task i gets, if there is such a task and work is left at it
 unfoldable pub stepOf : ℕ → RunState → RunState
-stepOf i s = cond (ltb i 32 && ltb 0 (getD (s .left) i 0)) (workOn s i) (idleOf s)
+stepOf i s = cond (ltb i noTask && ltb 0 (getD (s .left) i 0)) (workOn s i) (idleOf s)
 
 -- the whole of tick k
 unfoldable pub tickOf : (ℕ → Bool) → List Task → List Job → ℕ → RunState → RunState
@@ -98,7 +99,7 @@ tickOf σ ts js k s = stepOf (goesToOf (σ k) (arrivedOf ts js k s)) (arrivedOf 
 unfoldable pub lowerIn : ℕ → ℕ → ℕ → ℕ → ℕ → ℕ → ℕ
 lowerIn pending due j t i best = cond (mem pending i && leb due t && ltb j best) j best
 
--- the lowest job among the late ones of the tasks below n; 4096 is none
+-- the lowest job among the late ones of the tasks below n; or none
 unfoldable pub lateTo : RunState → ℕ → ℕ → ℕ
 lateTo s t zero = noJob
 lateTo s t (suc n) = lowerIn (s .pending) (getD (s .due) n 0) (getD (s .job) n 0) t n (lateTo s t n)

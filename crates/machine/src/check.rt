@@ -5,9 +5,12 @@ use crate::job::task_of;
 use crate::job::work_of;
 use checker::answer::Checked;
 use checker::answer::Refusal;
+use checker::list::bad_count;
+use checker::task::Task;
 ghost use mathlib.Core.Path.{_≡_};
 ghost use Prim.Native.Nat.{_+_, _*_, _<_, _≤_};
 ghost use lib.ListN.{length};
+ghost use Rattle.scope.specs.Limits.{mostTasks, mostTicks, mostJobs};
 ghost use Rattle.scope.specs.Tasks.{tasksOf};
 ghost use Rattle.scope.specs.Jobs.{jobsOf, inOrder, jobLegal};
 ghost use Rattle.scope.specs.Answers.{jobListFault, jobFault, runTicksAnswer};
@@ -46,22 +49,18 @@ impl Run {
 pub(crate) fn check_job_list(n: u32, jobs: &[u32]) -> Checked
     ensures { λ r. ⌜ faultOf r ≡ jobListFault n (now (jobs .entry)) ⌝ }
 {
-    let numbers = jobs.len();
-    if numbers % 3 != 0 {
+    if bad_count(jobs, 3, Run::JOBS) {
         return Checked::Bad(Refusal::JobList);
     }
-    if 3 * Run::JOBS < numbers {
-        return Checked::Bad(Refusal::JobList);
+    match Run::new(n) {
+        MadeRun::Is(_) => Checked::Fine,
+        MadeRun::Refused(r) => Checked::Bad(r),
     }
-    if Run::TICKS < n {
-        return Checked::Bad(Refusal::JobList);
-    }
-    Checked::Fine
 }
 
 // Whether job j comes after the one before it, by tick and then by task.
 fn in_order(jobs: &[u32], j: usize) -> bool
-    requires { ⌜ (3 * j + 2 < length (now jobs)) × (j < 4096) ⌝ }
+    requires { ⌜ (3 * j + 2 < length (now jobs)) × (j < mostJobs) ⌝ }
     ensures { λ r. ⌜ r ≡ inOrder (jobsOf (now (jobs .entry))) j ⌝ }
 {
     if j == 0 {
@@ -81,8 +80,8 @@ fn in_order(jobs: &[u32], j: usize) -> bool
 }
 
 // Whether job j keeps its rule; `free` has the first tick at which each task may be released again.
-fn job_legal(tasks: &[u32], n: u32, jobs: &[u32], j: usize, free: [u32; 32]) -> bool
-    requires { ⌜ (3 * j + 2 < length (now jobs)) × (j < 4096) × (length (tasksOf (now tasks)) ≤ 32)
+fn job_legal(tasks: &[u32], n: u32, jobs: &[u32], j: usize, free: [u32; Task::MOST]) -> bool
+    requires { ⌜ (3 * j + 2 < length (now jobs)) × (j < mostJobs) × (length (tasksOf (now tasks)) ≤ mostTasks)
         × FreeTable (tasksOf (now tasks)) (jobsOf (now jobs)) j free ⌝ }
     ensures { λ r. ⌜ r ≡ jobLegal (tasksOf (now (tasks .entry))) n (jobsOf (now (jobs .entry))) j ⌝ }
 {
@@ -110,11 +109,11 @@ fn job_legal(tasks: &[u32], n: u32, jobs: &[u32], j: usize, free: [u32; 32]) -> 
 
 // Refusal 11, at the lowest index.
 pub(crate) fn check_jobs(tasks: &[u32], n: u32, jobs: &[u32]) -> Checked
-    requires { ⌜ Tasks (tasksOf (now tasks)) × (length (now jobs) ≤ 12288) × (n ≤ 1100000) ⌝ }
+    requires { ⌜ Tasks (tasksOf (now tasks)) × (length (now jobs) ≤ 3 * mostJobs) × (n ≤ mostTicks) ⌝ }
     ensures { λ r. ⌜ faultOf r ≡ jobFault (now (tasks .entry)) n (now (jobs .entry)) ⌝ }
 {
     let m = jobs.len() / 3;
-    let mut free: [u32; 32] = [0; 32];
+    let mut free: [u32; Task::MOST] = [0; Task::MOST];
     let mut j = 0;
     while j < m {
         if !job_legal(tasks, n, jobs, j, free) {

@@ -2,6 +2,7 @@ use crate::state::RunState;
 ghost use mathlib.Core.Path.{_≡_};
 ghost use Prim.Native.Nat.{_+_, _*_, _<_, _≤_};
 ghost use lib.ListN.{length};
+ghost use Rattle.scope.specs.Limits.{mostTasks, mostJobs};
 ghost use Rattle.scope.specs.Tasks.{tasksOf, taskAt};
 ghost use Rattle.scope.specs.Jobs.{jobsOf, releaseOf, taskOf, workOf};
 ghost use Rattle.machine.specs.Slots.{nextOf, releaseAt};
@@ -9,21 +10,21 @@ ghost use Rattle.machine.specs.Relation.{Tasks, Jobs};
 
 // The parts of job j.
 pub(crate) fn release_of(jobs: &[u32], j: usize) -> u32
-    requires { ⌜ (3 * j + 2 < length (now jobs)) × (j < 4096) ⌝ }
+    requires { ⌜ (3 * j + 2 < length (now jobs)) × (j < mostJobs) ⌝ }
     ensures { λ r. ⌜ r ≡ releaseOf (jobsOf (now (jobs .entry))) j ⌝ }
 {
     jobs[3 * j]
 }
 
 pub(crate) fn task_of(jobs: &[u32], j: usize) -> u32
-    requires { ⌜ (3 * j + 2 < length (now jobs)) × (j < 4096) ⌝ }
+    requires { ⌜ (3 * j + 2 < length (now jobs)) × (j < mostJobs) ⌝ }
     ensures { λ r. ⌜ r ≡ taskOf (jobsOf (now (jobs .entry))) j ⌝ }
 {
     jobs[3 * j + 1]
 }
 
 pub(crate) fn work_of(jobs: &[u32], j: usize) -> u32
-    requires { ⌜ (3 * j + 2 < length (now jobs)) × (j < 4096) ⌝ }
+    requires { ⌜ (3 * j + 2 < length (now jobs)) × (j < mostJobs) ⌝ }
     ensures { λ r. ⌜ r ≡ workOf (jobsOf (now (jobs .entry))) j ⌝ }
 {
     jobs[3 * j + 2]
@@ -31,21 +32,21 @@ pub(crate) fn work_of(jobs: &[u32], j: usize) -> u32
 
 // The parts of task i.
 pub(crate) fn most_of(tasks: &[u32], i: usize) -> u32
-    requires { ⌜ (3 * i + 2 < length (now tasks)) × (i < 32) ⌝ }
+    requires { ⌜ (3 * i + 2 < length (now tasks)) × (i < mostTasks) ⌝ }
     ensures { λ r. ⌜ r ≡ (taskAt (tasksOf (now (tasks .entry))) i) .C ⌝ }
 {
     tasks[3 * i]
 }
 
 pub(crate) fn period_of(tasks: &[u32], i: usize) -> u32
-    requires { ⌜ (3 * i + 2 < length (now tasks)) × (i < 32) ⌝ }
+    requires { ⌜ (3 * i + 2 < length (now tasks)) × (i < mostTasks) ⌝ }
     ensures { λ r. ⌜ r ≡ (taskAt (tasksOf (now (tasks .entry))) i) .T ⌝ }
 {
     tasks[3 * i + 1]
 }
 
 pub(crate) fn within_of(tasks: &[u32], i: usize) -> u32
-    requires { ⌜ (3 * i + 2 < length (now tasks)) × (i < 32) ⌝ }
+    requires { ⌜ (3 * i + 2 < length (now tasks)) × (i < mostTasks) ⌝ }
     ensures { λ r. ⌜ r ≡ (taskAt (tasksOf (now (tasks .entry))) i) .D ⌝ }
 {
     tasks[3 * i + 2]

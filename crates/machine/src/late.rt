@@ -1,11 +1,12 @@
 use crate::state::RunState;
 ghost use mathlib.Core.Path.{_≡_};
 ghost use Prim.Native.Nat.{_<_};
+ghost use Rattle.scope.specs.Limits.{mostTasks};
 ghost use Rattle.machine.specs.Slots.{lowerIn, lateTo};
 
 // The lower of the lowest late job so far and task i's job j, where the task is pending and due at instant t or before.
 fn lower(pending: u32, due: u32, j: u32, t: u32, i: u32, best: u32) -> u32
-    requires { ⌜ i < 32 ⌝ }
+    requires { ⌜ i < mostTasks ⌝ }
     ensures { λ r. ⌜ r ≡ lowerIn pending due j t i best ⌝ }
 {
     if (pending >> i) % 2 != 1 {
@@ -20,16 +21,16 @@ fn lower(pending: u32, due: u32, j: u32, t: u32, i: u32, best: u32) -> u32
     j
 }
 
-// The lowest job among the late ones at instant t; 4096 if none is late.
+// The lowest job among the late ones at instant t; no job if none is late.
 pub(crate) fn late(s: RunState, t: u32) -> u32
-    ensures { λ r. ⌜ r ≡ lateTo s t 32 ⌝ }
+    ensures { λ r. ⌜ r ≡ lateTo s t mostTasks ⌝ }
 {
     let pending = s.pending;
     let due = s.due;
     let job = s.job;
-    let mut best: u32 = 4096;
+    let mut best: u32 = RunState::NO_JOB;
     let mut i: u32 = 0;
-    while i < 32 {
+    while i < RunState::NO_TASK {
         let x = i as usize;
         best = lower(pending, due[x], job[x], t, i, best);
         i += 1;

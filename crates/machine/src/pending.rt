@@ -1,7 +1,9 @@
-// The pending tasks, as a set of the numbers 0 to 31, one bit each.
+// The pending tasks, as a set of the numbers below the most tasks, one bit each.
+use crate::state::RunState;
 ghost use mathlib.Core.Path.{_≡_};
 ghost use Prim.Native.Nat.{_<_};
 ghost use lib.ListN.{length};
+ghost use Rattle.scope.specs.Limits.{mostTasks};
 ghost use Rattle.machine.specs.Bits.{added, removed, members, betterOf, pickTo, mem};
 
 pub(crate) struct Pending {
@@ -10,7 +12,7 @@ pub(crate) struct Pending {
 
 impl Pending {
     pub(crate) fn with(self, i: u32) -> Pending
-        requires { ⌜ i < 32 ⌝ }
+        requires { ⌜ i < mostTasks ⌝ }
         ensures { λ r. ⌜ r .bits ≡ added (self .bits) i ⌝ }
     {
         Pending {
@@ -19,7 +21,7 @@ impl Pending {
     }
 
     pub(crate) fn without(self, i: u32) -> Pending
-        requires { ⌜ i < 32 ⌝ }
+        requires { ⌜ i < mostTasks ⌝ }
         ensures { λ r. ⌜ r .bits ≡ removed (self .bits) i ⌝ }
     {
         let x = self.bits;
@@ -35,13 +37,13 @@ impl Pending {
         u32::count_ones(self.bits)
     }
 
-    // The member with the least due number, ties to the lower; 32 if there is none. The trailing zeros are the first index of what is left.
+    // The member with the least due number, ties to the lower; no task if there is none. The trailing zeros are the first index of what is left.
     pub(crate) fn earliest(self, due: &[u32]) -> u32
-        requires { ⌜ length (now due) ≡ 32 ⌝ }
-        ensures { λ r. ⌜ r ≡ pickTo (mem (self .bits)) (now (due .entry)) 32 ⌝ }
+        requires { ⌜ length (now due) ≡ mostTasks ⌝ }
+        ensures { λ r. ⌜ r ≡ pickTo (mem (self .bits)) (now (due .entry)) mostTasks ⌝ }
     {
         let mut rest = self.bits;
-        let mut best: u32 = 32;
+        let mut best: u32 = RunState::NO_TASK;
         while rest != 0 {
             let i = u32::trailing_zeros(rest);
             best = better(due, best, i);
@@ -51,12 +53,12 @@ impl Pending {
     }
 }
 
-// The better of the best so far (32: none) and the candidate n.
+// The better of the best so far, which may be no task, and the candidate n.
 fn better(due: &[u32], b: u32, n: u32) -> u32
-    requires { ⌜ (length (now due) ≡ 32) × (n < 32) ⌝ }
+    requires { ⌜ (length (now due) ≡ mostTasks) × (n < mostTasks) ⌝ }
     ensures { λ r. ⌜ r ≡ betterOf (now (due .entry)) b n ⌝ }
 {
-    if b < 32 {
+    if b < RunState::NO_TASK {
         let x = b as usize;
         let y = n as usize;
         if due[y] < due[x] { n } else { b }

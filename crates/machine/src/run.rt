@@ -15,6 +15,7 @@ ghost use mathlib.Core.Path.{_≡_};
 ghost use Prim.Native.Nat.{_+_, _*_, _<_, _≤_};
 ghost use lib.ListN.{length};
 ghost use Rattle.scope.specs.Numbers.{written};
+ghost use Rattle.scope.specs.Limits.{mostTicks, mostJobs};
 ghost use Rattle.scope.specs.Windows.{supplied as suppliedBy};
 ghost use Rattle.scope.specs.Tasks.{tasksOf};
 ghost use Rattle.scope.specs.Jobs.{jobsOf};
@@ -60,11 +61,11 @@ fn arrived(tasks: &[u32], jobs: &[u32], k: u32, s: RunState) -> RunState
     fed.counted()
 }
 
-// The task that a tick goes to: none, 32, if it is not supplied.
+// The task that a tick goes to: no task if it is not supplied.
 fn goes_to(on: bool, s: RunState) -> u32
     ensures { λ r. ⌜ r ≡ goesToOf on s ⌝ }
 {
-    if on { s.chosen() } else { 32 }
+    if on { s.chosen() } else { RunState::NO_TASK }
 }
 
 // The first m numbers of the buffer become 0.
@@ -79,12 +80,12 @@ fn clear(counts: &mut [u32], m: usize)
     }
 }
 
-// The count of job j, which ended at instant k, is written; 4096 is no job.
+// The count of job j, which ended at instant k, is written, if j is a job.
 fn note(jobs: &[u32], k: u32, j: u32, counts: &mut [u32])
-    requires { ⌜ (j < 4096 → Noting (now jobs) k j (now counts)) ⌝ }
+    requires { ⌜ (j < mostJobs → Noting (now jobs) k j (now counts)) ⌝ }
     ensures { λ _. ⌜ now (counts .exit) ≡ noted (jobsOf (now (jobs .entry))) k j (now (counts .entry)) ⌝ }
 {
-    if 4096 <= j {
+    if RunState::NO_JOB <= j {
         return;
     }
     let x = j as usize;
@@ -100,7 +101,7 @@ fn run_legal(
     jobs: &[u32],
     counts: &mut [u32],
 ) -> Ran
-    requires { ⌜ LegalTable (boardOf board) (now windows) × Tasks (tasksOf (now tasks)) × Jobs (tasksOf (now tasks)) (jobsOf (now jobs)) × (n ≤ 1100000)
+    requires { ⌜ LegalTable (boardOf board) (now windows) × Tasks (tasksOf (now tasks)) × Jobs (tasksOf (now tasks)) (jobsOf (now jobs)) × (n ≤ mostTicks)
         × (length (jobsOf (now jobs)) ≤ length (now counts)) ⌝ }
     ensures answer { λ r. ⌜ toldRan r ≡ given (ran (suppliedBy (boardOf board) (now (windows .entry)))
         (edf (tasksOf (now (tasks .entry))) (jobsOf (now (jobs .entry)))) (tasksOf (now (tasks .entry))) (jobsOf (now (jobs .entry))) n) ⌝ }
@@ -119,7 +120,7 @@ fn run_legal(
         k += 1;
         note(jobs, k, s.done, counts);
         let j = late(s, k);
-        if j < 4096 {
+        if j < RunState::NO_JOB {
             return Ran::Missed {
                 instant: k,
                 job: j,

@@ -1,21 +1,28 @@
+use crate::check::Run;
 use crate::pending::Pending;
+use checker::task::Task;
 ghost use mathlib.Core.Path.{_≡_};
 ghost use Prim.Native.Nat.{_+_, _<_};
+ghost use Rattle.scope.specs.Limits.{mostTasks, mostJobs};
 ghost use Rattle.machine.specs.Slots.{empty, putOf, countedOf, stepOf, chosenTask};
 
 // A run between two ticks. The jobs before `next` are released. Of a pending task i, its job, the work left of it and its deadline stand at i.
-// `done` is the job that ended in the last tick; 4096 is none.
+// `done` is the job that ended in the last tick, or no job.
 pub struct RunState {
     pub pending: u32,
     pub next: usize,
     pub backlog: u32,
     pub done: u32,
-    pub left: [u32; 32],
-    pub due: [u32; 32],
-    pub job: [u32; 32],
+    pub left: [u32; Task::MOST],
+    pub due: [u32; Task::MOST],
+    pub job: [u32; Task::MOST],
 }
 
 impl RunState {
+    // What stands for no job, and for no task: the first number that is none's.
+    pub const NO_JOB: u32 = Run::JOBS as u32;
+    pub const NO_TASK: u32 = Task::MOST as u32;
+
     // Before the first tick.
     pub fn new() -> RunState
         ensures { λ r. ⌜ r ≡ empty ⌝ }
@@ -24,16 +31,16 @@ impl RunState {
             pending: 0,
             next: 0,
             backlog: 0,
-            done: 4096,
-            left: [0; 32],
-            due: [0; 32],
-            job: [0; 32],
+            done: RunState::NO_JOB,
+            left: [0; Task::MOST],
+            due: [0; Task::MOST],
+            job: [0; Task::MOST],
         }
     }
 
     // The next job, j of task i, takes the task's place.
     pub(crate) fn put(self, i: u32, work: u32, due: u32, j: u32) -> RunState
-        requires { ⌜ (i < 32) × (self .next < 4096) ⌝ }
+        requires { ⌜ (i < mostTasks) × (self .next < mostJobs) ⌝ }
         ensures { λ r. ⌜ r ≡ putOf self i work due j ⌝ }
     {
         let x = i as usize;
@@ -61,7 +68,7 @@ impl RunState {
         s
     }
 
-    // Earliest deadline first, ties to the lower task; 32 if none is pending.
+    // Earliest deadline first, ties to the lower task; no task if none is pending.
     pub fn chosen(self) -> u32
         ensures { λ r. ⌜ r ≡ chosenTask self ⌝ }
     {
@@ -70,13 +77,13 @@ impl RunState {
         p.earliest(&due)
     }
 
-    // The job of task i gets one tick of work; 32 is no task.
+    // The job of task i gets one tick of work, if i is a task.
     pub fn step(self, i: u32) -> RunState
         ensures { λ r. ⌜ r ≡ stepOf i self ⌝ }
     {
         let mut s = self;
-        s.done = 4096;
-        if 32 <= i {
+        s.done = RunState::NO_JOB;
+        if RunState::NO_TASK <= i {
             return s;
         }
         let x = i as usize;

@@ -4,7 +4,7 @@ use mathlib.Core.List.{List, [], _∷_}
 use Prim.Native.Nat.{ℕ, _≤_}
 use native.Mathlib.Omega.{arith}
 use lib.ListN.{getD}
-use Rattle.scope.specs.Numbers.{threes, all, firstBy}
+use Rattle.scope.specs.Numbers.{piecesFrom, pieces, badCount, all, firstBy}
 use Rattle.scope.specs.Ticks.{leastSupply}
 use Rattle.scope.specs.Windows.{supplied}
 use Rattle.scope.specs.Tasks.{tasksOf, demand}
@@ -35,7 +35,7 @@ unfolding groups wellFormed readNumber readNumbers windowCountFault taskCountFau
 w7-read = refl
 
 w13-legal : (jobListFault 10 w13 orElse jobFault w7 10 w13 orElse roomFault 2 3) ≡ fine
-unfolding threes all firstBy jobLegal badJob jobListFault jobFault roomFault
+unfolding piecesFrom pieces badCount all firstBy jobLegal badJob jobListFault jobFault roomFault
 w13-legal = refl
 
 module _ (v : Verdict) (promised : toldVerdict v ≡ planAnswer w7-file) where
@@ -50,7 +50,7 @@ module _ (v : Verdict) (promised : toldVerdict v ≡ planAnswer w7-file) where
   met-in-time : (r : Ran) (left : List ℕ) →
       toldRan r ≡ runAnswer (on 8) X w7 10 w13 3 → left ≡ runOut (on 8) X w7 10 w13 (9 ∷ 9 ∷ 9 ∷ []) →
       ((backlog : ℕ) × (r ≡ Met backlog)) × (getD left 1 0 ≤ 7)
-  unfolding threes
+  unfolding piecesFrom pieces
   met-in-time r left told kept =
       let m = plan-runs w7-file w7-plan w7-read v promised 8 let-in 10 w13 (9 ∷ 9 ∷ 9 ∷ []) left r told kept w13-legal in
       (m .0, m .1 1 (omega arith) (omega arith) .1)

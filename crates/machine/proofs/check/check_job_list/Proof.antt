@@ -1,29 +1,51 @@
-use Rattle.machine.proofs.Legality.{not-threes, too-many, too-long, list-fine}
+use mathlib.Core.Path.{sym, ap, _∙_}
 use borrow.Author.Needs.{needs}
+use Rattle.scope.specs.Answers.{runTicksAnswer}
+use Rattle.checker.proofs.FaultLaws.{fault-of, none-of}
+use Rattle.machine.specs.Told.{toldRun}
+use Rattle.machine.proofs.Legality.{bad-list, good-list}
 use Rattle.machine.proofs.check.check_job_list.Statement.{statement}
 use Rattle.machine.proofs.check.check_job_list.Tie as tie
 use Rattle.machine.proofs.check.check_job_list.Reads as reads
 use Rattle.machine.proofs.check.check_job_list.Lts as lts
+use Rattle.checker.proofs.list.bad_count.Reads as bad-count-reads
+use Rattle.machine.proofs.check.Run.new.Reads as new-reads
 
--- src/check.rt:51:9
+-- src/check.rt:52:8
+bad-count-requires : tie.Need-bad-count-requires
+bad-count-requires c κs = search needs
+
+-- src/check.rt:53:9
 returns : tie.Need-returns
-returns c = not-threes _ _ (c .if1 .taken)
+returns c = bad-list _ _ (sym (c .before .bad-count .ensures) ∙ c .if1 .taken)
 
--- src/check.rt:53:8
-mul-if2 : tie.Need-mul-if2
-mul-if2 c = search needs
+-- src/check.rt:55:11
+new-requires : tie.Need-new-requires
+new-requires c κs = search needs
 
--- src/check.rt:54:9
+-- src/check.rt:56:27
+enum-told : tie.Need-enum-told
+enum-told c = search needs
+
+-- src/check.rt:57:26
+enum-known-r : tie.Need-enum-known-r
+enum-known-r c = search needs
+
+-- src/check.rt:49:1
 returns-2 : tie.Need-returns-2
-returns-2 c = too-many _ _ (c .if2 .taken)
+unfolding runTicksAnswer
+returns-2 c =
+    let x = c .before .before in
+    none-of _ _ _ (sym (ap toldRun (c .enum-told .given .1)) ∙ x .new .ensures) ∙ good-list _ _ (sym (x .before .before .bad-count .ensures) ∙ x .before .if1 .left)
 
--- src/check.rt:57:9
+-- src/check.rt:49:1
 returns-3 : tie.Need-returns-3
-returns-3 c = too-long _ _ (c .if3 .taken)
-
--- src/check.rt:46:1
-returns-4 : tie.Need-returns-4
-returns-4 c = list-fine _ _ (c .before .before .if1 .left) (c .before .if2 .left) (c .if3 .left)
+unfolding runTicksAnswer
+returns-3 c =
+    let x = c .before .before .before in
+    fault-of _ _ (sym (ap toldRun (c .before .r .given .1)) ∙ x .new .ensures) ∙ good-list _ _ (sym (x .before .before .bad-count .ensures) ∙ x .before .if1 .left)
 
 pub check-job-list-spec : {M : Type 1} → statement M
-check-job-list-spec = tie.close (tie.spec returns mul-if2 returns-2 returns-3 returns-4)
+check-job-list-spec =
+    tie.close
+    (tie.spec bad-count-requires returns new-requires enum-told enum-known-r returns-2 returns-3)

@@ -3,10 +3,11 @@ use mathlib.Core.Bool.{true}
 use Prim.Native.Nat.{ℕ, _+_, _*_, _-_, _≤_, _<_}
 use lib.ListN.{length}
 use borrow.Author.Tests.{not-true, not-false}
+use Rattle.scope.specs.Limits.{mostJobs}
 use Rattle.scope.specs.Tasks.{task, tasksOf, taskAt}
 use Rattle.scope.specs.Jobs.{job, jobsOf}
 use Rattle.theory.specs.Numbers.{below-suc}
-use Rattle.theory.specs.Lists.{threes-length}
+use Rattle.theory.specs.Lists.{pieces-length}
 use Rattle.theory.specs.Jobs.{JobRule, job-rule}
 use Rattle.machine.specs.Relation.{FreeTable}
 use Rattle.machine.proofs.Legality.{free-first, free-next, kept, job-bad, jobs-fine}
@@ -33,8 +34,8 @@ loop-holds : tie.Need-loop-holds Inv-loop μ-loop
 loop-holds c = (omega arith, free-first _ _, λ k l. absurd (omega arith))
 
 -- job j stands in the list
-readable : (c : tie.In-loop Inv-loop μ-loop) → (3 * c .before .loop .j + 2 < length (c .before .before .before .before .args .jobs .now)) × (c .before .loop .j < 4096)
-readable c = let a = c .before .before .before .before in omega (arith, threes-length job (a .args .jobs .now), a .pre .1)
+readable : (c : tie.In-loop Inv-loop μ-loop) → (3 * c .before .loop .j + 2 < length (c .before .before .before .before .args .jobs .now)) × (c .before .loop .j < mostJobs)
+readable c = let a = c .before .before .before .before in omega (arith, pieces-length _ 3 job (a .args .jobs .now), a .pre .1)
 
 -- src/check.rt:120:13
 job-legal-requires : tie.Need-job-legal-requires Inv-loop μ-loop
@@ -46,7 +47,7 @@ returns c =
     let a = c .before .before .before .before .before .before in
     let l = c .before .before .before .loop in
     let e = sym (c .before .job-legal .ensures) ∙ not-true _ (c .if1 .taken) in
-    job-bad _ _ _ (l .j) (omega (arith, threes-length job (a .args .jobs .now))) (l .inv .2) e
+    job-bad _ _ _ (l .j) (omega (arith, pieces-length _ 3 job (a .args .jobs .now))) (l .inv .2) e
 
 -- the test says that it keeps its rule
 good : (c : tie.Else1 Inv-loop μ-loop) → let a = c .before .before .before .before .before .before .args in
@@ -73,7 +74,7 @@ cast-x c = search needs
 period-of-requires : tie.Need-period-of-requires Inv-loop μ-loop
 period-of-requires c κs =
     let a = c .before .before .before .before .before .before .before .before in
-    omega (arith, threes-length task (a .args .tasks .now), a .pre .0 .few, rule (c .before .before) .known, c .task-of .ensures)
+    omega (arith, pieces-length _ 3 task (a .args .tasks .now), a .pre .0 .few, rule (c .before .before) .known, c .task-of .ensures)
 
 -- src/check.rt:126:19
 add-free : tie.Need-add-free Inv-loop μ-loop
@@ -100,7 +101,7 @@ add-j c = search needs
 
 -- src/check.rt:119:5
 loop-less : tie.Need-loop-less Inv-loop μ-loop
-loop-less c = let a = c .before .before .before .before .before .before .before .before .before in omega (arith, threes-length job (a .args .jobs .now))
+loop-less c = let a = c .before .before .before .before .before .before .before .before .before in omega (arith, pieces-length _ 3 job (a .args .jobs .now))
 
 -- src/check.rt:119:5
 loop-again : tie.Need-loop-again Inv-loop μ-loop
@@ -108,14 +109,14 @@ loop-again c =
     let a = c .before .before .before .before .before .before .before .before .before in
     let l = c .before .before .before .before .before .before .loop in
     let g = c .before .before .before in (
-      omega (arith, threes-length job (a .args .jobs .now)),
+      omega (arith, pieces-length _ 3 job (a .args .jobs .now)),
       free-next _ _ _ _ (rule g) _ (l .inv .1) (a .pre .0 .few) _ _ _ (c .before .task-of .ensures) (c .before .before .release-of .ensures) (c .period-of .ensures),
       λ k h. below-suc (λ k. kept _ _ _ k ≡ true) (l .j) (l .inv .2) (good g) k (omega arith),
     )
 
 -- src/check.rt:112:1
 returns-2 : tie.Need-returns-2 Inv-loop μ-loop
-returns-2 c = let a = c .before .before .before .before in jobs-fine _ _ _ (λ k h. c .before .loop .inv .2 k (omega (arith, threes-length job (a .args .jobs .now))))
+returns-2 c = let a = c .before .before .before .before in jobs-fine _ _ _ (λ k h. c .before .loop .inv .2 k (omega (arith, pieces-length _ 3 job (a .args .jobs .now))))
 
 pub check-jobs-spec : {M : Type 1} → statement M
 check-jobs-spec =

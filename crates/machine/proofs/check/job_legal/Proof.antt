@@ -3,9 +3,10 @@ use mathlib.Core.Bool.{true}
 use Prim.Native.Nat.{_≤_, _<_}
 use lib.ListN.{length}
 use borrow.Author.Tests.{not-true, not-false}
+use Rattle.scope.specs.Limits.{mostTasks}
 use Rattle.scope.specs.Tasks.{task, tasksOf, taskAt}
 use Rattle.scope.specs.Jobs.{jobsOf, inOrder}
-use Rattle.theory.specs.Lists.{threes-length}
+use Rattle.theory.specs.Lists.{pieces-length}
 use Rattle.machine.proofs.Legality.{Parts, bad-order, bad-task, bad-none, bad-most, bad-late, by-free}
 use borrow.Author.Needs.{needs}
 use native.Mathlib.Omega.{arith}
@@ -45,13 +46,13 @@ ordered c = sym (not-false _ (c .if1 .left)) ∙ c .before .in-order .ensures
 
 known : (c : tie.Else2) → let x = c .before .before .before .before in
     x .task-of .result < length (tasksOf (x .before .before .before .before .args .tasks .now))
-known c = let a = c .before .before .before .before .before .before .before .before in omega (arith, threes-length task (a .args .tasks .now), c .if2 .left)
+known c = let a = c .before .before .before .before .before .before .before .before in omega (arith, pieces-length _ 3 task (a .args .tasks .now), c .if2 .left)
 
 most : (c : tie.Else4) → let x = c .before .before .before .before .before .before in
     x .work-of .result ≤ (taskAt (tasksOf (x .before .before .before .before .before .args .tasks .now)) (x .before .task-of .result)) .C
 most c = omega (arith, c .before .most-of .ensures, c .if4 .left)
 
-low : (c : tie.Else5) → c .before .before .before .before .before .before .before .before .task-of .result < 32
+low : (c : tie.Else5) → c .before .before .before .before .before .before .before .before .task-of .result < mostTasks
 low c = omega (arith, known (c .before .before .before .before), c .before .before .before .before .before .before .before .before .before .before .before .before .pre .2)
 
 -- src/check.rt:93:9
@@ -66,7 +67,7 @@ cast-x c = search needs
 returns-2 : tie.Need-returns-2
 returns-2 c =
     let a = c .before .before .before .before .before .before .before .before in
-    bad-task _ _ _ _ (parts (c .before .before .before)) (ordered (c .before)) (omega (arith, threes-length task (a .args .tasks .now), c .if2 .taken))
+    bad-task _ _ _ _ (parts (c .before .before .before)) (ordered (c .before)) (omega (arith, pieces-length _ 3 task (a .args .tasks .now), c .if2 .taken))
 
 -- src/check.rt:100:9
 returns-3 : tie.Need-returns-3
@@ -76,7 +77,7 @@ returns-3 c = bad-none _ _ _ _ (parts (c .before .before .before .before)) (orde
 most-of-requires : tie.Need-most-of-requires
 most-of-requires c κs =
     let a = c .before .before .before .before .before .before .before .before .before in
-    omega (arith, known (c .before), threes-length task (a .args .tasks .now), a .pre .2)
+    omega (arith, known (c .before), pieces-length _ 3 task (a .args .tasks .now), a .pre .2)
 
 -- src/check.rt:103:9
 returns-4 : tie.Need-returns-4

@@ -1,6 +1,7 @@
 use mathlib.Core.Path.{_≡_, _∙_}
 use Prim.Native.Nat.{_+_, _*_, _^_, _<_}
 use lib.ListN.{length}
+use Rattle.scope.specs.Limits.{mostTasks, mostJobs}
 use Rattle.scope.specs.Tasks.{tasksOf}
 use Rattle.scope.specs.Jobs.{jobsOf, deadline}
 use Rattle.machine.proofs.Reading.{read-job, read-task, due-fits, due-is, next-is}
@@ -16,10 +17,10 @@ use Rattle.machine.proofs.job.work_of.Reads as work-of-reads
 use Rattle.machine.proofs.state.RunState.put.Reads as put-reads
 
 -- the job and its task stand in the lists
-job-there : (c : tie.Start) → let a = c .args in (3 * a .s .next + 2 < length (a .jobs .now)) × (a .s .next < 4096)
+job-there : (c : tie.Start) → let a = c .args in (3 * a .s .next + 2 < length (a .jobs .now)) × (a .s .next < mostJobs)
 job-there c = read-job (c .args .tasks .now) (c .args .jobs .now) (c .pre .0) (c .pre .1) (c .args .s .next) (c .pre .2)
 
-task-there : (c : tie.After-task-of) → (3 * c .task-of .result + 2 < length (c .before .before .before .before .args .tasks .now)) × (c .task-of .result < 32)
+task-there : (c : tie.After-task-of) → (3 * c .task-of .result + 2 < length (c .before .before .before .before .args .tasks .now)) × (c .task-of .result < mostTasks)
 task-there c =
     let a = c .before .before .before .before in
     read-task (a .args .tasks .now) (a .args .jobs .now) (a .pre .0) (a .pre .1) _ (a .pre .2) _ (c .task-of .ensures)

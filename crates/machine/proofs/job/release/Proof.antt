@@ -3,7 +3,7 @@ use Prim.Native.Nat.{_-_, _≤_, _<_}
 use lib.ListN.{length}
 use Rattle.scope.specs.Tasks.{tasksOf}
 use Rattle.scope.specs.Jobs.{job, jobsOf}
-use Rattle.theory.specs.Lists.{threes-length}
+use Rattle.theory.specs.Lists.{pieces-length}
 use Rattle.machine.specs.declared.state.RunState.{RunState}
 use Rattle.machine.specs.Slots.{releaseAt}
 use Rattle.machine.proofs.Reading.{read-job, release-yes, release-no, release-end}
@@ -27,7 +27,7 @@ loop-holds c = (c .before .before .pre .2, refl)
 
 -- the test says that a job is left
 more : (c : tie.Then1 Inv-loop μ-loop) → c .before .before .loop .t .next < length (jobsOf (c .before .before .before .before .before .args .jobs .now))
-more c = let a = c .before .before .before .before .before in omega (arith, threes-length job (a .args .jobs .now), c .if1 .taken)
+more c = let a = c .before .before .before .before .before in omega (arith, pieces-length _ 3 job (a .args .jobs .now), c .if1 .taken)
 
 -- src/job.rt:75:12
 release-of-requires : tie.Need-release-of-requires Inv-loop μ-loop
@@ -69,7 +69,7 @@ returns-2 : tie.Need-returns-2 Inv-loop μ-loop
 returns-2 c =
     let a = c .before .before .before .before .before .args in
     let l = c .before .before .loop in
-    let e = threes-length job (a .jobs .now) in
+    let e = pieces-length _ 3 job (a .jobs .now) in
     release-end (tasksOf (a .tasks .now)) (jobsOf (a .jobs .now)) (l .t) (a .k) (omega (arith, e, c .if1 .left)) ∙ sym (l .inv .1)
 
 pub release-spec : {M : Type 1} → statement M

@@ -1,5 +1,6 @@
 use mathlib.Core.Path.{_≡_, refl, sym, ap, _∙_}
 use Prim.Native.Nat.{_-_, _≤_}
+use Rattle.scope.specs.Limits.{mostTasks}
 use Rattle.machine.specs.Slots.{lowerIn, lateTo}
 use Rattle.machine.proofs.Lowest.{seen, late-next, late-seen}
 use borrow.Author.Needs.{needs}
@@ -11,10 +12,10 @@ use Rattle.machine.proofs.late.late.Lts as lts
 use Rattle.machine.proofs.late.lower.Reads as lower-reads
 
 abbrev Inv-loop : tie.InvT-loop
-Inv-loop t pending due job best₀ i₀ best i = (i ≤ 32) × (best ≡ lateTo (seen pending due job) t i)
+Inv-loop t pending due job best₀ i₀ best i = (i ≤ mostTasks) × (best ≡ lateTo (seen pending due job) t i)
 
 abbrev μ-loop : tie.MeasureT-loop
-μ-loop t pending due job best₀ i₀ best i = 32 - i
+μ-loop t pending due job best₀ i₀ best i = mostTasks - i
 
 -- src/late.rt:32:5
 loop-holds : tie.Need-loop-holds Inv-loop μ-loop
@@ -59,7 +60,7 @@ loop-again c = (omega arith, c .lower .ensures ∙ ap (lowerIn _ _ _ _ _) (c .be
 
 -- src/late.rt:24:1
 returns : tie.Need-returns Inv-loop μ-loop
-returns c = let e : c .before .loop .i ≡ 32 = omega arith in c .before .loop .inv .1 ∙ ap (lateTo (seen _ _ _) _) e ∙ late-seen _ _ _
+returns c = let e : c .before .loop .i ≡ mostTasks = omega arith in c .before .loop .inv .1 ∙ ap (lateTo (seen _ _ _) _) e ∙ late-seen _ _ _
 
 pub late-spec : {M : Type 1} → statement M
 late-spec =

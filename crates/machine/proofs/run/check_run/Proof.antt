@@ -1,7 +1,7 @@
 use mathlib.Core.Path.{refl, sym, ap, _∙_, _≡_}
 use Rattle.scope.specs.Jobs.{job}
 use Rattle.scope.specs.Answers.{Fault.fine, Fault.fault, _orElse_, tableFault, groupFault, jobListFault, jobFault}
-use Rattle.theory.specs.Lists.{threes-length}
+use Rattle.theory.specs.Lists.{pieces-length}
 use Rattle.theory.specs.Answers.{checked-legal, job-list-legal}
 use Rattle.checker.specs.Told.{boardOf, faultOf}
 use Rattle.machine.proofs.Reading.{tasks-of}
@@ -73,7 +73,7 @@ enum-told-3 c = search needs
 returns : tie.Need-returns
 returns c =
     let a = c .before .before .before .before .before .before .before .before .before .before .before .before .before .args in
-    let e = threes-length job (a .jobs .now) in
+    let e = pieces-length _ 3 job (a .jobs .now) in
     let d = c .before in
     in-turn _ _ _ _ _ _ fine fine fine _ (sym (group-fine (d .before .before .before .before .before .before))) (sym (list-fine (d .before .before .before))) (sym (jobs-fine d))
     (ap (fault 8) (sym e) ∙ no-room _ _ (omega (arith, e, c .if1 .taken)))
@@ -96,7 +96,7 @@ returns-4 c =
 returns-5 : tie.Need-returns-5
 returns-5 c =
     let a = c .before .before .before .before .before .before .before .before .before .before .before .before .before .args in
-    let e = threes-length job (a .jobs .now) in
+    let e = pieces-length _ 3 job (a .jobs .now) in
     let d = c .before in
     in-turn _ _ _ _ _ _ fine fine fine fine (sym (group-fine (d .before .before .before .before .before .before))) (sym (list-fine (d .before .before .before))) (sym (jobs-fine d))
     (has-room _ _ (omega (arith, e, c .if1 .left)))

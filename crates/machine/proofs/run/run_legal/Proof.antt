@@ -1,6 +1,6 @@
 use mathlib.Core.Path.{refl, _≡_}
 use Rattle.scope.specs.Jobs.{job, jobsOf}
-use Rattle.theory.specs.Lists.{threes-length}
+use Rattle.theory.specs.Lists.{pieces-length}
 use Rattle.machine.specs.Slots.{tickOf}
 use Rattle.machine.specs.Relation.{Tasks, Jobs, Kept, zeros}
 use Rattle.scope.specs.Windows.{supplied}
@@ -40,7 +40,7 @@ begun : (c : tie.After-new Inv-loop μ-loop) → let a = c .before .before .befo
 begun c =
     let a = c .before .before .before .before .before .before .before .before .before .args in
     let p = c .before .before .before .before .before .before .before .before .before .pre in
-    (p .1, p .2, p .4, rw (threes-length job (a .jobs .now)) (c .before .before .before .clear .ensures))
+    (p .1, p .2, p .4, rw (pieces-length _ 3 job (a .jobs .now)) (c .before .before .before .clear .ensures))
 
 -- a turn of the loop is a tick
 tick-is : (c : tie.After-advance Inv-loop μ-loop) → let a = c .before .before .before .before .before .before .before .before .before .before .before .before .before .before .before .args in let l = c .before .before .before .before .before .loop in
@@ -50,7 +50,7 @@ tick-is c =
 
 -- src/run.rt:111:5
 clear-requires : tie.Need-clear-requires Inv-loop μ-loop
-clear-requires c κs = let a = c .before .before .before .before .before .args in omega (arith, threes-length job (a .jobs .now), c .before .before .before .before .before .pre .4)
+clear-requires c κs = let a = c .before .before .before .before .before .args in omega (arith, pieces-length _ 3 job (a .jobs .now), c .before .before .before .before .before .pre .4)
 
 -- src/run.rt:112:9
 new-requires : tie.Need-new-requires Inv-loop μ-loop

@@ -3,6 +3,7 @@ use native.Mathlib.Omega.{arith}
 use native.Mathlib.Nat.{lt-of-le-of-lt, pos-of-ne-zero}
 use lib.Bits.{xor-lt, and-le-l}
 use lib.Count.{trailingZeros}
+use Rattle.scope.specs.Limits.{mostTasks}
 use Rattle.machine.specs.Bits.{members, removed}
 use Rattle.machine.proofs.Digits.{one-shl}
 use Rattle.machine.proofs.Sets.{Lowest, trailing-lowest}
@@ -25,7 +26,7 @@ loop-holds c = (omega arith, seen-none _ _)
 
 -- the candidate is the lowest of what is left
 low : (c : tie.In-loop Inv-loop μ-loop) →
-    (trailingZeros 32 (c .before .loop .rest) < 32) × Lowest (c .before .loop .rest) (trailingZeros 32 (c .before .loop .rest))
+    (trailingZeros 32 (c .before .loop .rest) < mostTasks) × Lowest (c .before .loop .rest) (trailingZeros 32 (c .before .loop .rest))
 low c = trailing-lowest 32 _ (c .before .loop .inv .0) (pos-of-ne-zero (c .loop-test .taken))
 
 -- src/pending.rt:47:13
