@@ -1,14 +1,12 @@
 -- The checks of a plan that is to be written: the two lists, then the room for its bytes
 use mathlib.Core.Path.{_≡_, sym, _∙_}
-use Prim.Native.Nat.{ℕ, _≤_}
-use native.Mathlib.Decide.{decLt}
-use native.Mathlib.Omega.{arith}
+use Prim.Native.Nat.{ℕ, _*_, _≤_}
 use lib.ListN.{length}
+use Rattle.scope.specs.Limits.{mostWindows, mostTasks}
 use Rattle.scope.specs.Answers.{Fault, Fault.fine, Fault.fault, _orElse_, windowListFault, taskListFault, roomFault}
 use Rattle.scope.specs.Plan.{Plan, planBytes, writeFault}
-use Rattle.theory.specs.Answers.{fault-not-fine, orElse-fine, window-list-legal}
+use Rattle.theory.specs.Answers.{orElse-fine, window-list-legal, task-list-legal}
 use Rattle.checker.proofs.FaultLaws.{or-assoc, or-fault, or-fine}
-use Rattle.checker.proofs.TaskLaws.{too-many}
 
 abbrev pub listsFault : Plan → Fault
 listsFault p = windowListFault (p .windows) orElse taskListFault (p .tasks)
@@ -22,10 +20,10 @@ module _ (p : Plan) (room : ℕ) where
   unfolding writeFault
   lists-fine e = sym (or-assoc (windowListFault (p .windows)) (taskListFault (p .tasks)) _) ∙ or-fine (listsFault p) _ e
 
--- lists that pass have at most 64 windows and 32 tasks
-pub lists-short : (p : Plan) → listsFault p ≡ fine → (length (p .windows) ≤ 128) × (length (p .tasks) ≤ 96)
+-- lists that pass have no more windows and tasks than a plan can
+pub lists-short : (p : Plan) → listsFault p ≡ fine → (length (p .windows) ≤ 2 * mostWindows) × (length (p .tasks) ≤ 3 * mostTasks)
 lists-short p e =
     let f = orElse-fine (windowListFault (p .windows)) (taskListFault (p .tasks)) e in (
       window-list-legal (p .windows) (f .0) .2,
-      elim (decLt 96 (length (p .tasks))) [ yes l ↦ absurd (fault-not-fine (too-many (p .tasks) l ∙ f .1)) | no l ↦ omega arith ],
+      task-list-legal (p .tasks) (f .1) .1,
     )
