@@ -13,12 +13,12 @@ use lib.ListN.{length, getD, set, drop, length-set, List·getD-append}
 use lib.Seq.{getD-set-same, getD-set-other, getD-append-add, getD-drop, ext-getD}
 use borrow.Author.Tests.{lt-ltb, le-ltb, eq-eqb, ne-eqb}
 use Rattle.scope.specs.Limits.{mostJobs}
-use Rattle.scope.specs.Numbers.{sooner, firstBy, first, listed, written}
+use Rattle.scope.specs.Numbers.{sooner, firstBy, IsFirst, first, listed, written}
 use Rattle.scope.specs.Jobs.{Job, releaseOf, workOf}
 use Rattle.scope.specs.Machine.{workLeft}
-use Rattle.scope.specs.Run.{doneAt, since, count}
-use Rattle.theory.specs.Numbers.{By, IsFirst, least-is, none-first, some-first}
-use Rattle.theory.specs.Machine.{workLeft-first, serves}
+use Rattle.scope.specs.Run.{doneAt, since, countOf, count}
+use Rattle.theory.specs.Numbers.{least-is, none-first, some-first}
+use Rattle.theory.specs.Machine.{workLeft-first, workLeft-falls}
 use Rattle.theory.specs.Run.{listed-length, listed-at}
 use Rattle.theory.specs.Buffers.{length-written}
 use Rattle.machine.specs.Slots.{noJob}
@@ -48,37 +48,34 @@ module _ (σ : ℕ → Bool) (before : ℕ → ℕ → Bool) (js : List Job) whe
 
   -- work left never grows
   falls : (j : ℕ) → j < length js → (x k : ℕ) → x ≤ k → left k j ≤ left x j
-  falls j l x k h = le-ind (λ (m : ℕ). left m j ≤ left x j) (omega arith) (λ m a ih. omega (arith, serves σ before js (λ i. 0) any 0 .falls m j l)) k h
-    where
-      any : By before (λ i. 0)
-      any = record { ahead = λ a b q. omega arith; behind = λ a b q. omega arith }
+  falls j l x k h = le-ind (λ (m : ℕ). left m j ≤ left x j) (omega arith) (λ m a ih. omega (arith, workLeft-falls σ before js m j l)) k h
 
   -- before the first tick none is counted
   pub count-first : (j : ℕ) → 1 ≤ workOf js j → count σ before js 0 j ≡ 0
-  unfolding count
+  unfolding countOf
   count-first j w =
-      ap (since (releaseOf js j)) (none-first (doneAt σ before js j) 1 (λ x a.
+      ap (since (releaseOf js j)) (none-first (doneAt (workLeft σ before js) j) 1 (λ x a.
       let z : x ≡ 0 = omega arith in
       ne-eqb (left x j) 0 (λ e. absurd (omega (arith, workLeft-first σ before js j, ap (λ (y : ℕ). left y j) z)))))
 
   -- a job that goes on, or had ended before, keeps its count
   count-goes : (k j : ℕ) → 0 < left (k + 1) j → count σ before js (k + 1) j ≡ count σ before js k j
-  unfolding count
+  unfolding countOf
   count-goes k j h =
       rw (add-one k)
-      (ap (since (releaseOf js j)) (first-skip (doneAt σ before js j) (suc k) (ne-eqb (left (suc k) j) 0 (λ e. absurd (omega (arith, rw (add-one k) at h))))))
+      (ap (since (releaseOf js j)) (first-skip (doneAt (workLeft σ before js) j) (suc k) (ne-eqb (left (suc k) j) 0 (λ e. absurd (omega (arith, rw (add-one k) at h))))))
 
   count-ended : (k j : ℕ) → left k j ≡ 0 → count σ before js (k + 1) j ≡ count σ before js k j
-  unfolding count
+  unfolding countOf
   count-ended k j h =
-      rw (add-one k) (ap (since (releaseOf js j)) (first-stays (doneAt σ before js j) (suc k) k (omega arith) (eq-eqb (left k j) 0 h)))
+      rw (add-one k) (ap (since (releaseOf js j)) (first-stays (doneAt (workLeft σ before js) j) (suc k) k (omega arith) (eq-eqb (left k j) 0 h)))
 
   -- a job that ends in tick k
   count-ends : (k j : ℕ) → j < length js → 0 < left k j → left (k + 1) j ≡ 0 → count σ before js (k + 1) j ≡ k + 1 - releaseOf js j
-  unfolding count
+  unfolding countOf
   count-ends k j l h e =
       rw (add-one k)
-      (ap (since (releaseOf js j)) (some-first (doneAt σ before js j) (suc (suc k)) (suc k) (omega arith) (eq-eqb (left (suc k) j) 0 (rw (add-one k) at e))
+      (ap (since (releaseOf js j)) (some-first (doneAt (workLeft σ before js) j) (suc (suc k)) (suc k) (omega arith) (eq-eqb (left (suc k) j) 0 (rw (add-one k) at e))
       (λ x a. ne-eqb (left x j) 0 (λ q. absurd (omega (arith, falls j l x k (omega arith)))))))
 
   -- noting the job that ended in tick k makes the counts of instant k those of k + 1

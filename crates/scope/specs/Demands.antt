@@ -1,17 +1,18 @@
 -- The words of the three demands that document 01's amounts do not have: 001's finer starts and greatest demand, the miss that is shown,
--- and every way of giving out supplied ticks.
+-- every run under earliest deadline first, and every way of giving out supplied ticks.
 use Prim.Native.Nat.{ℕ, zero, suc, _+_, _-_, _*_, _%_, _≤_, _<_}
 use mathlib.Core.Path.{_≡_}
-use mathlib.Core.Bool.{Bool, false, cond, _&&_}
+use mathlib.Core.Bool.{Bool, true, false, cond, _&&_}
 use mathlib.Core.Option.{Option, none, some}
 use mathlib.Core.List.{List, [], _∷_, _++_, map}
 use lib.Dec.{leb, eqb}
 use lib.ListN.{length}
-use Rattle.scope.specs.Numbers.{sum, when}
+use Rattle.scope.specs.Numbers.{sum, when, IsFirst}
 use Rattle.scope.specs.Ticks.{supply, leastSupply}
 use Rattle.scope.specs.Windows.{Board}
 use Rattle.scope.specs.Tasks.{Task, taskAt, demand}
 use Rattle.scope.specs.Jobs.{Job, job, releaseOf, workOf, deadline}
+use Rattle.scope.specs.Machine.{pending, worked}
 
 -- ---- 001's definitions
 
@@ -47,6 +48,16 @@ pub record LeastMiss (σ : ℕ → Bool) (P : ℕ) (ts : List Task) (t s d p : �
   pub leastLength : (u : ℕ) → u < t → demand ts u ≤ leastSupply σ P u
   pub holds : supply σ s t ≡ p
   pub leastStart : (r : ℕ) → r < s → p < supply σ r t
+
+-- ---- every run under a rule that goes first by a number
+
+-- left k is the work left of each job at instant k of a run in which each supplied tick goes to some pending job of the least m, if any is pending:
+-- under earliest deadline first m is the deadline. Which of several such jobs is free, and may be another rule's choice at every tick
+pub record Under (σ : ℕ → Bool) (js : List Job) (m : ℕ → ℕ) (left : ℕ → List ℕ) : Type 0 where
+  pub goes : ℕ → Option ℕ
+  pub start : left 0 ≡ map (λ x. x .work) js
+  pub next : (k : ℕ) → left (suc k) ≡ cond (σ k) (worked (goes k) (left k)) (left k)
+  pub first : (k : ℕ) → σ k ≡ true → IsFirst (pending js k (left k)) m (length js) (goes k)
 
 -- ---- every way of giving out supplied ticks
 

@@ -14,7 +14,7 @@ use Rattle.scope.specs.Verdict.{Verdict, Verdict.meets, Verdict.miss, vi
 use Rattle.scope.specs.Bound.{Bound, Bound.bound, asked, suffices, response}
 use Rattle.scope.specs.Jobs.{jobLegal, badJob}
 use Rattle.scope.specs.Machine.{pending, tick, workLeft}
-use Rattle.scope.specs.Run.{Outcome.met, Ran, late, outcome, backlogIn, backlog, count, ran, counts}
+use Rattle.scope.specs.Run.{Outcome.met, Ran, late, outcome, backlogIn, backlog, countOf, ran, counts}
 use Rattle.scope.specs.Answers.{Answer, Answer.given, Delay, windowListFault, frameFault, windowFault, taskListFault, taskFault, cycleFault, lengthFault, absentFault, roomFault, jobListFault, jobFault, tableFault, groupFault, leastSupplyAnswer, criticalFault, criticalAnswer, criticalOut, delayAnswer, marginAnswer, verdictAnswer, boundAnswer, runFault, runAnswer, runOut}
 use Rattle.scope.specs.Plan.{groups, wellFormed, readNumber, readNumbers, windowCountFault, taskCountFault, restFault, tasksFrom, windowsFrom, planOf, planAnswer}
 use Rattle.scope.specs.Line.{bytes, decimalWithin, decimal, line}
@@ -111,6 +111,6 @@ Hold [] = Unit {0}
 Hold (e ∷ rows) = (reply (e .question) ≡ e .expected) × Hold rows
 
 pub examples : Hold table
-unfolding reply table sum least greatest all firstBy listed keep piecesFrom pieces badCount written supply leastSupply leastStart inWindow covers supplied windowLegal badWindow rises within edge runs critical lag delay taskLegal badTask taskDemand demand margin gcdWithin gcd lcm cycle violates verdict asked suffices response jobLegal badJob pending tick workLeft late outcome backlogIn backlog count ran counts windowListFault frameFault windowFault taskListFault taskFault cycleFault lengthFault absentFault roomFault jobListFault jobFault tableFault groupFault leastSupplyAnswer criticalFault criticalAnswer criticalOut delayAnswer marginAnswer verdictAnswer boundAnswer runFault runAnswer runOut groups wellFormed readNumber readNumbers windowCountFault taskCountFault restFault tasksFrom windowsFrom planOf planAnswer decimalWithin decimal line
+unfolding reply table sum least greatest all firstBy listed keep piecesFrom pieces badCount written supply leastSupply leastStart inWindow covers supplied windowLegal badWindow rises within edge runs critical lag delay taskLegal badTask taskDemand demand margin gcdWithin gcd lcm cycle violates verdict asked suffices response jobLegal badJob pending tick workLeft late outcome backlogIn backlog countOf ran counts windowListFault frameFault windowFault taskListFault taskFault cycleFault lengthFault absentFault roomFault jobListFault jobFault tableFault groupFault leastSupplyAnswer criticalFault criticalAnswer criticalOut delayAnswer marginAnswer verdictAnswer boundAnswer runFault runAnswer runOut groups wellFormed readNumber readNumbers windowCountFault taskCountFault restFault tasksFrom windowsFrom planOf planAnswer decimalWithin decimal line
 examples =
     (refl, (refl, (refl, (refl, (refl, (refl, (refl, (refl, (refl, (refl, (refl, (refl, (refl, (refl, (refl, tt)))))))))))))))

@@ -1,6 +1,7 @@
 -- How document 01 picks and collects numbers: sums, the least, the greatest, the first that passes a test; lists made of them.
 -- Each grows at its end, as a loop does.
-use Prim.Native.Nat.{ℕ, zero, suc, _+_, _/_, _%_, min, max}
+use Prim.Native.Nat.{ℕ, zero, suc, _+_, _/_, _%_, _≤_, _<_, min, max}
+use mathlib.Core.Path.{_≡_}
 use mathlib.Core.Bool.{Bool, true, false, not, cond, _&&_, _||_}
 use mathlib.Core.Option.{Option, none, some}
 use mathlib.Core.List.{List, [], _∷_, _++_}
@@ -45,6 +46,11 @@ sooner before n (some c) = cond (before n c) (some n) (some c)
 unfoldable pub firstBy : (ℕ → ℕ → Bool) → (ℕ → Bool) → ℕ → Option ℕ
 firstBy before p zero = none
 firstBy before p (suc n) = cond (p n) (sooner before n (firstBy before p n)) (firstBy before p n)
+
+-- none of the numbers below n passes the test; or c does, and has the least m of those that do
+abbrev pub IsFirst : (ℕ → Bool) → (ℕ → ℕ) → ℕ → Option ℕ → Type 0
+IsFirst p m n none = (j : ℕ) → j < n → p j ≡ true → ⊥
+IsFirst p m n (some c) = (c < n) × (p c ≡ true) × ((j : ℕ) → j < n → p j ≡ true → m c ≤ m j)
 
 -- the least of 0, 1, .., n − 1 that passes a test
 abbrev pub first : (ℕ → Bool) → ℕ → Option ℕ

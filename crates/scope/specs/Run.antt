@@ -47,18 +47,21 @@ backlogIn σ before js k = sum (λ j. bit (pending js k (workLeft σ before js k
 unfoldable pub backlog : (ℕ → Bool) → (ℕ → ℕ → Bool) → List Job → ℕ → ℕ
 backlog σ before js n = greatest (backlogIn σ before js) n
 
--- job j has no work left at instant k
-abbrev pub doneAt : (ℕ → Bool) → (ℕ → ℕ → Bool) → List Job → ℕ → ℕ → Bool
-doneAt σ before js j k = eqb (getD (workLeft σ before js k) j 0) 0
+-- job j has no work left at instant k, where left k is the work left of each job
+abbrev pub doneAt : (ℕ → List ℕ) → ℕ → ℕ → Bool
+doneAt left j k = eqb (getD (left k) j 0) 0
 
 -- the instant of completion less the release; 0 for a job that is unfinished
 abbrev pub since : ℕ → Option ℕ → ℕ
 since r none = 0
 since r (some k) = k - r
 
--- the count of job j in a run that ends at instant n
-unfoldable pub count : (ℕ → Bool) → (ℕ → ℕ → Bool) → List Job → ℕ → ℕ → ℕ
-count σ before js n j = since (releaseOf js j) (first (doneAt σ before js j) (suc n))
+-- the count of job j in any run that ends at instant n, and in the machine's
+unfoldable pub countOf : (ℕ → List ℕ) → List Job → ℕ → ℕ → ℕ
+countOf left js n j = since (releaseOf js j) (first (doneAt left j) (suc n))
+
+abbrev pub count : (ℕ → Bool) → (ℕ → ℕ → Bool) → List Job → ℕ → ℕ → ℕ
+count σ before js n j = countOf (workLeft σ before js) js n j
 
 -- the outcome, with the greatest backlog of the ticks done
 pub record Ran : Type 0 where

@@ -9,7 +9,7 @@ use native.Mathlib.Nat.{add-zero, add-suc, le-trans}
 use native.Mathlib.Decide.{ℕ-discrete, decLt, decLe}
 use lib.Dec.{leb, ltb, eqb}
 use borrow.Author.Tests.{ltb-true, ltb-false, leb-true, lt-ltb, le-ltb, le-leb, eq-eqb, ne-eqb}
-use Rattle.scope.specs.Numbers.{when, bit, sum, least, greatest, all, sooner, firstBy, first, lexically}
+use Rattle.scope.specs.Numbers.{when, bit, sum, least, greatest, all, sooner, firstBy, IsFirst, first, lexically}
 
 -- ---- tests
 
@@ -235,10 +235,6 @@ pub record By (before : ℕ → ℕ → Bool) (m : ℕ → ℕ) : Type 0 where
   pub ahead : (a b : ℕ) → before a b ≡ true → m a ≤ m b
   pub behind : (a b : ℕ) → before a b ≡ false → m b ≤ m a
 
-abbrev pub IsFirst : (ℕ → Bool) → (ℕ → ℕ) → ℕ → Option ℕ → Type 0
-IsFirst p m n none = (j : ℕ) → j < n → p j ≡ true → ⊥
-IsFirst p m n (some c) = (c < n) × (p c ≡ true) × ((j : ℕ) → j < n → p j ≡ true → m c ≤ m j)
-
 module _ (p : ℕ → Bool) (before : ℕ → ℕ → Bool) (m : ℕ → ℕ) (by : By before m) where
   first-two : (n c : ℕ) (t : Bool) → before n c ≡ t → p n ≡ true → IsFirst p m n (some c) → IsFirst p m (suc n) (cond t (some n) (some c))
   first-two n c true e q h =
@@ -258,13 +254,14 @@ module _ (p : ℕ → Bool) (before : ℕ → ℕ → Bool) (m : ℕ → ℕ) (b
   first-is zero = λ j h q. omega arith
   first-is (suc n) = first-step n (p n) (firstBy before p n) refl (first-is n)
 
--- in any order at all, what is first passes the test
-pub first-passes : (p : ℕ → Bool) (before : ℕ → ℕ → Bool) (n c : ℕ) → firstBy before p n ≡ some c → (c < n) × (p c ≡ true)
-first-passes p before n c e = go (firstBy before p n) (first-is p before (λ i. 0) any n) e
-  where
-    any : By before (λ i. 0)
-    any = record { ahead = λ a b q. omega arith; behind = λ a b q. omega arith }
+-- any order at all goes first by a number that is the same for all
+pub by-nothing : (before : ℕ → ℕ → Bool) → By before (λ i. 0)
+by-nothing before = record { ahead = λ a b q. omega arith; behind = λ a b q. omega arith }
 
+-- so what is first passes the test
+pub first-passes : (p : ℕ → Bool) (before : ℕ → ℕ → Bool) (n c : ℕ) → firstBy before p n ≡ some c → (c < n) × (p c ≡ true)
+first-passes p before n c e = go (firstBy before p n) (first-is p before (λ i. 0) (by-nothing before) n) e
+  where
     go : (o : Option ℕ) → IsFirst p (λ i. 0) n o → o ≡ some c → (c < n) × (p c ≡ true)
     go none f q = let z : _≡_ {A = ℕ} 0 1 = cc in absurd (omega arith)
     go (some d) f q = let g : d ≡ c = cc in (omega (arith, f .0), rw (← g) (f .1))

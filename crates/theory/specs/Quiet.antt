@@ -14,14 +14,14 @@ use Rattle.scope.specs.Ticks.{supply}
 use Rattle.theory.specs.Numbers.{fits, true-fits, sum-le, sum-has, sum-zero, sum-pos, when-le, when-none, when-pos, and-both, both-and}
 
 -- the work left at instant k in the jobs of S released before u
-unfoldable pub left : (n : ℕ) (r : ℕ → ℕ) (S : ℕ → Bool) (rem : ℕ → ℕ → ℕ) → ℕ → ℕ → ℕ
-left n r S rem u k = sum (λ j. when (S j && leb (suc (r j)) u) (rem k j)) n
+unfoldable pub workIn : (n : ℕ) (r : ℕ → ℕ) (S : ℕ → Bool) (rem : ℕ → ℕ → ℕ) → ℕ → ℕ → ℕ
+workIn n r S rem u k = sum (λ j. when (S j && leb (suc (r j)) u) (rem k j)) n
 
 -- A run: rem k j is the work left of job j, of n, at instant k. `busy`: while a job of S is pending, each supplied tick goes to a job of S that is released
 pub record Serves (σ : ℕ → Bool) (n : ℕ) (r w : ℕ → ℕ) (S : ℕ → Bool) (rem : ℕ → ℕ → ℕ) : Type 0 where
   pub start : (j : ℕ) → j < n → rem 0 j ≤ w j
   pub falls : (k j : ℕ) → j < n → rem (suc k) j ≤ rem k j
-  pub busy : (k u j : ℕ) → j < n → k < u → r j ≤ k → S j ≡ true → 0 < rem k j → left n r S rem u (suc k) + bit (σ k) ≡ left n r S rem u k
+  pub busy : (k u j : ℕ) → j < n → k < u → r j ≤ k → S j ≡ true → 0 < rem k j → workIn n r S rem u (suc k) + bit (σ k) ≡ workIn n r S rem u k
 
 module _ (σ : ℕ → Bool) (n : ℕ) (r w : ℕ → ℕ) (S : ℕ → Bool) (rem : ℕ → ℕ → ℕ) (run : Serves σ n r w S rem) where
   pub rem-le : (k j : ℕ) → j < n → rem k j ≤ w j
@@ -36,16 +36,16 @@ module _ (σ : ℕ → Bool) (n : ℕ) (r w : ℕ → ℕ) (S : ℕ → Bool) (r
   falls-to k e j l h = let q : k + (e - k) ≡ e = omega arith in omega (arith, ap (λ (t : ℕ). rem t j) q, falls-by (e - k) k j l)
 
   abbrev pub Quiet : ℕ → Type 0
-  Quiet x = left n r S rem x x ≡ 0
+  Quiet x = workIn n r S rem x x ≡ 0
 
   pub quiet-done : (x j : ℕ) → Quiet x → j < n → S j ≡ true → r j < x → rem x j ≡ 0
-  unfolding left
+  unfolding workIn
   quiet-done x j q l s h =
       let z = rw (both-and {a = S j} s (le-leb (suc (r j)) x h)) at (sum-has (λ i. when (S i && leb (suc (r i)) x) (rem x i)) n j l) in
       omega (arith, z)
 
   pub quiet-zero : Quiet 0
-  unfolding left
+  unfolding workIn
   quiet-zero =
       omega (
         arith,
@@ -62,16 +62,16 @@ module _ (σ : ℕ → Bool) (n : ℕ) (r w : ℕ → ℕ) (S : ℕ → Bool) (r
     pub quiet : Quiet at
 
   -- from b on: another quiet instant, or every supplied tick so far went to S
-  forward : (b u t : ℕ) → b + t ≤ u → Next b (b + t) ⊎ (left n r S rem u (b + t) + supply σ b t ≡ left n r S rem u b)
-  unfolding supply left
+  forward : (b u t : ℕ) → b + t ≤ u → Next b (b + t) ⊎ (workIn n r S rem u (b + t) + supply σ b t ≡ workIn n r S rem u b)
+  unfolding supply workIn
   forward b u zero h = inr (rw (add-zero b) (omega arith))
   forward b u (suc t) h = step (forward b u t (omega arith))
     where
       x : ℕ
       x = suc (b + t)
 
-      paid : left n r S rem u (b + t) + supply σ b t ≡ left n r S rem u b → Dec (left n r S rem x x ≡ 0) →
-          Next b (b + suc t) ⊎ (left n r S rem u (b + suc t) + supply σ b (suc t) ≡ left n r S rem u b)
+      paid : workIn n r S rem u (b + t) + supply σ b t ≡ workIn n r S rem u b → Dec (workIn n r S rem x x ≡ 0) →
+          Next b (b + suc t) ⊎ (workIn n r S rem u (b + suc t) + supply σ b (suc t) ≡ workIn n r S rem u b)
       paid p (yes q) = inl (record { at = x; after = omega arith; by = omega arith; quiet = q })
       paid p (no q) =
           let f : ℕ → ℕ = λ j. when (S j && leb (suc (r j)) x) (rem x j) in
@@ -81,17 +81,17 @@ module _ (σ : ℕ → Bool) (n : ℕ) (r w : ℕ → ℕ) (S : ℕ → Bool) (r
           let s = and-both (S j) (leb (suc (r j)) x) (z .0) in
           inr (rw (add-suc b t) (omega (arith, p, run .busy (b + t) u j (m .below) (omega arith) (omega (arith, leb-true (suc (r j)) x (s .1))) (s .0) (omega (arith, z .1, run .falls (b + t) j (m .below))))))
 
-      step : Next b (b + t) ⊎ (left n r S rem u (b + t) + supply σ b t ≡ left n r S rem u b) →
-          Next b (b + suc t) ⊎ (left n r S rem u (b + suc t) + supply σ b (suc t) ≡ left n r S rem u b)
+      step : Next b (b + t) ⊎ (workIn n r S rem u (b + t) + supply σ b t ≡ workIn n r S rem u b) →
+          Next b (b + suc t) ⊎ (workIn n r S rem u (b + suc t) + supply σ b (suc t) ≡ workIn n r S rem u b)
       step (inl y) = inl (record { at = y .at; after = y .after; by = omega (arith, y .by); quiet = y .quiet })
-      step (inr p) = paid p (ℕ-discrete (left n r S rem x x) 0)
+      step (inr p) = paid p (ℕ-discrete (workIn n r S rem x x) 0)
 
   -- work of S released in the t ticks from b
   abbrev pub released : ℕ → ℕ → ℕ
   released b t = sum (λ j. when (S j && fits b (r j) (r j + 1) (b + t)) (w j)) n
 
-  fresh : (b t : ℕ) → Quiet b → left n r S rem (b + t) b ≤ released b t
-  unfolding left
+  fresh : (b t : ℕ) → Quiet b → workIn n r S rem (b + t) b ≤ released b t
+  unfolding workIn
   fresh b t q = sum-le _ _ n (λ j l.
       let a : Bool = leb (suc (r j)) (b + t) in
       elim (decLt (r j) b) [
@@ -104,7 +104,7 @@ module _ (σ : ℕ → Bool) (n : ℕ) (r w : ℕ → ℕ) (S : ℕ → Bool) (r
   pub next-quiet : (b t : ℕ) → 0 < t → Quiet b → released b t ≤ supply σ b t → Next b (b + t)
   next-quiet b t p q h = done (forward b (b + t) t (omega arith))
     where
-      done : Next b (b + t) ⊎ (left n r S rem (b + t) (b + t) + supply σ b t ≡ left n r S rem (b + t) b) → Next b (b + t)
+      done : Next b (b + t) ⊎ (workIn n r S rem (b + t) (b + t) + supply σ b t ≡ workIn n r S rem (b + t) b) → Next b (b + t)
       done (inl y) = y
       done (inr e) = record { at = b + t; after = omega arith; by = omega arith; quiet = omega (arith, fresh b t q) }
 

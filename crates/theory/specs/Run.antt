@@ -1,4 +1,4 @@
--- Laws of a run's outcome and counts, over any pattern σ and any rule of choice
+-- Laws of a run's outcome and counts, over any pattern σ and any rule
 use mathlib.Core.Path.{_≡_, refl, sym, ap, _∙_}
 use mathlib.Core.Bool.{Bool, true, false≢true}
 use mathlib.Core.Option.{Option, none, some}
@@ -13,9 +13,10 @@ use Rattle.scope.specs.Numbers.{first, listed}
 use Rattle.scope.specs.Tasks.{Task}
 use Rattle.scope.specs.Jobs.{Job, releaseOf, workOf, deadline}
 use Rattle.scope.specs.Machine.{workLeft}
-use Rattle.scope.specs.Run.{Outcome.met, late, judged, outcome, doneAt, since, count}
+use Rattle.scope.specs.Run.{Outcome.met, late, judged, outcome, doneAt, since, countOf}
+use Rattle.scope.specs.Demands.{Under}
 use Rattle.theory.specs.Numbers.{fits-true, first-none, first-some}
-use Rattle.theory.specs.Machine.{workLeft-before}
+use Rattle.theory.specs.Machine.{left-before}
 
 -- ---- lists of counts
 
@@ -53,25 +54,26 @@ module _ (σ : ℕ → Bool) (before : ℕ → ℕ → Bool) (js : List Job) whe
           let p = fits-true (deadline ts js j) (suc k) 1 (getD (workLeft σ before js (suc k)) j 0) (f .1) in
           absurd (omega (arith, h j (suc k) (f .0) (p .0), p .1))
 
-  -- a job that has no work left at instant k is counted by then, in every run that ends no earlier
-  pub count-by : (n k j : ℕ) → k ≤ n → 1 ≤ workOf js j → getD (workLeft σ before js k) j 0 ≡ 0 →
-      (1 ≤ count σ before js n j) × (releaseOf js j + count σ before js n j ≤ k)
-  unfolding count
+-- in any run a job that has no work left at instant k is counted by then, where the run ends no earlier
+module _ (σ : ℕ → Bool) (js : List Job) (m : ℕ → ℕ) (left : ℕ → List ℕ) (run : Under σ js m left) where
+  pub count-by : (n k j : ℕ) → k ≤ n → 1 ≤ workOf js j → getD (left k) j 0 ≡ 0 →
+      (1 ≤ countOf left js n j) × (releaseOf js j + countOf left js n j ≤ k)
+  unfolding countOf
   count-by n k j l w e = go (first done (suc n)) refl
     where
       done : ℕ → Bool
-      done = doneAt σ before js j
+      done = doneAt left j
 
       done-k : done k ≡ true
-      done-k = eq-eqb (getD (workLeft σ before js k) j 0) 0 e
+      done-k = eq-eqb (getD (left k) j 0) 0 e
 
       go : (o : Option ℕ) → first done (suc n) ≡ o → (1 ≤ since (releaseOf js j) o) × (releaseOf js j + since (releaseOf js j) o ≤ k)
       go none q = absurd (false≢true (sym (first-none done (suc n) q k (omega arith)) ∙ done-k))
       go (some i) q =
           let f = first-some done (suc n) i q in
-          let z : getD (workLeft σ before js i) j 0 ≡ 0 = eqb-true (getD (workLeft σ before js i) j 0) 0 (f .1) in
+          let z : getD (left i) j 0 ≡ 0 = eqb-true (getD (left i) j 0) 0 (f .1) in
           let late-enough : releaseOf js j < i =
-          elim (decLe i (releaseOf js j)) [ yes h ↦ absurd (omega (arith, z, workLeft-before σ before js i j h)) | no h ↦ omega arith ] in
+          elim (decLe i (releaseOf js j)) [ yes h ↦ absurd (omega (arith, z, left-before σ js m left run i j h)) | no h ↦ omega arith ] in
           let soon-enough : i ≤ k =
           elim (decLe i k) [ yes h ↦ h | no h ↦ absurd (false≢true (sym (f .2 k (omega arith)) ∙ done-k)) ] in
           (omega arith, omega arith)
