@@ -1,23 +1,23 @@
--- Document 01, "Marked examples": W1 to W13, one table under one statement, by computation.
+-- Document 01, "Marked examples": W1 to W13, and after them what it says of limits, refusals and errors; one table under one statement, by computation.
 use Prim.Native.Nat.{ℕ}
 use mathlib.Core.Path.{_≡_, refl}
 use mathlib.Core.List.{List, [], _∷_, map}
 use lib.IntN.{ℤ, ℤ.negsuc}
-use lib.ListN.{length}
+use lib.ListN.{length, replicate}
 use Rattle.scope.specs.Numbers.{sum, least, greatest, all, firstBy, listed, keep, piecesFrom, pieces, badCount, written}
 use Rattle.scope.specs.Ticks.{supply, leastSupply, leastStart}
-use Rattle.scope.specs.Windows.{Board, inWindow, covers, supplied, windowLegal, badWindow}
-use Rattle.scope.specs.Partition.{rises, within, edge, runs, critical, lag, delay}
-use Rattle.scope.specs.Tasks.{taskLegal, badTask, taskDemand, demand, margin}
+use Rattle.scope.specs.Windows.{Board, Window, window, inWindow, covers, supplied, windowLegal, badWindow}
+use Rattle.scope.specs.Partition.{rises, within, edge, runs, critical, lag, delay, outageBefore, outage}
+use Rattle.scope.specs.Tasks.{Task, task, taskLegal, badTask, taskDemand, demand, margin}
 use Rattle.scope.specs.Cycle.{gcdWithin, gcd, lcm, cycle}
 use Rattle.scope.specs.Verdict.{Verdict, Verdict.meets, Verdict.miss, violates, verdict}
 use Rattle.scope.specs.Bound.{Bound, Bound.bound, asked, suffices, response}
 use Rattle.scope.specs.Jobs.{jobLegal, badJob}
 use Rattle.scope.specs.Machine.{pending, tick, workLeft}
-use Rattle.scope.specs.Run.{Outcome.met, Ran, late, outcome, backlogIn, backlog, countOf, ran, counts}
-use Rattle.scope.specs.Answers.{Answer, Answer.given, Delay, windowListFault, frameFault, windowFault, taskListFault, taskFault, cycleFault, lengthFault, absentFault, roomFault, jobListFault, jobFault, tableFault, groupFault, leastSupplyAnswer, criticalFault, criticalAnswer, criticalOut, delayAnswer, marginAnswer, verdictAnswer, boundAnswer, runFault, runAnswer, runOut}
-use Rattle.scope.specs.Plan.{groups, wellFormed, readNumber, readNumbers, windowCountFault, taskCountFault, restFault, tasksFrom, windowsFrom, planOf, planAnswer}
-use Rattle.scope.specs.Line.{bytes, decimalWithin, decimal, line}
+use Rattle.scope.specs.Run.{Outcome.met, Outcome.missed, Ran, late, outcome, backlogIn, backlog, countOf, ran, counts}
+use Rattle.scope.specs.Answers.{Fault, Fault.fine, Fault.fault, Answer, Answer.given, Answer.refused, Delay, boardAnswer, windowAnswer, taskAnswer, lengthAnswer, runTicksAnswer, windowListFault, frameFault, windowFault, taskListFault, taskFault, cycleFault, lengthFault, absentFault, roomFault, jobListFault, jobFault, tableFault, groupFault, leastSupplyAnswer, criticalFault, criticalAnswer, criticalOut, delayAnswer, outageAnswer, demandAnswer, marginAnswer, verdictAnswer, boundAnswer, runFault, runAnswer, runOut}
+use Rattle.scope.specs.Plan.{groups, wellFormed, readNumber, readNumbers, windowCountFault, taskCountFault, restFault, tasksFrom, windowsFrom, planOf, planAnswer, Plan, numberBytesWithin, numberBytes, numbersBytes, planBytes, writeFault, writeAnswer, writeOut}
+use Rattle.scope.specs.Line.{bytes, decimalWithin, decimal, line, lineAnswer, lineOut}
 
 -- ---- what is asked of an entry, and what it answers; of a lent buffer, what it holds before and after
 
@@ -30,6 +30,17 @@ pub data Question : Type 0 where
   boundsOf : (frame : ℕ) (windows tasks indices : List ℕ) → Question
   runOf : (frame : ℕ) (windows tasks : List ℕ) (n : ℕ) (jobs buffer : List ℕ) → Question
   lineOf : (plan : List ℕ) → Question
+  outageOf : (frame : ℕ) (windows : List ℕ) → Question
+  demandsOf : (tasks lengths : List ℕ) → Question
+  writtenPlan : (plan : Plan) (buffer : List ℕ) → Question
+  lineInto : (plan buffer : List ℕ) → Question
+  frames : (frames : List ℕ) → Question
+  askedLengths : (lengths : List ℕ) → Question
+  runTicks : (ticks : List ℕ) → Question
+  windowAlone : (frame start end : ℕ) → Question
+  taskAlone : (c t d : ℕ) → Question
+  listsOf : (windows tasks jobs : ℕ) → Question
+  cycleOf : (frame : ℕ) (tasks : List ℕ) → Question
 
 pub data Reply : Type 0 where
   amounts : List (Answer ℕ) → Reply
@@ -40,6 +51,11 @@ pub data Reply : Type 0 where
   bounds : List (Answer Bound) → Reply
   aRun : Answer Ran → List ℕ → Reply
   text : List ℕ → Reply
+  bytesIn : Answer ℕ → List ℕ → Reply
+  boards : List (Answer Board) → Reply
+  aWindow : Answer Window → Reply
+  aTask : Answer Task → Reply
+  faults : List Fault → Reply
 
 -- a board with frame P
 abbrev pub on : ℕ → Board
@@ -54,6 +70,18 @@ reply (marginOf P ws ts t) = aMargin (marginAnswer (on P) ws ts t)
 reply (boundsOf P ws ts is) = bounds (map (boundAnswer (on P) ws ts) is)
 reply (runOf P ws ts n js out) = aRun (runAnswer (on P) ws ts n js (length out)) (runOut (on P) ws ts n js out)
 reply (lineOf plan) = text (line (planAnswer plan))
+reply (outageOf P ws) = amounts (outageAnswer (on P) ws ∷ [])
+reply (demandsOf ts lengths) = amounts (map (demandAnswer ts) lengths)
+reply (writtenPlan plan out) = bytesIn (writeAnswer plan (length out)) (writeOut plan out)
+reply (lineInto plan out) = bytesIn (lineAnswer (planAnswer plan) (length out)) (lineOut (planAnswer plan) out)
+reply (frames l) = boards (map boardAnswer l)
+reply (askedLengths l) = amounts (map lengthAnswer l)
+reply (runTicks l) = amounts (map runTicksAnswer l)
+reply (windowAlone P s e) = aWindow (windowAnswer (on P) (window s e))
+reply (taskAlone c t d) = aTask (taskAnswer (task c t d))
+-- lists of so many numbers, whatever they are
+reply (listsOf w t j) = faults (windowListFault (replicate w 0) ∷ taskListFault (replicate t 0) ∷ jobListFault 0 (replicate j 0) ∷ [])
+reply (cycleOf P ts) = faults (cycleFault (on P) ts ∷ [])
 
 -- ---- the table
 
@@ -103,6 +131,61 @@ table =
     -- W13: W7's tasks, both released in full at tick 2
     ∷ (runOf 8 X (1 ∷ 4 ∷ 4 ∷ 2 ∷ 8 ∷ 7 ∷ []) 10 (2 ∷ 0 ∷ 1 ∷ 2 ∷ 1 ∷ 2 ∷ []) (9 ∷ 9 ∷ 9 ∷ [])
     gives aRun (given (record { outcome = met; backlog = 2 })) (4 ∷ 7 ∷ 9 ∷ []))
+    -- the longest outage: between windows, at both ends of a frame but not over its end, and none
+    ∷ (outageOf 8 X gives amounts (given 3 ∷ []))
+    ∷ (outageOf 8 (3 ∷ 5 ∷ []) gives amounts (given 3 ∷ []))
+    ∷ (outageOf 8 (0 ∷ 2 ∷ []) gives amounts (given 6 ∷ []))
+    ∷ (outageOf 8 (0 ∷ 8 ∷ []) gives amounts (given 0 ∷ []))
+    -- the four errors: supply counted from tick 0 passes (2,8,3), starts at window ends miss the least start at length 4
+    ∷ (verdictOf 8 X (2 ∷ 8 ∷ 3 ∷ []) gives aVerdict (given (miss 3 2 2 0)))
+    ∷ (verdictOf 8 X (2 ∷ 4 ∷ 4 ∷ []) gives aVerdict (given (miss 4 1 2 1)))
+    -- a bound counts jobs by the period, not by the deadline
+    ∷ (boundsOf 1 (0 ∷ 1 ∷ []) (1 ∷ 4 ∷ 1 ∷ 2 ∷ 8 ∷ 8 ∷ []) (1 ∷ []) gives bounds (given (bound 3) ∷ []))
+    -- ties go to the lower task, a missed run names instant and lowest job, and what is unfinished has count 0
+    ∷ (runOf 8 X (1 ∷ 8 ∷ 6 ∷ 1 ∷ 8 ∷ 6 ∷ []) 10 (1 ∷ 0 ∷ 1 ∷ 1 ∷ 1 ∷ 1 ∷ []) (9 ∷ 9 ∷ [])
+    gives aRun (given (record { outcome = met; backlog = 2 })) (1 ∷ 5 ∷ []))
+    ∷ (runOf 8 X (1 ∷ 4 ∷ 4 ∷ 2 ∷ 8 ∷ 6 ∷ []) 10 (2 ∷ 0 ∷ 1 ∷ 2 ∷ 1 ∷ 2 ∷ []) (9 ∷ 9 ∷ [])
+    gives aRun (given (record { outcome = missed 8 1; backlog = 2 })) (4 ∷ 0 ∷ []))
+    ∷ (runOf 8 X (1 ∷ 4 ∷ 4 ∷ 2 ∷ 8 ∷ 7 ∷ []) 3 (2 ∷ 0 ∷ 1 ∷ 2 ∷ 1 ∷ 2 ∷ []) (9 ∷ 9 ∷ [])
+    gives aRun (given (record { outcome = met; backlog = 2 })) (0 ∷ 0 ∷ []))
+    -- at the limits: each limit, and one more
+    ∷ (verdictOf 8 (0 ∷ 2 ∷ 2 ∷ 4 ∷ []) [] gives aVerdict (refused 3 1))
+    ∷ (frames (0 ∷ 1 ∷ 65536 ∷ 65537 ∷ []) gives boards (refused 2 0 ∷ given (on 1) ∷ given (on 65536) ∷ refused 2 0 ∷ []))
+    ∷ (windowAlone 8 7 8 gives aWindow (given (window 7 8)))
+    ∷ (windowAlone 8 7 9 gives aWindow (refused 3 0))
+    ∷ (windowAlone 8 2 2 gives aWindow (refused 3 0))
+    ∷ (taskAlone 1000000 1000000 1000000 gives aTask (given (task 1000000 1000000 1000000)))
+    ∷ (taskAlone 1000001 8 8 gives aTask (refused 5 0))
+    ∷ (taskAlone 1 4 5 gives aTask (refused 5 0))
+    ∷ (askedLengths (0 ∷ 1000000 ∷ 1000001 ∷ []) gives amounts (given 0 ∷ given 1000000 ∷ refused 7 0 ∷ []))
+    ∷ (runTicks (0 ∷ 1100000 ∷ 1100001 ∷ []) gives amounts (given 0 ∷ given 1100000 ∷ refused 10 0 ∷ []))
+    ∷ (listsOf 128 96 12288 gives faults (fine ∷ fine ∷ fine ∷ []))
+    ∷ (listsOf 130 99 12291 gives faults (fault 1 0 ∷ fault 4 0 ∷ fault 10 0 ∷ []))
+    ∷ (listsOf 0 0 0 gives faults (fault 1 0 ∷ fine ∷ fine ∷ []))
+    ∷ (listsOf 3 4 5 gives faults (fault 1 0 ∷ fault 4 0 ∷ fault 10 0 ∷ []))
+    ∷ (cycleOf 8 (1 ∷ 1000000 ∷ 1000000 ∷ []) gives faults (fine ∷ []))
+    ∷ (verdictOf 8 X (1 ∷ 999999 ∷ 999999 ∷ []) gives aVerdict (refused 6 0))
+    ∷ (cycleOf 1 (1 ∷ 1001 ∷ 1 ∷ 1 ∷ 999 ∷ 1 ∷ []) gives faults (fine ∷ []))
+    ∷ (cycleOf 101 (1 ∷ 9901 ∷ 1 ∷ []) gives faults (fault 6 0 ∷ []))
+    ∷ (demandsOf (1 ∷ 4 ∷ 3 ∷ []) (2 ∷ 3 ∷ 1000000 ∷ 1000001 ∷ []) gives amounts (given 0 ∷ given 1 ∷ given 250000 ∷ refused 7 0 ∷ []))
+    -- the order of refusals, and that a refusal writes nothing
+    ∷ (criticalWindows 8 X (9 ∷ 9 ∷ 9 ∷ []) gives windows (refused 8 4) (9 ∷ 9 ∷ 9 ∷ []))
+    ∷ (criticalWindows 8 (0 ∷ 2 ∷ 2 ∷ 4 ∷ []) [] gives windows (refused 3 1) [])
+    ∷ (runOf 8 X (1 ∷ 4 ∷ 4 ∷ []) 10 (2 ∷ 0 ∷ 1 ∷ []) [] gives aRun (refused 8 1) [])
+    ∷ (runOf 8 X (1 ∷ 4 ∷ 4 ∷ []) 10 (2 ∷ 0 ∷ 2 ∷ []) [] gives aRun (refused 11 0) [])
+    ∷ (runOf 8 X (1 ∷ 4 ∷ 4 ∷ []) 10 (2 ∷ 0 ∷ []) (9 ∷ []) gives aRun (refused 10 0) (9 ∷ []))
+    ∷ (writtenPlan (record { frame = 8; windows = []; tasks = 1 ∷ [] }) (9 ∷ []) gives bytesIn (refused 1 0) (9 ∷ []))
+    ∷ (writtenPlan (record { frame = 300; windows = 0 ∷ 2 ∷ []; tasks = [] }) (9 ∷ 9 ∷ 9 ∷ 9 ∷ 9 ∷ 9 ∷ 9 ∷ []) gives bytesIn (given 6) (172 ∷ 2 ∷ 1 ∷ 0 ∷ 2 ∷ 0 ∷ 9 ∷ []))
+    ∷ (lineInto (8 ∷ 1 ∷ 0 ∷ 2 ∷ 0 ∷ []) (9 ∷ 9 ∷ []) gives bytesIn (refused 8 14) (9 ∷ 9 ∷ []))
+    -- the other lines; bytes left over, a number cut short, one in too many bytes, and the two early answers
+    ∷ (lineOf (8 ∷ 2 ∷ 0 ∷ 2 ∷ 5 ∷ 7 ∷ 0 ∷ []) gives text (bytes "MEETS cycle 8\n"))
+    ∷ (lineOf (8 ∷ 2 ∷ 0 ∷ 2 ∷ 2 ∷ 4 ∷ 0 ∷ []) gives text (bytes "REFUSED 3 at 1\n"))
+    ∷ (lineOf (8 ∷ 1 ∷ 0 ∷ 2 ∷ 0 ∷ 7 ∷ []) gives text (bytes "REFUSED 9 at 5\n"))
+    ∷ (lineOf (8 ∷ 1 ∷ 0 ∷ 130 ∷ []) gives text (bytes "REFUSED 9 at 3\n"))
+    ∷ (lineOf (8 ∷ 1 ∷ 0 ∷ 130 ∷ 0 ∷ []) gives text (bytes "REFUSED 9 at 3\n"))
+    ∷ (lineOf (8 ∷ 1 ∷ []) gives text (bytes "REFUSED 9 at 2\n"))
+    ∷ (lineOf (0 ∷ 65 ∷ []) gives text (bytes "REFUSED 1 at 0\n"))
+    ∷ (lineOf (0 ∷ 1 ∷ 0 ∷ 2 ∷ 33 ∷ []) gives text (bytes "REFUSED 4 at 0\n"))
     ∷ []
 
 -- every row's question gets its expected reply
@@ -111,6 +194,6 @@ Hold [] = Unit {0}
 Hold (e ∷ rows) = (reply (e .question) ≡ e .expected) × Hold rows
 
 pub examples : Hold table
-unfolding reply table sum least greatest all firstBy listed keep piecesFrom pieces badCount written supply leastSupply leastStart inWindow covers supplied windowLegal badWindow rises within edge runs critical lag delay taskLegal badTask taskDemand demand margin gcdWithin gcd lcm cycle violates verdict asked suffices response jobLegal badJob pending tick workLeft late outcome backlogIn backlog countOf ran counts windowListFault frameFault windowFault taskListFault taskFault cycleFault lengthFault absentFault roomFault jobListFault jobFault tableFault groupFault leastSupplyAnswer criticalFault criticalAnswer criticalOut delayAnswer marginAnswer verdictAnswer boundAnswer runFault runAnswer runOut groups wellFormed readNumber readNumbers windowCountFault taskCountFault restFault tasksFrom windowsFrom planOf planAnswer decimalWithin decimal line
+unfolding reply table sum least greatest all firstBy listed keep piecesFrom pieces badCount written supply leastSupply leastStart inWindow covers supplied windowLegal badWindow rises within edge runs critical lag delay taskLegal badTask taskDemand demand margin gcdWithin gcd lcm cycle violates verdict asked suffices response jobLegal badJob pending tick workLeft late outcome backlogIn backlog countOf ran counts windowListFault frameFault windowFault taskListFault taskFault cycleFault lengthFault absentFault roomFault jobListFault jobFault tableFault groupFault leastSupplyAnswer criticalFault criticalAnswer criticalOut delayAnswer outageAnswer demandAnswer marginAnswer verdictAnswer boundAnswer runFault runAnswer runOut groups wellFormed readNumber readNumbers windowCountFault taskCountFault restFault tasksFrom windowsFrom planOf planAnswer numberBytesWithin numberBytes numbersBytes planBytes writeFault writeAnswer writeOut decimalWithin decimal line lineAnswer lineOut boardAnswer windowAnswer taskAnswer lengthAnswer runTicksAnswer outageBefore outage
 examples =
-    (refl, (refl, (refl, (refl, (refl, (refl, (refl, (refl, (refl, (refl, (refl, (refl, (refl, (refl, (refl, tt)))))))))))))))
+    (refl, (refl, (refl, (refl, (refl, (refl, (refl, (refl, (refl, (refl, (refl, (refl, (refl, (refl, (refl, (refl, (refl, (refl, (refl, (refl, (refl, (refl, (refl, (refl, (refl, (refl, (refl, (refl, (refl, (refl, (refl, (refl, (refl, (refl, (refl, (refl, (refl, (refl, (refl, (refl, (refl, (refl, (refl, (refl, (refl, (refl, (refl, (refl, (refl, (refl, (refl, (refl, (refl, (refl, (refl, (refl, (refl, (refl, (refl, (refl, tt))))))))))))))))))))))))))))))))))))))))))))))))))))))))))))

@@ -27,4 +27,5 @@ pub mod Seven
 pub mod Series
 pub mod Plan
 pub mod PlanBytes
+pub mod Refused
 pub mod Applied

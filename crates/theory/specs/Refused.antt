@@ -1,0 +1,32 @@
+-- Demand 1: a refusal writes nothing. Where an entry that is lent a buffer refuses, the buffer after it is the buffer before it
+use mathlib.Core.Path.{_≡_}
+use mathlib.Core.List.{List}
+use Prim.Native.Nat.{ℕ}
+use lib.ListN.{length}
+use Rattle.scope.specs.Windows.{Board}
+use Rattle.scope.specs.Verdict.{Verdict}
+use Rattle.scope.specs.Answers.{Fault, Answer, Answer.refused, unless, unlessKept, roomFault, criticalFault, criticalAnswer, criticalOut, runFault, runAnswer, runOut}
+use Rattle.scope.specs.Plan.{Plan, writeFault, writeAnswer, writeOut}
+use Rattle.scope.specs.Line.{line, lineAnswer, lineOut}
+use Rattle.theory.specs.Answers.{unless-refused}
+
+module _ (n p : ℕ) where
+  kept : {A : Type 0} (f : Fault) (a : A) (new old : List ℕ) → unless f a ≡ refused n p → unlessKept f new old ≡ old
+  kept f a new old e = rw (unless-refused f a n p e)
+
+  pub critical-kept : (b : Board) (ws out : List ℕ) → criticalAnswer b ws (length out) ≡ refused n p → criticalOut b ws out ≡ out
+  unfolding criticalAnswer criticalOut
+  critical-kept b ws out e = kept (criticalFault b ws (length out)) _ _ out e
+
+  pub run-kept : (b : Board) (ws ts : List ℕ) (ticks : ℕ) (js out : List ℕ) →
+      runAnswer b ws ts ticks js (length out) ≡ refused n p → runOut b ws ts ticks js out ≡ out
+  unfolding runAnswer runOut
+  run-kept b ws ts ticks js out e = kept (runFault b ws ts ticks js (length out)) _ _ out e
+
+  pub write-kept : (plan : Plan) (out : List ℕ) → writeAnswer plan (length out) ≡ refused n p → writeOut plan out ≡ out
+  unfolding writeAnswer writeOut
+  write-kept plan out e = kept (writeFault plan (length out)) _ _ out e
+
+  pub line-kept : (a : Answer Verdict) (out : List ℕ) → lineAnswer a (length out) ≡ refused n p → lineOut a out ≡ out
+  unfolding lineAnswer lineOut
+  line-kept a out e = kept (roomFault (length (line a)) (length out)) _ _ out e
