@@ -1,5 +1,5 @@
 -- Document 01, "Marked examples": W1 to W13, and after them what it says of limits, refusals and errors; one table under one statement, by computation.
-use Prim.Native.Nat.{ℕ}
+use Prim.Native.Nat.{ℕ, zero, suc}
 use mathlib.Core.Path.{_≡_, refl}
 use mathlib.Core.List.{List, [], _∷_, map}
 use lib.IntN.{ℤ, ℤ.negsuc}
@@ -197,3 +197,14 @@ pub examples : Hold table
 unfolding reply table sum least greatest all firstBy listed keep piecesFrom pieces badCount written supply leastSupply leastStart inWindow covers supplied windowLegal badWindow rises within edge runs critical lag delay taskLegal badTask taskDemand demand margin gcdWithin gcd lcm cycle violates verdict asked suffices response jobLegal badJob pending tick workLeft late outcome backlogIn backlog countOf ran counts windowListFault frameFault windowFault taskListFault taskFault cycleFault lengthFault absentFault roomFault jobListFault jobFault tableFault groupFault leastSupplyAnswer criticalFault criticalAnswer criticalOut delayAnswer outageAnswer demandAnswer marginAnswer verdictAnswer boundAnswer runFault runAnswer runOut groups wellFormed readNumber readNumbers windowCountFault taskCountFault restFault tasksFrom windowsFrom planOf planAnswer numberBytesWithin numberBytes numbersBytes planBytes writeFault writeAnswer writeOut decimalWithin decimal line lineAnswer lineOut boardAnswer windowAnswer taskAnswer lengthAnswer runTicksAnswer outageBefore outage
 examples =
     (refl, (refl, (refl, (refl, (refl, (refl, (refl, (refl, (refl, (refl, (refl, (refl, (refl, (refl, (refl, (refl, (refl, (refl, (refl, (refl, (refl, (refl, (refl, (refl, (refl, (refl, (refl, (refl, (refl, (refl, (refl, (refl, (refl, (refl, (refl, (refl, (refl, (refl, (refl, (refl, (refl, (refl, (refl, (refl, (refl, (refl, (refl, (refl, (refl, (refl, (refl, (refl, (refl, (refl, (refl, (refl, (refl, (refl, (refl, (refl, tt))))))))))))))))))))))))))))))))))))))))))))))))))))))))))))
+
+-- row i of a table that holds, counted from 0
+abbrev pub RowHolds : List Example → ℕ → Type 0
+RowHolds [] i = Unit {0}
+RowHolds (e ∷ rows) zero = reply (e .question) ≡ e .expected
+RowHolds (e ∷ rows) (suc i) = RowHolds rows i
+
+pub row : (rows : List Example) → Hold rows → (i : ℕ) → RowHolds rows i
+row [] h i = tt
+row (e ∷ rows) h zero = h .0
+row (e ∷ rows) h (suc i) = row rows (h .1) i

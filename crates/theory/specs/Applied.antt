@@ -1,29 +1,34 @@
 -- The theorems at marked examples: their premises are the rows of the table of examples, so none of them is empty
 use mathlib.Core.Path.{_≡_, refl, ap, _∙_}
+use mathlib.Core.Bool.{Bool}
 use mathlib.Core.Option.{some}
 use mathlib.Core.List.{List, [], _∷_, _++_}
 use Prim.Native.Nat.{ℕ, zero, suc, _-_, _*_, _≤_, _<_}
 use native.Mathlib.Omega.{arith}
+use lib.Dec.{ltb}
 use lib.ListN.{length, getD, take, replicate, length-append}
-use Rattle.scope.specs.Numbers.{piecesFrom, pieces, badCount, greatest}
+use Rattle.scope.specs.Numbers.{piecesFrom, pieces, badCount, greatest, lexically}
 use Rattle.scope.specs.Ticks.{supply, leastSupply}
 use Rattle.scope.specs.Windows.{inWindow, covers, supplied}
 use Rattle.scope.specs.Tasks.{tasksOf, demand}
 use Rattle.scope.specs.Verdict.{Verdict.meets, Verdict.miss}
 use Rattle.scope.specs.Bound.{Bound.bound, asked}
-use Rattle.scope.specs.Jobs.{jobsOf}
-use Rattle.scope.specs.Machine.{edf}
+use Rattle.scope.specs.Jobs.{jobsOf, taskOf, deadline}
+use Rattle.scope.specs.Machine.{edf, workLeft}
 use Rattle.scope.specs.Limits.{mostWindows, mostTasks, mostNumber}
 use Rattle.scope.specs.Plan.{Plan, planOf, planAnswer, numberBytesWithin, numberBytes, numbersBytes, planBytes}
-use Rattle.scope.specs.Run.{Outcome.met, outcome, counts}
-use Rattle.scope.specs.Answers.{Answer.given, Answer.refused, windowListFault, taskListFault, verdictAnswer, boundAnswer, runAnswer, runOut}
+use Rattle.scope.specs.Run.{Outcome.met, outcome, countOf, counts}
+use Rattle.scope.specs.Answers.{Answer.given, Answer.refused, windowListFault, taskListFault, verdictAnswer, boundAnswer, runAnswer, runOut, criticalAnswer, criticalOut}
 use Rattle.scope.specs.Demands.{LeastMiss, Way, givenTo, Served}
-use Rattle.scope.specs.Examples.{Reply.aVerdict, Reply.bounds, Reply.aRun, X, on, reply, table, examples}
+use Rattle.scope.specs.Examples.{Reply.windows, Reply.aVerdict, Reply.bounds, Reply.aRun, X, on, reply, table, examples, row}
+use Rattle.theory.specs.Numbers.{by-lexically}
 use Rattle.theory.specs.Answers.{runs}
 use Rattle.theory.specs.Exact.{exact-meets, exact-miss}
 use Rattle.theory.specs.Bound.{exact-bound}
-use Rattle.theory.specs.Edf.{edf-meets}
+use Rattle.theory.specs.Machine.{machine-under}
+use Rattle.theory.specs.Edf.{edf-meets, edf-every}
 use Rattle.theory.specs.Starved.{starved}
+use Rattle.theory.specs.Refused.{critical-kept}
 use Rattle.theory.specs.Writing.{number-one, number-more}
 use Rattle.theory.specs.Seven.{UpTo, up-to-greatest}
 use Rattle.theory.specs.Plan.{mostPlanBytes, first-answer, longest-plan}
@@ -45,17 +50,17 @@ w13 = 2 ∷ 0 ∷ 1 ∷ 2 ∷ 1 ∷ 2 ∷ []
 
 pub w6-misses : verdictAnswer (on 8) X w6 ≡ given (miss 6 2 3 2)
 unfolding reply table
-w6-misses = let e : aVerdict (verdictAnswer (on 8) X w6) ≡ aVerdict (given (miss 6 2 3 2)) = examples .1 .1 .1 .1 .1 .0 in cc
+w6-misses = let e : aVerdict (verdictAnswer (on 8) X w6) ≡ aVerdict (given (miss 6 2 3 2)) = row table examples 5 in cc
 
 pub w7-meets : verdictAnswer (on 8) X w7 ≡ given (meets 8)
 unfolding reply table
-w7-meets = let e : aVerdict (verdictAnswer (on 8) X w7) ≡ aVerdict (given (meets 8)) = examples .1 .1 .1 .1 .1 .1 .1 .1 .0 in cc
+w7-meets = let e : aVerdict (verdictAnswer (on 8) X w7) ≡ aVerdict (given (meets 8)) = row table examples 8 in cc
 
 w11-bounds : boundAnswer (on 8) X w11 1 ≡ given (bound 7)
 unfolding reply table
 w11-bounds =
     let e : bounds (boundAnswer (on 8) X w11 0 ∷ boundAnswer (on 8) X w11 1 ∷ []) ≡ bounds (given (bound 4) ∷ given (bound 7) ∷ []) =
-    examples .1 .1 .1 .1 .1 .1 .1 .1 .1 .1 .1 .1 .0 in
+    row table examples 12 in
     cc
 
 pub w13-runs : runAnswer (on 8) X w7 10 w13 3 ≡ given (record { outcome = met; backlog = 2 })
@@ -63,7 +68,7 @@ unfolding reply table
 w13-runs =
     let e : aRun (runAnswer (on 8) X w7 10 w13 3) (runOut (on 8) X w7 10 w13 (9 ∷ 9 ∷ 9 ∷ []))
     ≡ aRun (given (record { outcome = met; backlog = 2 })) (4 ∷ 7 ∷ 9 ∷ []) =
-    examples .1 .1 .1 .1 .1 .1 .1 .1 .1 .1 .1 .1 .1 .1 .0 in
+    row table examples 14 in
     cc
 
 -- ---- demand 2
@@ -88,6 +93,17 @@ w13-in-time =
     let m = edf-meets (on 8) X w7 8 w7-meets 10 (jobsOf w13) legal in
     (m .0, m .1 1 (omega arith) (omega arith) .1)
 
+-- and so has every run of it under earliest deadline first; here one whose ties go to the higher task
+highest : List ℕ → List ℕ → ℕ → ℕ → Bool
+highest ts js a b = lexically (deadline (tasksOf ts) (jobsOf js) a) (deadline (tasksOf ts) (jobsOf js) b) (ltb (taskOf (jobsOf js) b) (taskOf (jobsOf js) a))
+
+w13-other-ties : countOf (workLeft (supplied (on 8) X) (highest w7 w13) (jobsOf w13)) (jobsOf w13) 10 1 ≤ 7
+unfolding piecesFrom pieces highest
+w13-other-ties =
+    let legal = runs (on 8) X w7 10 w13 3 (record { outcome = met; backlog = 2 }) w13-runs .jobs in
+    let run = machine-under (supplied (on 8) X) (highest w7 w13) (jobsOf w13) (deadline (tasksOf w7) (jobsOf w13)) (by-lexically _ _) in
+    edf-every (on 8) X w7 8 w7-meets 10 (jobsOf w13) legal _ run 1 (omega arith) (omega arith) .2
+
 -- W6 misses: from start 2, no way serves both jobs of task 0 and task 1 that are due by instant 8
 w6-starved : (w : Way) → Served (supplied (on 8) X) (tasksOf w6) w 2 6 → ⊥
 w6-starved = starved (on 8) X w6 6 2 3 2 w6-misses
@@ -102,6 +118,16 @@ w4-served zero zero l d = omega arith
 w4-served zero (suc zero) l d = omega arith
 w4-served zero (suc (suc m)) l d = absurd (omega arith)
 w4-served (suc i) m l d = absurd (omega arith)
+
+-- ---- a refusal writes nothing
+
+-- three numbers are too few for X's critical windows, and stay as they were
+x-kept : criticalOut (on 8) X (9 ∷ 9 ∷ 9 ∷ []) ≡ 9 ∷ 9 ∷ 9 ∷ []
+unfolding reply table
+x-kept =
+    let e : windows (criticalAnswer (on 8) X 3) (criticalOut (on 8) X (9 ∷ 9 ∷ 9 ∷ [])) ≡ windows (refused 8 4) (9 ∷ 9 ∷ 9 ∷ []) = row table examples 44 in
+    let short : criticalAnswer (on 8) X 3 ≡ refused 8 4 = cc in
+    critical-kept 8 4 (on 8) X (9 ∷ 9 ∷ 9 ∷ []) short
 
 -- ---- the plan file
 
