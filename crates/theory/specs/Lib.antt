@@ -29,3 +29,4 @@ pub mod Plan
 pub mod PlanBytes
 pub mod Refused
 pub mod Applied
+pub mod Sharp

@@ -1,0 +1,79 @@
+-- How sharp the theorems are: each premise is needed and each bound is met. What a stronger statement would claim is refuted by an example
+use mathlib.Core.Path.{_≡_, refl}
+use mathlib.Core.Bool.{Bool, true}
+use mathlib.Core.Option.{none, some}
+use mathlib.Core.List.{List, [], _∷_}
+use Prim.Native.Nat.{ℕ, zero, suc, _≤_, _<_, _∣_}
+use native.Mathlib.Omega.{arith}
+use native.Mathlib.Nat.{dvd-refl}
+use lib.ListN.{length, getD}
+use Rattle.scope.specs.Numbers.{least, all, firstBy, listed, piecesFrom, pieces}
+use Rattle.scope.specs.Ticks.{Periodic, supply, leastSupply}
+use Rattle.scope.specs.Windows.{Board, inWindow, covers, supplied}
+use Rattle.scope.specs.Tasks.{Task, task, tasksOf, taskAt, taskDemand, demand}
+use Rattle.scope.specs.Verdict.{Verdict.meets, Verdict.miss}
+use Rattle.scope.specs.Jobs.{Job, jobsOf, releaseOf, taskOf, deadline, jobLegal, badJob}
+use Rattle.scope.specs.Machine.{edf, pending, tick, workLeft}
+use Rattle.scope.specs.Run.{late, outcome, countOf, counts}
+use Rattle.scope.specs.Answers.{Answer.given, verdictAnswer}
+use Rattle.scope.specs.Demands.{Way, givenTo}
+use Rattle.scope.specs.Examples.{X, on}
+use Rattle.theory.specs.Tasks.{TaskRules, Periods}
+use Rattle.theory.specs.Applied.{w6, w7, w13, w6-misses, w7-meets}
+
+-- "meets" does not leave supply over: W7 asks for all 3 ticks that length 7 holds at least
+pub not-strictly : ((b : Board) (ws ts : List ℕ) (H : ℕ) → verdictAnswer b ws ts ≡ given (meets H) →
+    (t : ℕ) → 1 ≤ t → demand (tasksOf ts) t < leastSupply (supplied b ws) (b .frame) t) → ⊥
+unfolding piecesFrom pieces inWindow covers supplied supply least leastSupply taskDemand demand
+not-strictly claim =
+    let asked : demand (tasksOf w7) 7 ≡ 3 = refl in
+    let held : leastSupply (supplied (on 8) X) 8 7 ≡ 3 = refl in
+    omega (arith, claim (on 8) X w7 8 w7-meets 7 (omega arith))
+
+-- D ≤ T is needed for the horizon. Where every tick is supplied, 2 ticks of work every tick, each due after 2, are too much from length 3 on; the
+-- cycle is 1
+pub not-past-period : ((σ : ℕ → Bool) (P : ℕ) → Periodic σ P → (ts : List Task) → TaskRules ts → (H : ℕ) → 1 ≤ H → P ∣ H → Periods ts H →
+    (t : ℕ) → leastSupply σ P t < demand ts t → (a : ℕ) × (1 ≤ a) × (a ≤ H) × (leastSupply σ P a < demand ts a)) → ⊥
+unfolding supply least leastSupply taskDemand demand
+not-past-period claim =
+    let ts : List Task = task 2 1 2 ∷ [] in
+    let σ : ℕ → Bool = λ k. true in
+    let c = claim σ 1 (record { some = omega arith; same = λ k. refl }) ts rules 1 (omega arith) (dvd-refl 1) periods 3 (omega arith) in
+    go (c .0) (c .1) (c .2) (c .3)
+  where
+    rules : TaskRules (task 2 1 2 ∷ [])
+    rules zero l = record { work = omega arith; work-most = omega arith; period = omega arith; period-most = omega arith; due = omega arith; due-most = omega arith }
+    rules (suc i) l = absurd (omega arith)
+
+    periods : Periods (task 2 1 2 ∷ []) 1
+    periods zero l = dvd-refl 1
+    periods (suc i) l = absurd (omega arith)
+
+    go : (a : ℕ) → 1 ≤ a → a ≤ 1 → leastSupply (λ k. true) 1 a < demand (task 2 1 2 ∷ []) a → ⊥
+    go zero p l v = omega arith
+    go (suc zero) p l v = omega arith
+    go (suc (suc a)) p l v = omega arith
+
+-- W13's run of W7: each job's count is its task's D, so no count can be claimed to be less
+pub not-below-deadline : ((b : Board) (ws ts : List ℕ) (H : ℕ) → verdictAnswer b ws ts ≡ given (meets H) →
+    (n : ℕ) (js : List Job) → badJob (tasksOf ts) n js ≡ none → (j : ℕ) → j < length js → deadline (tasksOf ts) js j ≤ n →
+    getD (counts (supplied b ws) (edf (tasksOf ts) js) (tasksOf ts) js n) j 0 < (taskAt (tasksOf ts) (taskOf js j)) .D) → ⊥
+unfolding all firstBy listed piecesFrom pieces inWindow covers supplied jobLegal badJob pending tick workLeft late outcome countOf counts
+not-below-deadline claim =
+    let count : getD (counts (supplied (on 8) X) (edf (tasksOf w7) (jobsOf w13)) (tasksOf w7) (jobsOf w13) 10) 1 0 ≡ 7 = refl in
+    omega (arith, claim (on 8) X w7 8 w7-meets 10 (jobsOf w13) refl 1 (omega arith) (omega arith))
+
+-- of a run of 3 ticks both jobs are released in it, and unfinished: their deadlines are not
+pub not-each-release : ((b : Board) (ws ts : List ℕ) (H : ℕ) → verdictAnswer b ws ts ≡ given (meets H) →
+    (n : ℕ) (js : List Job) → badJob (tasksOf ts) n js ≡ none → (j : ℕ) → j < length js → releaseOf js j ≤ n →
+    1 ≤ getD (counts (supplied b ws) (edf (tasksOf ts) js) (tasksOf ts) js n) j 0) → ⊥
+unfolding all firstBy listed piecesFrom pieces inWindow covers supplied jobLegal badJob pending tick workLeft late outcome countOf counts
+not-each-release claim =
+    let count : getD (counts (supplied (on 8) X) (edf (tasksOf w7) (jobsOf w13)) (tasksOf w7) (jobsOf w13) 3) 0 0 ≡ 0 = refl in
+    omega (arith, claim (on 8) X w7 8 w7-meets 3 (jobsOf w13) refl 0 (omega arith) (omega arith))
+
+-- a miss starves not every job, but some: of W6 the first job of task 0 can well be served
+pub not-every-job : ((b : Board) (ws ts : List ℕ) (t s d p : ℕ) → verdictAnswer b ws ts ≡ given (miss t s d p) →
+    (w : Way) (i m : ℕ) → i < length (tasksOf ts) → (taskAt (tasksOf ts) i) .C ≤ givenTo (supplied b ws) w i m s t → ⊥) → ⊥
+unfolding piecesFrom pieces inWindow covers supplied supply givenTo
+not-every-job claim = claim (on 8) X w6 6 2 3 2 w6-misses (λ k. some (record { task = 0; turn = 0 })) 0 0 (omega arith) (omega arith)
