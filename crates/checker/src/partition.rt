@@ -17,7 +17,7 @@ ghost use Rattle.scope.specs.Ticks.{perFrame};
 ghost use Rattle.scope.specs.Windows.{supplied as suppliedBy};
 ghost use Rattle.scope.specs.Partition.{rises, within, lag, delay as delayBy, outage as outageBy};
 ghost use Rattle.scope.specs.Answers.{criticalOf, criticalAnswer, criticalOut, delayAnswer, outageAnswer};
-ghost use Rattle.checker.specs.Told.{boardOf, toldAmount, toldDelay};
+ghost use Rattle.checker.specs.Told.{boardOf, no, toldAmount, toldDelay};
 
 // Whether k is a tick of the frame at which the least supply rises.
 fn is_critical(board: Board, windows: &[u32], k: u32) -> bool
@@ -73,18 +73,26 @@ fn write_edges(board: Board, windows: &[u32], out: &mut [u32])
     }
 }
 
+// A refusal, to which the buffer is lent in vain: it stays as it was.
+fn refuse(r: Refusal, out: &mut [u32]) -> Amount
+    ensures answer { λ a. ⌜ toldAmount a ≡ no r ⌝ }
+    ensures buffer { λ _. ⌜ now (out .exit) ≡ now (out .entry) ⌝ }
+{
+    Amount::Refused(r)
+}
+
 // The critical partition: how many windows; two numbers a window at the front of out, the rest of out kept. Refusals 1 2 3 8.
 pub fn critical(board: Board, windows: &[u32], out: &mut [u32]) -> Amount
     ensures answer { λ r. ⌜ toldAmount r ≡ criticalAnswer (boardOf board) (now (windows .entry)) (length (now (out .entry))) ⌝ }
     ensures buffer { λ r. ⌜ now (out .exit) ≡ criticalOut (boardOf board) (now (windows .entry)) (now (out .entry)) ⌝ }
 {
     match check_table(board, windows) {
-        Checked::Bad(r) => Amount::Refused(r),
+        Checked::Bad(r) => refuse(r, out),
         Checked::Fine => {
             let numbers = count_edges(board, windows) as u64;
             let count = numbers / 2;
             if (out.len() as u64) < numbers {
-                Amount::Refused(Refusal::Room(numbers))
+                refuse(Refusal::Room(numbers), out)
             } else {
                 write_edges(board, windows, out);
                 Amount::Of(count)

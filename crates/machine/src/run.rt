@@ -23,7 +23,7 @@ ghost use Rattle.scope.specs.Machine.{edf};
 ghost use Rattle.scope.specs.Run.{ran, counts as countsBy};
 ghost use Rattle.scope.specs.Answers.{Answer.given, runFault, runAnswer, runOut};
 ghost use Rattle.theory.specs.Answers.{LegalTable};
-ghost use Rattle.checker.specs.Told.{boardOf, faultOf};
+ghost use Rattle.checker.specs.Told.{boardOf, no, faultOf};
 ghost use Rattle.machine.specs.Told.{toldRan};
 ghost use Rattle.machine.specs.Slots.{arrivedOf, goesToOf};
 ghost use Rattle.machine.specs.Relation.{Tasks, Jobs, Kept, zeros, noted, Noting};
@@ -161,6 +161,14 @@ fn check_run(
     }
 }
 
+// A refusal, to which the buffer is lent in vain: it stays as it was.
+fn refuse(r: Refusal, counts: &mut [u32]) -> Ran
+    ensures answer { λ a. ⌜ toldRan a ≡ no r ⌝ }
+    ensures buffer { λ _. ⌜ now (counts .exit) ≡ now (counts .entry) ⌝ }
+{
+    Ran::Refused(r)
+}
+
 // Runs a job list of a group on a table for n ticks: the answer, and one count for each job in the lent buffer. Refusals 1 2 3 4 5 10 11 8.
 pub fn run(
     board: Board,
@@ -174,7 +182,7 @@ pub fn run(
     ensures buffer { λ _. ⌜ now (counts .exit) ≡ runOut (boardOf board) (now (windows .entry)) (now (tasks .entry)) n (now (jobs .entry)) (now (counts .entry)) ⌝ }
 {
     match check_run(board, windows, tasks, n, jobs, counts.len()) {
-        Checked::Bad(r) => Ran::Refused(r),
+        Checked::Bad(r) => refuse(r, counts),
         Checked::Fine => run_legal(board, windows, tasks, n, jobs, counts),
     }
 }

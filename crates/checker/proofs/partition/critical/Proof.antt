@@ -13,6 +13,7 @@ use Rattle.checker.proofs.partition.critical.Tie as tie
 use Rattle.checker.proofs.partition.critical.Reads as reads
 use Rattle.checker.proofs.partition.critical.Lts as lts
 use Rattle.checker.proofs.partition.count_edges.Reads as count-edges-reads
+use Rattle.checker.proofs.partition.refuse.Reads as refuse-reads
 use Rattle.checker.proofs.partition.write_edges.Reads as write-edges-reads
 use Rattle.checker.proofs.window.check_table.Reads as check-table-reads
 
@@ -20,56 +21,74 @@ use Rattle.checker.proofs.window.check_table.Reads as check-table-reads
 fine-at : (c : tie.After-enum-told) → let a = c .before .before .before .before .before .args in tableFault (boardOf (a .board)) (a .windows .now) ≡ fine
 fine-at c = sym (c .before .before .check-table .ensures) ∙ ap faultOf (c .enum-told .given .1)
 
--- src/partition.rt:80:11
+-- src/partition.rt:89:11
 check-table-requires : tie.Need-check-table-requires
 check-table-requires c κs = search needs
 
--- src/partition.rt:81:22
+-- src/partition.rt:90:22
 enum-known-r : tie.Need-enum-known-r
 enum-known-r c = search needs
 
--- src/partition.rt:83:17
+-- src/partition.rt:90:28
+refuse-requires : tie.Need-refuse-requires
+refuse-requires c κs = search needs
+
+-- src/partition.rt:92:27
 enum-told : tie.Need-enum-told
 enum-told c = search needs
 
--- src/partition.rt:83:17
+-- src/partition.rt:92:27
 count-edges-requires : tie.Need-count-edges-requires
 count-edges-requires c κs = let w = table-legal _ _ (fine-at c) in omega arith
 
--- src/partition.rt:84:28
+-- src/partition.rt:92:27
 cast-numbers : tie.Need-cast-numbers
 cast-numbers c = search needs
 
--- src/partition.rt:87:17
+-- src/partition.rt:95:17
+refuse-requires-2 : tie.Need-refuse-requires-2
+refuse-requires-2 c κs = search needs
+
+-- src/partition.rt:97:17
 write-edges-requires : tie.Need-write-edges-requires
 write-edges-requires c κs =
     let w = table-legal _ _ (fine-at (c .before .before .before)) in
     (omega arith, omega arith, omega (arith, c .before .before .count-edges .ensures, c .before .if1 .left))
 
--- src/partition.rt:76:1
-returns : tie.Need-returns
-unfolding criticalAnswer criticalOut
-returns c =
-    let a = c .before .before .before .before .before .before .args in
-    let e = sym (c .before .before .before .check-table .ensures) ∙ ap faultOf (c .before .r .given .1) in
-    let f = critical-table (boardOf (a .board)) (a .windows .now) (length (a .out .now)) e in
-    (refused-by _ _ f, kept-by _ _ _ f)
-
--- src/partition.rt:76:1
-returns-2 : tie.Need-returns-2
-unfolding criticalAnswer criticalOut
-returns-2 c =
-    let a = c .before .before .before .before .before .before .before .args in
-    let e = c .before .count-edges .ensures in
-    let h : length (a .out .now) < length (criticalOf (boardOf (a .board)) (a .windows .now)) = omega (arith, e, c .if1 .taken) in
-    let f = critical-short (boardOf (a .board)) (a .windows .now) (length (a .out .now)) (fine-at (c .before .before)) h in
-    (ap (refused 8) e ∙ refused-by _ _ f, kept-by _ _ _ f)
-
--- src/partition.rt:76:1
+-- src/partition.rt:85:1
 same-length : tie.Need-same-length
 same-length c = search needs
 
--- src/partition.rt:76:1
+-- src/partition.rt:85:1
+returns : tie.Need-returns
+unfolding criticalAnswer criticalOut
+returns c =
+    let a = c .before .before .before .before .before .before .before .before .before .before .args in
+    let e = sym (c .before .before .before .before .before .before .before .check-table .ensures) ∙ ap faultOf (c .before .before .before .before .before .r .given .1) in
+    let f = critical-table (boardOf (a .board)) (a .windows .now) (length (a .out .now)) e in
+    let x = c .before .before .refuse .ensures in
+    (x .0 ∙ refused-by _ _ f, x .1 ∙ kept-by _ _ _ f)
+
+-- src/partition.rt:85:1
+same-length-2 : tie.Need-same-length-2
+same-length-2 c = search needs
+
+-- src/partition.rt:85:1
+returns-2 : tie.Need-returns-2
+unfolding criticalAnswer criticalOut
+returns-2 c =
+    let a = c .before .before .before .before .before .before .before .before .before .before .before .args in
+    let e = c .before .before .before .before .before .count-edges .ensures in
+    let h : length (a .out .now) < length (criticalOf (boardOf (a .board)) (a .windows .now)) = omega (arith, e, c .before .before .before .before .if1 .taken) in
+    let f = critical-short (boardOf (a .board)) (a .windows .now) (length (a .out .now)) (fine-at (c .before .before .before .before .before .before)) h in
+    let x = c .before .before .refuse2 .ensures in
+    (x .0 ∙ ap (refused 8) e ∙ refused-by _ _ f, x .1 ∙ kept-by _ _ _ f)
+
+-- src/partition.rt:85:1
+same-length-3 : tie.Need-same-length-3
+same-length-3 c = search needs
+
+-- src/partition.rt:85:1
 returns-3 : tie.Need-returns-3
 unfolding criticalAnswer criticalOut
 returns-3 c =
@@ -85,11 +104,15 @@ critical-spec =
     (tie.spec
     check-table-requires
     enum-known-r
+    refuse-requires
     enum-told
     count-edges-requires
     cast-numbers
+    refuse-requires-2
     write-edges-requires
-    returns
-    returns-2
     same-length
+    returns
+    same-length-2
+    returns-2
+    same-length-3
     returns-3)
