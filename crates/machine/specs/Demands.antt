@@ -1,7 +1,8 @@
--- The demands, of what `verdict` and `run` answer. Every premise is what the two promise, and that they did not refuse
+-- The demands, of what `verdict` and `run` answer. Every premise is what the two promise, and whether they refused
 use Prim.Native.Nat.{ℕ, _≤_, _<_}
 use mathlib.Core.Path.{_≡_, sym, ap, _∙_}
 use mathlib.Core.Logic.{_↔_}
+use mathlib.Core.Option.{none}
 use mathlib.Core.List.{List}
 use lib.ListN.{length, getD}
 use Rattle.scope.specs.Ticks.{leastSupply}
@@ -9,26 +10,35 @@ use Rattle.scope.specs.Windows.{supplied}
 use Rattle.scope.specs.Tasks.{tasksOf, taskAt, demand}
 use Rattle.scope.specs.Cycle.{cycle}
 use Rattle.scope.specs.Verdict as Verdicts
-use Rattle.scope.specs.Jobs.{jobsOf, taskOf, deadline}
+use Rattle.scope.specs.Jobs.{Job, jobsOf, taskOf, deadline, badJob}
 use Rattle.scope.specs.Machine.{edf}
-use Rattle.scope.specs.Run.{backlog, ran, counts}
+use Rattle.scope.specs.Run.{backlog, countOf, ran, counts}
 use Rattle.scope.specs.Answers.{Answer.given, Fault.fine, _orElse_, tableFault, groupFault, cycleFault, jobListFault, jobFault, roomFault, verdictAnswer, runFault, runAnswer, runOut}
-use Rattle.scope.specs.Demands.{LeastMiss, Way, Served}
+use Rattle.scope.specs.Demands.{LeastMiss, Under, Way, Served}
 use Rattle.theory.specs.Answers.{faultAt-fine, orElse-fine, unless-given}
 use Rattle.theory.specs.Buffers.{written-at}
 use Rattle.theory.specs.Run.{listed-length}
 use Rattle.theory.specs.Exact.{exact-meets, exact-miss}
-use Rattle.theory.specs.Edf.{edf-meets}
+use Rattle.theory.specs.Edf.{edf-meets, edf-every}
 use Rattle.theory.specs.Starved.{starved}
+use Rattle.theory.specs.Refused.{run-kept}
 use Rattle.checker.specs.declared.board.Board.{Board}
+use Rattle.checker.specs.declared.answer.Refusal.{Refusal}
 use Rattle.checker.specs.declared.answer.Verdict.{Verdict}
 use Rattle.checker.specs.declared.answer.Verdict.the-variants.{Meets, Miss}
-use Rattle.checker.specs.Told.{boardOf, toldVerdict}
+use Rattle.checker.specs.Told.{number, place, boardOf, toldVerdict}
 use Rattle.checker.specs.Determined.{verdict-determined}
 use Rattle.machine.specs.declared.run.Ran.{Ran}
-use Rattle.machine.specs.declared.run.Ran.the-variants.{Met}
+use Rattle.machine.specs.declared.run.Ran.the-variants.{Met, Refused}
 use Rattle.machine.specs.Told.{toldRan}
 use Rattle.machine.specs.Determined.{ran-determined}
+
+-- demand 1: where `run` refuses, the lent buffer is as it was
+pub run-refused : (b : Board) (ws ts : List ℕ) (n : ℕ) (js out left : List ℕ) (r : Ran) →
+    toldRan r ≡ runAnswer (boardOf b) ws ts n js (length out) → left ≡ runOut (boardOf b) ws ts n js out →
+    (e : Refusal) → r ≡ Refused e → left ≡ out
+run-refused b ws ts n js out left r told wrote e is =
+    wrote ∙ run-kept (number e) (place e) (boardOf b) ws ts n js out (sym told ∙ ap toldRan is)
 
 given-is : {A : Type 0} {x y : A} → given x ≡ given y → x ≡ y
 given-is e = cc
@@ -74,6 +84,15 @@ module _ (b : Board) (ws ts : List ℕ) (v : Verdict) (promised : toldVerdict v 
         (backlog σ before (jobsOf js) n, ran-determined r (Met (backlog σ before (jobsOf js) n)) (told ∙ rw (f, e .0))),
         λ j l d. rw (kept, f, written-at (counts σ before (tasksOf ts) (jobsOf js) n) out j (rw (listed-length) l)) (e .1 j l d),
       )
+
+  -- and so is every run under earliest deadline first, whichever of several earliest jobs it serves, of any length and of any legal job list
+  pub meets-every : (h : ℕ) → v ≡ Meets h →
+      (n : ℕ) (js : List Job) → badJob (tasksOf ts) n js ≡ none →
+      (left : ℕ → List ℕ) → Under (supplied (boardOf b) ws) js (deadline (tasksOf ts) js) left →
+      (j : ℕ) → j < length js → deadline (tasksOf ts) js j ≤ n →
+      (getD (left (deadline (tasksOf ts) js j)) j 0 ≡ 0)
+      × (1 ≤ countOf left js n j) × (countOf left js n j ≤ (taskAt (tasksOf ts) (taskOf js j)) .D)
+  meets-every h m = edf-every (boardOf b) ws ts h (answers (Verdicts.meets h) (ap toldVerdict m))
 
   -- (d) after a miss, no way of giving out the supplied ticks serves all the full jobs that are due by the end of the length
   pub miss-starves : (t s d p : ℕ) → v ≡ Miss t s d p →

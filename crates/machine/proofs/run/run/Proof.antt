@@ -10,6 +10,7 @@ use Rattle.machine.proofs.run.run.Tie as tie
 use Rattle.machine.proofs.run.run.Reads as reads
 use Rattle.machine.proofs.run.run.Lts as lts
 use Rattle.machine.proofs.run.check_run.Reads as check-run-reads
+use Rattle.machine.proofs.run.refuse.Reads as refuse-reads
 use Rattle.machine.proofs.run.run_legal.Reads as run-legal-reads
 
 -- all checks have passed
@@ -17,34 +18,43 @@ run-fine : (c : tie.After-enum-told) → let a = c .before .before .before .befo
     runFault (boardOf (a .board)) (a .windows .now) (a .tasks .now) (a .n) (a .jobs .now) (length (a .counts .now)) ≡ fine
 run-fine c = sym (c .before .before .check-run .ensures) ∙ ap faultOf (c .enum-told .given .1)
 
--- src/run.rt:175:11
+-- src/run.rt:184:11
 check-run-requires : tie.Need-check-run-requires
 check-run-requires c κs = search needs
 
--- src/run.rt:176:22
+-- src/run.rt:185:22
 enum-known-r : tie.Need-enum-known-r
 enum-known-r c = search needs
 
--- src/run.rt:177:68
+-- src/run.rt:185:28
+refuse-requires : tie.Need-refuse-requires
+refuse-requires c κs = search needs
+
+-- src/run.rt:186:68
 enum-told : tie.Need-enum-told
 enum-told c = search needs
 
--- src/run.rt:177:26
+-- src/run.rt:186:26
 run-legal-requires : tie.Need-run-legal-requires
 run-legal-requires c κs = legal-run _ _ _ _ _ _ (run-fine (c .before))
 
--- src/run.rt:164:1
-returns : tie.Need-returns
-unfolding runAnswer runOut
-returns c =
-    let e = sym (c .before .before .before .check-run .ensures) ∙ ap faultOf (c .before .r .given .1) in
-    (refused-by _ _ e, kept-by _ _ _ e)
-
--- src/run.rt:164:1
+-- src/run.rt:173:1
 same-length : tie.Need-same-length
 same-length c = search needs
 
--- src/run.rt:164:1
+-- src/run.rt:173:1
+returns : tie.Need-returns
+unfolding runAnswer runOut
+returns c =
+    let e = sym (c .before .before .before .before .before .before .before .check-run .ensures) ∙ ap faultOf (c .before .before .before .before .before .r .given .1) in
+    let x = c .before .before .refuse .ensures in
+    (x .0 ∙ refused-by _ _ e, x .1 ∙ kept-by _ _ _ e)
+
+-- src/run.rt:173:1
+same-length-2 : tie.Need-same-length-2
+same-length-2 c = search needs
+
+-- src/run.rt:173:1
 returns-2 : tie.Need-returns-2
 unfolding runAnswer runOut
 returns-2 c =
@@ -58,8 +68,10 @@ run-spec =
     (tie.spec
     check-run-requires
     enum-known-r
+    refuse-requires
     enum-told
     run-legal-requires
-    returns
     same-length
+    returns
+    same-length-2
     returns-2)
