@@ -1,11 +1,11 @@
 // Answers a stream of queries on standard input, a line each: docs/ASK.md.
-mod entries;
-mod stream;
-
+use crate::entries;
+use crate::input;
+use crate::lines;
+use crate::stream::Cursor;
+use crate::stream::any;
+use crate::stream::bad;
 use libc::STDIN_FILENO;
-use stream::Cursor;
-use stream::any;
-use stream::bad;
 
 // One query: its code, then its arguments.
 fn query(stream: &[u8], from: Cursor) -> Cursor {
@@ -46,7 +46,7 @@ fn queries(stream: &[u8]) -> Cursor {
     cursor
 }
 
-fn main() {
+pub(crate) fn answer_stream() {
     let mut space = io::large_buffer();
     let got = input::read_on(STDIN_FILENO, &mut space);
     if got < 0 {

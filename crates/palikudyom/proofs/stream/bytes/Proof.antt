@@ -3,8 +3,8 @@ use Prim.Native.Nat.{_-_, _≤_}
 use lib.ListN.{length}
 use Rattle.io.proofs.Counting.{counts}
 use mathlib.Core.Path.{_≡_}
-use Rattle.ask.proofs.stream.bytes.Statement.{statement}
-use Rattle.ask.proofs.stream.bytes.Tie as tie
+use Rattle.palikudyom.proofs.stream.bytes.Statement.{statement}
+use Rattle.palikudyom.proofs.stream.bytes.Tie as tie
 
 abbrev Inv-loop : tie.InvT-loop
 Inv-loop stream out₀ count after₀ i₀ out after i = (i ≤ count) × (count ≤ length out₀) × (length out ≡ length out₀)

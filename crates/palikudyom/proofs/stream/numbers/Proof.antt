@@ -2,8 +2,8 @@ use borrow.Author.Needs.{needs}
 use Prim.Native.Nat.{_-_, _≤_}
 use lib.ListN.{length}
 use mathlib.Core.Path.{_≡_}
-use Rattle.ask.proofs.stream.numbers.Statement.{statement}
-use Rattle.ask.proofs.stream.numbers.Tie as tie
+use Rattle.palikudyom.proofs.stream.numbers.Statement.{statement}
+use Rattle.palikudyom.proofs.stream.numbers.Tie as tie
 
 abbrev Inv-loop : tie.InvT-loop
 Inv-loop stream count out₀ after₀ i₀ out after i = (i ≤ count) × (length out ≡ length out₀)

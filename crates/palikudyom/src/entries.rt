@@ -1,5 +1,6 @@
 // One function for each entry: it reads the entry's arguments, calls it and prints its line; where an argument is bad, it prints nothing. The
 // cursor that it answers stands after the query, or at the bad number.
+use crate::lines;
 use crate::stream::Cursor;
 use crate::stream::Listed;
 use crate::stream::any;
