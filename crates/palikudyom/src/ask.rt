@@ -6,6 +6,17 @@ use crate::stream::Cursor;
 use crate::stream::any;
 use crate::stream::bad;
 use libc::STDIN_FILENO;
+ghost use mathlib.Core.Path.{_≡_};
+ghost use lib.ListN.{length};
+
+// Only so many bytes of a stream are used.
+const MOST: usize = 65536;
+
+fn space() -> [u8; MOST]
+    ensures { λ r. do ⌜ (← ⟦MOST⟧ .entry) ≡ length r ⌝ }
+{
+    [0; MOST]
+}
 
 // One query: its code, then its arguments.
 fn query(stream: &[u8], from: Cursor) -> Cursor {
@@ -47,7 +58,7 @@ fn queries(stream: &[u8]) -> Cursor {
 }
 
 pub(crate) fn answer_stream() {
-    let mut space = io::large_buffer();
+    let mut space = space();
     let got = input::read_on(STDIN_FILENO, &mut space);
     if got < 0 {
         os::fail(b"standard input");

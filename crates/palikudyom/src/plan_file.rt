@@ -1,11 +1,12 @@
 // The line of a plan file.
 use crate::input;
 use crate::lines;
+use plan::check::buffer;
 use plan::check::check_plan;
 
-// A plan has at most 1,127 bytes, and a longer file answers as its first 1,128 (theory/Plan, `first-bytes`): no more are read.
+// The buffer is enough for any answer: what a longer file has after it is not read.
 pub(crate) fn check(fd: i32, name: &[u8]) {
-    let mut bytes = [0u8; 1128];
+    let mut bytes = buffer();
     let got = input::read_on(fd, &mut bytes);
     if got < 0 {
         os::fail(name);
