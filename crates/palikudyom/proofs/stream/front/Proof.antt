@@ -3,7 +3,6 @@ use Rattle.io.proofs.Counting.{counts}
 use Rattle.palikudyom.proofs.stream.front.Statement.{statement}
 use Rattle.palikudyom.proofs.stream.front.Tie as tie
 
--- src/stream.rt:71:1
 returns : tie.Need-returns
 returns c = counts _ _ (search needs)
 
