@@ -39,11 +39,11 @@ usage: oracle answer < stream       answer a query stream, a line each
                                     compare with a command's answers to random streams
        oracle enumerate [COMMAND ...]
                                     compare with its verdicts of every small input
-COMMAND is `tools/run-program ask` unless it is given.
+COMMAND is `tools/run-program palikudyom --ask` unless it is given.
 ";
 
 /// The command that answers streams by the first program.
-const FIRST_PROGRAM: [&str; 2] = ["tools/run-program", "ask"];
+const FIRST_PROGRAM: [&str; 3] = ["tools/run-program", "palikudyom", "--ask"];
 
 fn main() -> ExitCode {
     let arguments: Vec<String> = std::env::args().skip(1).collect();

@@ -9,10 +9,24 @@ use checker::task::Task;
 use checker::verdict::verdict;
 use checker::window::Window;
 ghost use mathlib.Core.Path.{_≡_};
+ghost use Prim.Native.Nat.{_+_};
+ghost use lib.ListN.{replicate};
 ghost use Rattle.scope.specs.Answers.{Answer.refused};
 ghost use Rattle.scope.specs.Plan.{andThen, windowsFrom, tasksFrom, planAnswer};
+ghost use Rattle.theory.specs.Plan.{mostPlanBytes};
 ghost use Rattle.checker.specs.Told.{toldVerdict};
 ghost use Rattle.plan.specs.Parts.{judged};
+
+// The bytes of the longest plan: P has at most five, the two counts have one each, and each number of a window or a task has at most five.
+pub const LONGEST: usize = 5 * (1 + 2 * Window::MOST + 3 * Task::MOST) + 2;
+
+// What a plan file is read to. It has one byte more than the longest plan, so that a longer file answers as what is read of it (theory/Plan,
+// `first-answer`).
+pub fn buffer() -> [u8; LONGEST + 1]
+    ensures { λ r. ⌜ r ≡ replicate (mostPlanBytes + 1) 0 ⌝ }
+{
+    [0; LONGEST + 1]
+}
 
 // Refusal 9.
 fn nine(offset: usize) -> Verdict

@@ -1,4 +1,5 @@
 // The bytes of a plan. Document 01, "The plan file and its line".
+use crate::check::LONGEST;
 use crate::text::deliver;
 use checker::answer::Amount;
 use checker::answer::Checked;
@@ -8,14 +9,11 @@ use checker::window::Window;
 use checker::window::check_window_list;
 ghost use mathlib.Core.Path.{_≡_};
 ghost use mathlib.Core.List.{_++_};
-ghost use Prim.Native.Nat.{_+_, _*_, _/_, _≤_};
+ghost use Prim.Native.Nat.{_+_, _*_, _/_, _≤_, _<_};
 ghost use lib.ListN.{length};
 ghost use Rattle.scope.specs.Plan.{numberBytes, numbersBytes, planBytes, writeAnswer, writeOut};
 ghost use Rattle.checker.specs.Told.{toldAmount};
 ghost use Rattle.plan.specs.Put.{Put};
-
-// P, two counts, the windows and the tasks, of five bytes each at most.
-const MOST: usize = 5 * (3 + 2 * Window::MOST + 3 * Task::MOST);
 
 // Seven bits a byte, the low ones first, the top bit set on every byte but the last.
 fn put_number(out: &mut [u8], at: usize, n: u32) -> usize
@@ -44,20 +42,20 @@ fn put_numbers(out: &mut [u8], at: usize, list: &[u32]) -> usize
     next
 }
 
-// How many windows or tasks, then their numbers.
+// How many windows or tasks, in one byte, then their numbers.
 fn put_counted(out: &mut [u8], at: usize, count: u32, list: &[u32]) -> usize
-    requires { ⌜ at + 5 + 5 * length (now list) ≤ length (now out) ⌝ }
+    requires { ⌜ (count < 128) × (at + 1 + 5 * length (now list) ≤ length (now out)) ⌝ }
     ensures text { λ r. ⌜ Put (now (out .entry)) (now (out .exit)) at r (numberBytes count ++ numbersBytes (now (list .entry))) ⌝ }
-    ensures most { λ r. ⌜ r ≤ at + 5 + 5 * length (now (list .entry)) ⌝ }
+    ensures most { λ r. ⌜ r ≤ at + 1 + 5 * length (now (list .entry)) ⌝ }
 {
     let mid = put_number(out, at, count);
     put_numbers(out, mid, list)
 }
 
 fn put_plan(out: &mut [u8], frame: u32, windows: &[u32], tasks: &[u32]) -> usize
-    requires { do ⌜ (length (now windows) ≤ 2 * (← ⟦Window::MOST⟧)) × (length (now tasks) ≤ 3 * (← ⟦Task::MOST⟧)) × ((← ⟦MOST⟧) ≤ length (now out)) ⌝ }
+    requires { do ⌜ (length (now windows) ≤ 2 * (← ⟦Window::MOST⟧)) × (length (now tasks) ≤ 3 * (← ⟦Task::MOST⟧)) × ((← ⟦LONGEST⟧) ≤ length (now out)) ⌝ }
     ensures text { λ r. ⌜ Put (now (out .entry)) (now (out .exit)) 0 r (planBytes (record { frame = frame; windows = now (windows .entry); tasks = now (tasks .entry) })) ⌝ }
-    ensures most { λ r. do ⌜ r ≤ (← ⟦MOST⟧ .entry) ⌝ }
+    ensures most { λ r. do ⌜ r ≤ (← ⟦LONGEST⟧ .entry) ⌝ }
 {
     let a = put_number(out, 0, frame);
     let b = put_counted(out, a, (windows.len() / 2) as u32, windows);
@@ -74,7 +72,7 @@ pub fn write_plan(frame: u32, windows: &[u32], tasks: &[u32], out: &mut [u8]) ->
     match table.or_else(group) {
         Checked::Bad(r) => Amount::Refused(r),
         Checked::Fine => {
-            let mut text = [0u8; MOST];
+            let mut text = [0u8; LONGEST];
             let end = put_plan(&mut text, frame, windows, tasks);
             deliver(&text[..end], out)
         }

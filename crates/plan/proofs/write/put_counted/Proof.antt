@@ -11,11 +11,11 @@ use Rattle.plan.proofs.write.put_numbers.Reads as put-numbers-reads
 
 -- src/write.rt:53:9
 put-number-requires : tie.Need-put-number-requires
-put-number-requires c κs = omega (arith, number-short 4 (c .before .before .before .args .count) (omega arith))
+put-number-requires c κs = omega (arith, number-short 0 (c .before .before .before .args .count) (omega arith))
 
 -- src/write.rt:54:5
 put-numbers-requires : tie.Need-put-numbers-requires
-put-numbers-requires c κs = let p = c .before .before .before .put-number .ensures in omega (arith, p .end, put-length p, number-short 4 (c .before .before .before .before .before .before .before .args .count) (omega arith))
+put-numbers-requires c κs = let p = c .before .before .before .put-number .ensures in omega (arith, p .end, put-length p, number-short 0 (c .before .before .before .before .before .before .before .args .count) (omega arith))
 
 -- src/write.rt:48:1
 same-length : tie.Need-same-length
@@ -26,7 +26,7 @@ returns : tie.Need-returns
 returns c =
     let p = c .before .before .before .before .before .before .put-number .ensures in
     let q = c .before .before .put-numbers .ensures in
-    (both p (q .0), omega (arith, p .end, q .1, number-short 4 (c .before .before .before .before .before .before .before .before .before .before .args .count) (omega arith)))
+    (both p (q .0), omega (arith, p .end, q .1, number-short 0 (c .before .before .before .before .before .before .before .before .before .before .args .count) (omega arith)))
 
 pub put-counted-spec : {M : Type 1} → statement M
 put-counted-spec =

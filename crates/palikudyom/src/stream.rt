@@ -1,9 +1,21 @@
 // The numbers of a query stream, one after the other. A bad one stops the reading: from there on nothing is read and every number is 0.
 use plan::number::Number;
 use plan::number::read_number;
-ghost use Prim.Native.Nat.{_≤_};
+ghost use Prim.Native.Nat.{_*_, _≤_};
 ghost use lib.ListN.{length};
 ghost use Rattle.io.specs.Counts.{Counts};
+
+// Windows and tasks have at most so many numbers.
+pub(crate) const NUMBERS: u32 = 200;
+
+// Jobs, and what is lent for an entry to write to, have at most so many numbers.
+pub(crate) const JOBS: u32 = 12400;
+
+// A group has at most so many task records.
+const RECORDS: u32 = 40;
+
+// A plan has at most so many bytes.
+pub(crate) const BYTES: u32 = 4096;
 
 // Where the next number begins; or, where the reading is stopped, the bad one.
 pub(crate) struct Cursor {
@@ -101,33 +113,33 @@ pub(crate) fn list(stream: &[u8], from: Cursor, most: u32, out: &mut [u32]) -> L
     front(out, count, after)
 }
 
-// Task records: first how many, at most 40, then three numbers each.
+// Task records: first how many, then three numbers each.
 pub(crate) fn records(stream: &[u8], from: Cursor, out: &mut [u32]) -> Listed
-    requires { ⌜ 120 ≤ length (now out) ⌝ }
+    requires { do ⌜ 3 * (← ⟦RECORDS⟧) ≤ length (now out) ⌝ }
     ensures { λ r. ⌜ Counts (r .count) (now (out .exit)) ⌝ }
 {
-    let size = number(stream, from, 40);
+    let size = number(stream, from, RECORDS);
     let count = 3 * size.value as usize;
     let after = numbers(stream, size.after, count, out);
     front(out, count, after)
 }
 
-// How many numbers of a lent buffer are lent: at most all 12,400.
+// How many numbers of a lent buffer are lent: at most all.
 pub(crate) fn room(stream: &[u8], from: Cursor, out: &[u32]) -> Listed
-    requires { ⌜ 12400 ≤ length (now out) ⌝ }
+    requires { do ⌜ (← ⟦JOBS⟧) ≤ length (now out) ⌝ }
     ensures { λ r. ⌜ Counts (r .count) (now (out .entry)) ⌝ }
 {
-    let size = number(stream, from, 12400);
+    let size = number(stream, from, JOBS);
     let count = size.value as usize;
     front(out, count, size.after)
 }
 
-// Plan bytes: first how many, at most 4,096, then each as a number of at most 255.
+// Plan bytes: first how many, then each as a number of at most 255.
 pub(crate) fn bytes(stream: &[u8], from: Cursor, out: &mut [u8]) -> Listed
-    requires { ⌜ 4096 ≤ length (now out) ⌝ }
+    requires { do ⌜ (← ⟦BYTES⟧) ≤ length (now out) ⌝ }
     ensures { λ r. ⌜ Counts (r .count) (now (out .exit)) ⌝ }
 {
-    let size = number(stream, from, 4096);
+    let size = number(stream, from, BYTES);
     let count = size.value as usize;
     let mut after = size.after;
     let mut i = 0;

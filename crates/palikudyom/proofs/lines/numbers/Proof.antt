@@ -1,12 +1,12 @@
 use borrow.Author.Needs.{needs}
 use Prim.Native.Nat.{_-_}
 use lib.ListN.{length}
-use Rattle.lines.proofs.numbers.Statement.{statement}
-use Rattle.lines.proofs.numbers.Tie as tie
-use Rattle.lines.proofs.numbers.Reads as reads
-use Rattle.lines.proofs.numbers.Lts as lts
-use Rattle.lines.proofs.part.Reads as part-reads
-use Rattle.lines.proofs.wide.Reads as wide-reads
+use Rattle.palikudyom.proofs.lines.numbers.Statement.{statement}
+use Rattle.palikudyom.proofs.lines.numbers.Tie as tie
+use Rattle.palikudyom.proofs.lines.numbers.Reads as reads
+use Rattle.palikudyom.proofs.lines.numbers.Lts as lts
+use Rattle.palikudyom.proofs.lines.part.Reads as part-reads
+use Rattle.palikudyom.proofs.lines.wide.Reads as wide-reads
 
 abbrev Inv-loop : tie.InvT-loop
 Inv-loop list i₀ t3 i = Unit {0}
@@ -14,43 +14,33 @@ Inv-loop list i₀ t3 i = Unit {0}
 abbrev μ-loop : tie.MeasureT-loop
 μ-loop list i₀ t3 i = length list - i
 
--- src/lib.rt:30:5
 loop-holds : tie.Need-loop-holds Inv-loop μ-loop
 loop-holds c = search needs
 
--- src/lib.rt:31:14
 slice-aggregate-part : tie.Need-slice-aggregate-part Inv-loop μ-loop
 slice-aggregate-part c = search needs
 
--- src/lib.rt:31:25
 mul-wide : tie.Need-mul-wide Inv-loop μ-loop
 mul-wide c = search needs
 
--- src/lib.rt:31:25
 shared-slice-read-wide : tie.Need-shared-slice-read-wide Inv-loop μ-loop
 shared-slice-read-wide c = search needs
 
--- src/lib.rt:31:20
 wide-requires : tie.Need-wide-requires Inv-loop μ-loop
 wide-requires c κs = search needs
 
--- src/lib.rt:31:9
 part-requires : tie.Need-part-requires Inv-loop μ-loop
 part-requires c κs = search needs
 
--- src/lib.rt:32:9
 add-i : tie.Need-add-i Inv-loop μ-loop
 add-i c = search needs
 
--- src/lib.rt:30:5
 loop-less : tie.Need-loop-less Inv-loop μ-loop
 loop-less c = search needs
 
--- src/lib.rt:30:5
 loop-again : tie.Need-loop-again Inv-loop μ-loop
 loop-again c = search needs
 
--- src/lib.rt:28:1
 returns : tie.Need-returns Inv-loop μ-loop
 returns c = search needs
 

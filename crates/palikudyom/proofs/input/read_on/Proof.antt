@@ -7,8 +7,8 @@ use mir.Val.{toZ}
 use Rattle.libc.specs.Io.{Moved}
 use lib.ListN.{length}
 use mathlib.Core.Path.{_≡_}
-use Rattle.input.proofs.read_on.Statement.{statement}
-use Rattle.input.proofs.read_on.Tie as tie
+use Rattle.palikudyom.proofs.input.read_on.Statement.{statement}
+use Rattle.palikudyom.proofs.input.read_on.Tie as tie
 
 -- a count of a slice's bytes is a signed number too
 moved : (n m : ℕ) → n < 2 ^ 63 → n ≤ m → Moved m (toZ w64 n)
@@ -20,55 +20,42 @@ Inv-loop fd buffer₀ filled₀ buffer filled = (filled ≤ length buffer₀) ×
 abbrev μ-loop : tie.MeasureT-loop
 μ-loop fd buffer₀ filled₀ buffer filled = length buffer₀ - filled
 
--- src/lib.rt:11:5
 loop-holds : tie.Need-loop-holds Inv-loop μ-loop
 loop-holds c = search needs
 
--- src/lib.rt:13:34
 slice-aggregate-read : tie.Need-slice-aggregate-read Inv-loop μ-loop
 slice-aggregate-read c = search needs
 
--- src/lib.rt:13:13
 read-requires : tie.Need-read-requires Inv-loop μ-loop
 read-requires c κs = search needs
 
--- src/lib.rt:15:13
 same-length : tie.Need-same-length Inv-loop μ-loop
 same-length c = search needs
 
--- src/lib.rt:15:13
 returns : tie.Need-returns Inv-loop μ-loop
 returns c = search needs
 
--- src/lib.rt:20:26
 array-read-buffer : tie.Need-array-read-buffer Inv-loop μ-loop
 array-read-buffer c = search needs
 
--- src/lib.rt:20:9
 slice-write-buffer : tie.Need-slice-write-buffer Inv-loop μ-loop
 slice-write-buffer c = search needs
 
--- src/lib.rt:21:9
 add-filled : tie.Need-add-filled Inv-loop μ-loop
 add-filled c = search needs
 
--- src/lib.rt:11:5
 loop-less : tie.Need-loop-less Inv-loop μ-loop
 loop-less c = search needs
 
--- src/lib.rt:11:5
 loop-again : tie.Need-loop-again Inv-loop μ-loop
 loop-again c = search needs
 
--- src/lib.rt:23:5
 cast-result : tie.Need-cast-result Inv-loop μ-loop
 cast-result c = search needs
 
--- src/lib.rt:7:1
 same-length-2 : tie.Need-same-length-2 Inv-loop μ-loop
 same-length-2 c = search needs
 
--- src/lib.rt:7:1
 returns-2 : tie.Need-returns-2 Inv-loop μ-loop
 returns-2 c = moved (c .before .loop .filled) _ (omega arith) (omega arith)
 

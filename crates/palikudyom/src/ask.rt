@@ -1,11 +1,22 @@
 // Answers a stream of queries on standard input, a line each: docs/ASK.md.
-mod entries;
-mod stream;
-
+use crate::entries;
+use crate::input;
+use crate::lines;
+use crate::stream::Cursor;
+use crate::stream::any;
+use crate::stream::bad;
 use libc::STDIN_FILENO;
-use stream::Cursor;
-use stream::any;
-use stream::bad;
+ghost use mathlib.Core.Path.{_≡_};
+ghost use lib.ListN.{length};
+
+// Only so many bytes of a stream are used.
+const MOST: usize = 65536;
+
+fn space() -> [u8; MOST]
+    ensures { λ r. do ⌜ (← ⟦MOST⟧ .entry) ≡ length r ⌝ }
+{
+    [0; MOST]
+}
 
 // One query: its code, then its arguments.
 fn query(stream: &[u8], from: Cursor) -> Cursor {
@@ -46,8 +57,8 @@ fn queries(stream: &[u8]) -> Cursor {
     cursor
 }
 
-fn main() {
-    let mut space = io::large_buffer();
+pub(crate) fn answer_stream() {
+    let mut space = space();
     let got = input::read_on(STDIN_FILENO, &mut space);
     if got < 0 {
         os::fail(b"standard input");

@@ -1,6 +1,6 @@
 use borrow.Author.Needs.{needs}
-use Rattle.ask.proofs.queries.Statement.{statement}
-use Rattle.ask.proofs.queries.Tie as tie
+use Rattle.palikudyom.proofs.ask.queries.Statement.{statement}
+use Rattle.palikudyom.proofs.ask.queries.Tie as tie
 
 abbrev Inv-loop : tie.InvT-loop
 Inv-loop stream cursor₀ left₀ cursor left = Unit {0}
@@ -8,35 +8,27 @@ Inv-loop stream cursor₀ left₀ cursor left = Unit {0}
 abbrev μ-loop : tie.MeasureT-loop
 μ-loop stream cursor₀ left₀ cursor left = left
 
--- src/main.rt:37:5
 loop-holds : tie.Need-loop-holds Inv-loop μ-loop
 loop-holds c = tt
 
--- src/main.rt:38:9
 query-requires : tie.Need-query-requires Inv-loop μ-loop
 query-requires c κs = search needs
 
--- src/main.rt:39:9
 sub-left : tie.Need-sub-left Inv-loop μ-loop
 sub-left c = search needs
 
--- src/main.rt:37:5
 loop-less : tie.Need-loop-less Inv-loop μ-loop
 loop-less c = search needs
 
--- src/main.rt:37:5
 loop-again : tie.Need-loop-again Inv-loop μ-loop
 loop-again c = tt
 
--- src/main.rt:34:1
 returns : tie.Need-returns Inv-loop μ-loop
 returns c = search needs
 
--- src/main.rt:34:1
 returns-2 : tie.Need-returns-2 Inv-loop μ-loop
 returns-2 c = search needs
 
--- src/main.rt:34:1
 returns-3 : tie.Need-returns-3 Inv-loop μ-loop
 returns-3 c = search needs
 

@@ -2,8 +2,8 @@ use borrow.Author.Needs.{needs}
 use Prim.Native.Nat.{_-_, _≤_}
 use lib.ListN.{length}
 use mathlib.Core.Path.{_≡_}
-use Rattle.ask.proofs.stream.numbers.Statement.{statement}
-use Rattle.ask.proofs.stream.numbers.Tie as tie
+use Rattle.palikudyom.proofs.stream.numbers.Statement.{statement}
+use Rattle.palikudyom.proofs.stream.numbers.Tie as tie
 
 abbrev Inv-loop : tie.InvT-loop
 Inv-loop stream count out₀ after₀ i₀ out after i = (i ≤ count) × (length out ≡ length out₀)
@@ -11,39 +11,30 @@ Inv-loop stream count out₀ after₀ i₀ out after i = (i ≤ count) × (lengt
 abbrev μ-loop : tie.MeasureT-loop
 μ-loop stream count out₀ after₀ i₀ out after i = count - i
 
--- src/stream.rt:76:5
 loop-holds : tie.Need-loop-holds Inv-loop μ-loop
 loop-holds c = search needs
 
--- src/stream.rt:77:13
 any-requires : tie.Need-any-requires Inv-loop μ-loop
 any-requires c κs = search needs
 
--- src/stream.rt:78:9
 mul-out : tie.Need-mul-out Inv-loop μ-loop
 mul-out c = search needs
 
--- src/stream.rt:78:9
 slice-write-out : tie.Need-slice-write-out Inv-loop μ-loop
 slice-write-out c = search needs
 
--- src/stream.rt:80:9
 add-i : tie.Need-add-i Inv-loop μ-loop
 add-i c = search needs
 
--- src/stream.rt:76:5
 loop-less : tie.Need-loop-less Inv-loop μ-loop
 loop-less c = search needs
 
--- src/stream.rt:76:5
 loop-again : tie.Need-loop-again Inv-loop μ-loop
 loop-again c = search needs
 
--- src/stream.rt:71:1
 same-length : tie.Need-same-length Inv-loop μ-loop
 same-length c = search needs
 
--- src/stream.rt:71:1
 returns : tie.Need-returns Inv-loop μ-loop
 returns c = search needs
 

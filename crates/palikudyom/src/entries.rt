@@ -1,7 +1,11 @@
 // One function for each entry: it reads the entry's arguments, calls it and prints its line; where an argument is bad, it prints nothing. The
 // cursor that it answers stands after the query, or at the bad number.
+use crate::lines;
+use crate::stream::BYTES;
 use crate::stream::Cursor;
+use crate::stream::JOBS;
 use crate::stream::Listed;
+use crate::stream::NUMBERS;
 use crate::stream::any;
 use crate::stream::bytes;
 use crate::stream::list;
@@ -24,29 +28,29 @@ ghost use Prim.Native.Nat.{_≤_};
 ghost use lib.ListN.{length};
 ghost use Rattle.io.specs.Counts.{Counts};
 
-// Windows and tasks: up to 200 numbers.
-const NUMBERS: u32 = 200;
-
-// Jobs and room: up to 12,400 numbers.
-const JOBS: u32 = 12400;
-
-fn numbers() -> [u32; 200]
-    ensures { λ r. ⌜ 200 ≡ length r ⌝ }
+fn numbers() -> [u32; NUMBERS as usize]
+    ensures { λ r. do ⌜ (← ⟦NUMBERS⟧ .entry) ≡ length r ⌝ }
 {
-    [0; 200]
+    [0; NUMBERS as usize]
 }
 
-fn jobs() -> [u32; 12400]
-    ensures { λ r. ⌜ 12400 ≡ length r ⌝ }
+fn jobs() -> [u32; JOBS as usize]
+    ensures { λ r. do ⌜ (← ⟦JOBS⟧ .entry) ≡ length r ⌝ }
 {
-    [0; 12400]
+    [0; JOBS as usize]
 }
 
 // What is lent for an entry to write to: each number is 7, so that what is written shows.
-fn lent() -> [u32; 12400]
-    ensures { λ r. ⌜ 12400 ≡ length r ⌝ }
+fn lent() -> [u32; JOBS as usize]
+    ensures { λ r. do ⌜ (← ⟦JOBS⟧ .entry) ≡ length r ⌝ }
 {
-    [7; 12400]
+    [7; JOBS as usize]
+}
+
+fn plan_bytes() -> [u8; BYTES as usize]
+    ensures { λ r. do ⌜ (← ⟦BYTES⟧ .entry) ≡ length r ⌝ }
+{
+    [0; BYTES as usize]
 }
 
 // ---- entries over a table
@@ -59,7 +63,7 @@ struct Table {
 
 // P and the windows.
 fn table_of(stream: &[u8], from: Cursor, out: &mut [u32]) -> Table
-    requires { ⌜ 200 ≤ length (now out) ⌝ }
+    requires { do ⌜ (← ⟦NUMBERS⟧) ≤ length (now out) ⌝ }
     ensures { λ r. ⌜ Counts (r .count) (now (out .exit)) ⌝ }
 {
     let frame = any(stream, from);
@@ -137,7 +141,7 @@ pub(crate) fn outage(stream: &[u8], from: Cursor) -> Cursor {
 // ---- entries over a group, which is lent as numbers or as task records
 
 fn group(stream: &[u8], from: Cursor, as_records: bool, out: &mut [u32]) -> Listed
-    requires { ⌜ 200 ≤ length (now out) ⌝ }
+    requires { do ⌜ (← ⟦NUMBERS⟧) ≤ length (now out) ⌝ }
     ensures { λ r. ⌜ Counts (r .count) (now (out .exit)) ⌝ }
 {
     if as_records {
@@ -313,7 +317,7 @@ fn run_into(
 // ---- a plan
 
 pub(crate) fn plan(stream: &[u8], from: Cursor) -> Cursor {
-    let mut plan = io::buffer();
+    let mut plan = plan_bytes();
     let b = bytes(stream, from, &mut plan);
     let end = b.after;
     if end.good {

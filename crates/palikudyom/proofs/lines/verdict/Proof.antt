@@ -1,11 +1,11 @@
 use native.Mathlib.Omega.{arith}
 use borrow.Author.Needs.{needs}
 use Rattle.io.proofs.Counting.{counts}
-use Rattle.lines.proofs.Room.{line-fits}
-use Rattle.lines.proofs.verdict.Statement.{statement}
-use Rattle.lines.proofs.verdict.Tie as tie
-use Rattle.lines.proofs.verdict.Reads as reads
-use Rattle.lines.proofs.verdict.Lts as lts
+use Rattle.palikudyom.proofs.Room.{line-fits}
+use Rattle.palikudyom.proofs.lines.verdict.Statement.{statement}
+use Rattle.palikudyom.proofs.lines.verdict.Tie as tie
+use Rattle.palikudyom.proofs.lines.verdict.Reads as reads
+use Rattle.palikudyom.proofs.lines.verdict.Lts as lts
 use Rattle.io.proofs.write_all.Reads as write-all-reads
 use Rattle.plan.proofs.line.line.Reads as line-reads
 

@@ -3,8 +3,8 @@ use Prim.Native.Nat.{_-_, _≤_}
 use lib.ListN.{length}
 use Rattle.io.proofs.Counting.{counts}
 use mathlib.Core.Path.{_≡_}
-use Rattle.ask.proofs.stream.bytes.Statement.{statement}
-use Rattle.ask.proofs.stream.bytes.Tie as tie
+use Rattle.palikudyom.proofs.stream.bytes.Statement.{statement}
+use Rattle.palikudyom.proofs.stream.bytes.Tie as tie
 
 abbrev Inv-loop : tie.InvT-loop
 Inv-loop stream out₀ count after₀ i₀ out after i = (i ≤ count) × (count ≤ length out₀) × (length out ≡ length out₀)
@@ -12,47 +12,36 @@ Inv-loop stream out₀ count after₀ i₀ out after i = (i ≤ count) × (count
 abbrev μ-loop : tie.MeasureT-loop
 μ-loop stream out₀ count after₀ i₀ out after i = count - i
 
--- src/stream.rt:105:9
 number-requires : tie.Need-number-requires Inv-loop μ-loop
 number-requires c κs = search needs
 
--- src/stream.rt:106:17
 cast-count : tie.Need-cast-count Inv-loop μ-loop
 cast-count c = search needs
 
--- src/stream.rt:109:5
 loop-holds : tie.Need-loop-holds Inv-loop μ-loop
 loop-holds c = search needs
 
--- src/stream.rt:110:13
 number-requires-2 : tie.Need-number-requires-2 Inv-loop μ-loop
 number-requires-2 c κs = search needs
 
--- src/stream.rt:111:18
 cast-out : tie.Need-cast-out Inv-loop μ-loop
 cast-out c = search needs
 
--- src/stream.rt:111:9
 slice-write-out : tie.Need-slice-write-out Inv-loop μ-loop
 slice-write-out c = search needs
 
--- src/stream.rt:113:9
 add-i : tie.Need-add-i Inv-loop μ-loop
 add-i c = search needs
 
--- src/stream.rt:109:5
 loop-less : tie.Need-loop-less Inv-loop μ-loop
 loop-less c = search needs
 
--- src/stream.rt:109:5
 loop-again : tie.Need-loop-again Inv-loop μ-loop
 loop-again c = search needs
 
--- src/stream.rt:101:1
 same-length : tie.Need-same-length Inv-loop μ-loop
 same-length c = search needs
 
--- src/stream.rt:101:1
 returns : tie.Need-returns Inv-loop μ-loop
 returns c = counts _ _ (search needs)
 

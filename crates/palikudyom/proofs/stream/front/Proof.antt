@@ -1,9 +1,8 @@
 use borrow.Author.Needs.{needs}
 use Rattle.io.proofs.Counting.{counts}
-use Rattle.ask.proofs.stream.front.Statement.{statement}
-use Rattle.ask.proofs.stream.front.Tie as tie
+use Rattle.palikudyom.proofs.stream.front.Statement.{statement}
+use Rattle.palikudyom.proofs.stream.front.Tie as tie
 
--- src/stream.rt:71:1
 returns : tie.Need-returns
 returns c = counts _ _ (search needs)
 

@@ -1,4 +1,4 @@
-// The lines that programs print, one for each answer.
+// The printed lines, one for each answer.
 use checker::answer::Amount;
 use checker::answer::Bound;
 use checker::answer::Delay;
@@ -58,17 +58,17 @@ fn amount_or_refusal(text: &[u8], a: Amount) {
 }
 
 // An amount after its word.
-pub fn amount(text: &[u8], a: Amount) {
+pub(crate) fn amount(text: &[u8], a: Amount) {
     amount_or_refusal(text, a);
     newline();
 }
 
-pub fn critical(windows: Amount, out: &[u32]) {
+pub(crate) fn critical(windows: Amount, out: &[u32]) {
     amount_or_refusal(b"WINDOWS ", windows);
     buffer(out);
 }
 
-pub fn delay(d: Delay) {
+pub(crate) fn delay(d: Delay) {
     match d {
         Delay::Of { delay, per_frame } => {
             part(b"DELAY ", delay);
@@ -87,7 +87,7 @@ fn signed(m: i64) {
     }
 }
 
-pub fn margin(m: Margin) {
+pub(crate) fn margin(m: Margin) {
     match m {
         Margin::Of(m) => signed(m),
         Margin::Refused(r) => refused(r),
@@ -96,7 +96,7 @@ pub fn margin(m: Margin) {
 }
 
 // The line of a verdict, as `plan` makes it; it is never longer than its most. Whether it was written.
-pub fn verdict(v: Verdict) -> bool {
+pub(crate) fn verdict(v: Verdict) -> bool {
     let mut text = [0u8; MOST];
     match line(v, &mut text) {
         Amount::Of(n) => {
@@ -107,7 +107,7 @@ pub fn verdict(v: Verdict) -> bool {
     }
 }
 
-pub fn bound(b: Bound) {
+pub(crate) fn bound(b: Bound) {
     match b {
         Bound::Of(t) => part(b"BOUND ", t as u64),
         Bound::NoBound => word(b"NO BOUND"),
@@ -116,7 +116,7 @@ pub fn bound(b: Bound) {
     newline();
 }
 
-pub fn ran(r: Ran, counts: &[u32]) {
+pub(crate) fn ran(r: Ran, counts: &[u32]) {
     match r {
         Ran::Met { backlog } => part(b"MET backlog ", backlog as u64),
         Ran::Missed {
@@ -133,7 +133,7 @@ pub fn ran(r: Ran, counts: &[u32]) {
     buffer(counts);
 }
 
-pub fn bad_query(at: u64) {
+pub(crate) fn bad_query(at: u64) {
     part(b"BAD QUERY at ", at);
     newline();
 }

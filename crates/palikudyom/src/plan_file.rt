@@ -1,0 +1,29 @@
+// The line of a plan file.
+use crate::input;
+use crate::lines;
+use plan::check::buffer;
+use plan::check::check_plan;
+
+// The buffer is enough for any answer: what a longer file has after it is not read.
+pub(crate) fn check(fd: i32, name: &[u8]) {
+    let mut bytes = buffer();
+    let got = input::read_on(fd, &mut bytes);
+    if got < 0 {
+        os::fail(name);
+        return;
+    }
+    let n = io::count(got, &bytes);
+    if !lines::verdict(check_plan(&bytes[..n])) {
+        os::fail(b"standard output");
+    }
+}
+
+pub(crate) fn check_named(path: &[u8]) {
+    let fd = os::open_read(path);
+    if fd < 0 {
+        os::fail(path);
+        return;
+    }
+    check(fd, path);
+    libc::close(fd);
+}
