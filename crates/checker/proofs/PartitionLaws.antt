@@ -13,11 +13,11 @@ use borrow.Author.Tests.{lt-ltb, le-ltb}
 use Rattle.scope.specs.Numbers.{greatest, keep, written}
 use Rattle.scope.specs.Ticks.{leastSupply}
 use Rattle.scope.specs.Windows.{Board, supplied}
-use Rattle.scope.specs.Partition.{rises, within, edge, runs, critical, outageBefore}
+use Rattle.scope.specs.Partition.{rises, within, edge, maximalRuns, critical, outageBefore}
 use Rattle.scope.specs.Answers.{Fault.fine, Fault.fault, tableFault, roomFault, criticalOf, criticalFault}
 use Rattle.theory.specs.Numbers.{bool-cases}
 use Rattle.theory.specs.Lists.{keep-hit, keep-miss}
-use Rattle.theory.specs.Runs.{within-in}
+use Rattle.theory.specs.MaximalRuns.{within-in}
 use Rattle.theory.specs.Buffers.{written-more}
 use Rattle.checker.proofs.FaultLaws.{if-true, if-false, or-fault, or-fine}
 
@@ -104,7 +104,7 @@ edges b ws k = keep (edge (risen b ws)) k
 
 -- at the end of the frame these are the critical partition
 pub edges-critical : (b : Board) (ws : List ℕ) → edges b ws (b .frame + 1) ≡ criticalOf b ws
-unfolding critical runs
+unfolding critical maximalRuns
 edges-critical b ws = refl
 
 -- inside the frame the code's comparison of two least supplies tells it

@@ -101,7 +101,7 @@ pub enum Margin {
 }
 
 // A signed number without its sign. -(m + 1) can be had of every negative m.
-pub fn size(m: i64) -> u64
+pub fn magnitude(m: i64) -> u64
     ensures { λ r. ⌜ r ≡ natAbs m ⌝ }
 {
     if m < 0 {

@@ -151,7 +151,7 @@ fn larger(a: u32, b: u32) -> u32
 }
 
 // A run of n unsupplied ticks, and a tick more.
-fn run_on(n: u32, on: bool) -> u32
+fn outage_on(n: u32, on: bool) -> u32
     requires { ⌜ n < 4294967295 ⌝ }
     ensures { λ r. ⌜ r ≡ cond on 0 (n + 1) ⌝ }
 {
@@ -169,7 +169,7 @@ fn outage_of(board: Board, windows: &[u32]) -> u32
     let mut k = 0;
     while k < frame {
         let on = is_supplied(board, windows, k);
-        run = run_on(run, on);
+        run = outage_on(run, on);
         most = larger(most, run);
         k += 1;
     }

@@ -3,7 +3,7 @@ use crate::answer::amount_answer;
 use crate::answer::one;
 use crate::answer::refused;
 use checker::answer::Margin;
-use checker::answer::size;
+use checker::answer::magnitude;
 use checker::board::Board;
 use checker::demand::demand;
 use checker::demand::margin;
@@ -16,9 +16,9 @@ fn signed_answer(m: i64) -> Answer
     ensures { λ r. ⌜ r ≡ signed m ⌝ }
 {
     if m < 0 {
-        one(Answer::BELOW, size(m))
+        one(Answer::BELOW, magnitude(m))
     } else {
-        one(Answer::MARGIN, size(m))
+        one(Answer::MARGIN, magnitude(m))
     }
 }
 

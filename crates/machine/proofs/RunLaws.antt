@@ -13,7 +13,7 @@ use Rattle.scope.specs.Machine.{edf}
 use Rattle.scope.specs.Run.{ran}
 use Rattle.scope.specs.Answers.{Fault, Fault.fine, Fault.fault, _orElse_, tableFault, groupFault, jobListFault, jobFault, roomFault, runFault, runAnswer}
 use Rattle.theory.specs.Lists.{pieces-length}
-use Rattle.theory.specs.Answers.{LegalTable, runs}
+use Rattle.theory.specs.Answers.{LegalTable, run-given}
 use Rattle.checker.proofs.FaultLaws.{or-assoc, given-by}
 use Rattle.machine.specs.Relation.{Tasks, Jobs}
 use Rattle.machine.proofs.Reading.{tasks-of}
@@ -44,5 +44,5 @@ module _ (b : Board) (ws ts : List ℕ) (n : ℕ) (js : List ℕ) (room : ℕ) w
       LegalTable b ws × Tasks (tasksOf ts) × Jobs (tasksOf ts) (jobsOf js) × (n ≤ mostTicks) × (length (jobsOf js) ≤ room)
   unfolding runAnswer
   legal-run e =
-      let r = runs b ws ts n js room _ (sym (given-by (runFault b ws ts n js room) (ran (supplied b ws) (edf (tasksOf ts) (jobsOf js)) (tasksOf ts) (jobsOf js) n) e)) in
+      let r = run-given b ws ts n js room _ (sym (given-by (runFault b ws ts n js room) (ran (supplied b ws) (edf (tasksOf ts) (jobsOf js)) (tasksOf ts) (jobsOf js) n) e)) in
       (r .table, tasks-of ts (r .group), jobs-of (tasksOf ts) n (jobsOf js) (r .jobs) (r .ticks) (omega (arith, pieces-length _ 3 job js, r .few)), r .ticks, r .roomy)

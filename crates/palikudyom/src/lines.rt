@@ -5,7 +5,7 @@ use checker::answer::Delay;
 use checker::answer::Margin;
 use checker::answer::Refusal;
 use checker::answer::Verdict;
-use checker::answer::size;
+use checker::answer::magnitude;
 use libc::STDOUT_FILENO;
 use machine::run::Ran;
 use plan::line::MOST;
@@ -81,9 +81,9 @@ pub(crate) fn delay(d: Delay) {
 
 fn signed(m: i64) {
     if m < 0 {
-        part(b"MARGIN -", size(m));
+        part(b"MARGIN -", magnitude(m));
     } else {
-        part(b"MARGIN ", size(m));
+        part(b"MARGIN ", magnitude(m));
     }
 }
 

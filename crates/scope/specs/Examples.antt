@@ -7,7 +7,7 @@ use lib.ListN.{length, replicate}
 use Rattle.scope.specs.Numbers.{sum, least, greatest, all, firstBy, listed, keep, piecesFrom, pieces, badCount, written}
 use Rattle.scope.specs.Ticks.{supply, leastSupply, leastStart}
 use Rattle.scope.specs.Windows.{Board, Window, window, inWindow, covers, supplied, windowLegal, badWindow}
-use Rattle.scope.specs.Partition.{rises, within, edge, runs, critical, lag, delay, outageBefore, outage}
+use Rattle.scope.specs.Partition.{rises, within, edge, maximalRuns, critical, lag, delay, outageBefore, outage}
 use Rattle.scope.specs.Tasks.{Task, task, taskLegal, badTask, taskDemand, demand, margin}
 use Rattle.scope.specs.Cycle.{gcdWithin, gcd, lcm, cycle}
 use Rattle.scope.specs.Verdict.{Verdict, Verdict.meets, Verdict.miss, violates, verdict}
@@ -194,7 +194,7 @@ Hold [] = Unit {0}
 Hold (e ∷ rows) = (reply (e .question) ≡ e .expected) × Hold rows
 
 pub examples : Hold table
-unfolding reply table sum least greatest all firstBy listed keep piecesFrom pieces badCount written supply leastSupply leastStart inWindow covers supplied windowLegal badWindow rises within edge runs critical lag delay taskLegal badTask taskDemand demand margin gcdWithin gcd lcm cycle violates verdict asked suffices response jobLegal badJob pending tick workLeft late outcome backlogIn backlog countOf ran counts windowListFault frameFault windowFault taskListFault taskFault cycleFault lengthFault absentFault roomFault jobListFault jobFault tableFault groupFault leastSupplyAnswer criticalFault criticalAnswer criticalOut delayAnswer outageAnswer demandAnswer marginAnswer verdictAnswer boundAnswer runFault runAnswer runOut groups wellFormed readNumber readNumbers windowCountFault taskCountFault restFault tasksFrom windowsFrom planOf planAnswer numberBytesWithin numberBytes numbersBytes planBytes writeFault writeAnswer writeOut decimalWithin decimal line lineAnswer lineOut boardAnswer windowAnswer taskAnswer lengthAnswer runTicksAnswer outageBefore outage
+unfolding reply table sum least greatest all firstBy listed keep piecesFrom pieces badCount written supply leastSupply leastStart inWindow covers supplied windowLegal badWindow rises within edge maximalRuns critical lag delay taskLegal badTask taskDemand demand margin gcdWithin gcd lcm cycle violates verdict asked suffices response jobLegal badJob pending tick workLeft late outcome backlogIn backlog countOf ran counts windowListFault frameFault windowFault taskListFault taskFault cycleFault lengthFault absentFault roomFault jobListFault jobFault tableFault groupFault leastSupplyAnswer criticalFault criticalAnswer criticalOut delayAnswer outageAnswer demandAnswer marginAnswer verdictAnswer boundAnswer runFault runAnswer runOut groups wellFormed readNumber readNumbers windowCountFault taskCountFault restFault tasksFrom windowsFrom planOf planAnswer numberBytesWithin numberBytes numbersBytes planBytes writeFault writeAnswer writeOut decimalWithin decimal line lineAnswer lineOut boardAnswer windowAnswer taskAnswer lengthAnswer runTicksAnswer outageBefore outage
 examples =
     (refl, (refl, (refl, (refl, (refl, (refl, (refl, (refl, (refl, (refl, (refl, (refl, (refl, (refl, (refl, (refl, (refl, (refl, (refl, (refl, (refl, (refl, (refl, (refl, (refl, (refl, (refl, (refl, (refl, (refl, (refl, (refl, (refl, (refl, (refl, (refl, (refl, (refl, (refl, (refl, (refl, (refl, (refl, (refl, (refl, (refl, (refl, (refl, (refl, (refl, (refl, (refl, (refl, (refl, (refl, (refl, (refl, (refl, (refl, (refl, tt))))))))))))))))))))))))))))))))))))))))))))))))))))))))))))
 

@@ -19,12 +19,12 @@ unfoldable pub edge : (ℕ → Bool) → ℕ → Bool
 edge p k = cond (p k) (not (ltb 0 k && p (k - 1))) (ltb 0 k && p (k - 1))
 
 -- the maximal runs of p among the ticks 0 to n − 1: start, end, start, end, ..
-unfoldable pub runs : (ℕ → Bool) → ℕ → List ℕ
-runs p n = keep (edge (within p n)) (n + 1)
+unfoldable pub maximalRuns : (ℕ → Bool) → ℕ → List ℕ
+maximalRuns p n = keep (edge (within p n)) (n + 1)
 
 -- the windows of the critical partition: the maximal runs of ticks in 0 to P − 1 at which the least supply rises
 unfoldable pub critical : (ℕ → Bool) → ℕ → List ℕ
-critical σ P = runs (rises σ P) P
+critical σ P = maximalRuns (rises σ P) P
 
 -- A·t − P·(least supply of t)
 unfoldable pub lag : (ℕ → Bool) → ℕ → ℕ → ℕ

@@ -175,7 +175,7 @@ bounded b ws ts i r e =
       is = u .1;
     }
 
-pub record Runs (b : Board) (ws ts : List ℕ) (n : ℕ) (js : List ℕ) (room : ℕ) (r : Ran) : Type 0 where
+pub record RunGiven (b : Board) (ws ts : List ℕ) (n : ℕ) (js : List ℕ) (room : ℕ) (r : Ran) : Type 0 where
   pub table : LegalTable b ws
   pub group : LegalGroup ts
   pub threes : length js % 3 ≡ 0
@@ -185,9 +185,9 @@ pub record Runs (b : Board) (ws ts : List ℕ) (n : ℕ) (js : List ℕ) (room :
   pub roomy : length (jobsOf js) ≤ room
   pub is : ran (supplied b ws) (edf (tasksOf ts) (jobsOf js)) (tasksOf ts) (jobsOf js) n ≡ r
 
-pub runs : (b : Board) (ws ts : List ℕ) (n : ℕ) (js : List ℕ) (room : ℕ) (r : Ran) → runAnswer b ws ts n js room ≡ given r → Runs b ws ts n js room r
+pub run-given : (b : Board) (ws ts : List ℕ) (n : ℕ) (js : List ℕ) (room : ℕ) (r : Ran) → runAnswer b ws ts n js room ≡ given r → RunGiven b ws ts n js room r
 unfolding runAnswer runFault jobFault roomFault
-runs b ws ts n js room r e =
+run-given b ws ts n js room r e =
     let u = unless-given (runFault b ws ts n js room) _ r e in
     let p₁ = orElse-fine (tableFault b ws) (groupFault ts orElse jobListFault n js orElse jobFault ts n js orElse roomFault (length (jobsOf js)) room) (u .0) in
     let p₂ = orElse-fine (groupFault ts) (jobListFault n js orElse jobFault ts n js orElse roomFault (length (jobsOf js)) room) (p₁ .1) in

@@ -22,7 +22,7 @@ use Rattle.scope.specs.Answers.{Answer.given, Answer.refused, windowListFault, 
 use Rattle.scope.specs.Demands.{LeastMiss, Way, givenTo, Served}
 use Rattle.scope.specs.Examples.{Reply.windows, Reply.aVerdict, Reply.bounds, Reply.aRun, X, on, reply, table, examples, row}
 use Rattle.theory.specs.Numbers.{by-lexically}
-use Rattle.theory.specs.Answers.{runs}
+use Rattle.theory.specs.Answers.{run-given}
 use Rattle.theory.specs.Exact.{exact-meets, exact-miss}
 use Rattle.theory.specs.Bound.{exact-bound}
 use Rattle.theory.specs.Machine.{machine-under}
@@ -89,7 +89,7 @@ w13-in-time : (outcome (supplied (on 8) X) (edf (tasksOf w7) (jobsOf w13)) (task
     × (getD (counts (supplied (on 8) X) (edf (tasksOf w7) (jobsOf w13)) (tasksOf w7) (jobsOf w13) 10) 1 0 ≤ 7)
 unfolding piecesFrom pieces
 w13-in-time =
-    let legal = runs (on 8) X w7 10 w13 3 (record { outcome = met; backlog = 2 }) w13-runs .jobs in
+    let legal = run-given (on 8) X w7 10 w13 3 (record { outcome = met; backlog = 2 }) w13-runs .jobs in
     let m = edf-meets (on 8) X w7 8 w7-meets 10 (jobsOf w13) legal in
     (m .0, m .1 1 (omega arith) (omega arith) .1)
 
@@ -100,7 +100,7 @@ highest ts js a b = lexically (deadline (tasksOf ts) (jobsOf js) a) (deadline (t
 w13-other-ties : countOf (workLeft (supplied (on 8) X) (highest w7 w13) (jobsOf w13)) (jobsOf w13) 10 1 ≤ 7
 unfolding piecesFrom pieces highest
 w13-other-ties =
-    let legal = runs (on 8) X w7 10 w13 3 (record { outcome = met; backlog = 2 }) w13-runs .jobs in
+    let legal = run-given (on 8) X w7 10 w13 3 (record { outcome = met; backlog = 2 }) w13-runs .jobs in
     let run = machine-under (supplied (on 8) X) (highest w7 w13) (jobsOf w13) (deadline (tasksOf w7) (jobsOf w13)) (by-lexically _ _) in
     edf-every (on 8) X w7 8 w7-meets 10 (jobsOf w13) legal _ run 1 (omega arith) (omega arith) .2
 

@@ -4,7 +4,7 @@ pub mod Buffers
 pub mod Ticks
 pub mod Windows
 pub mod Finer
-pub mod Runs
+pub mod MaximalRuns
 pub mod Partition
 pub mod Delay
 pub mod Tasks

@@ -15,7 +15,7 @@ use Rattle.scope.specs.Ticks.{Periodic, supply, perFrame, leastSupply}
 use Rattle.scope.specs.Windows.{windowsOf, supplied, badWindow}
 use Rattle.scope.specs.Partition.{rises, critical}
 use Rattle.theory.specs.Ticks.{supply-split, same-mod, least-unique, least-none, least-next-frame, least-up, least-up-one, least-superadditive}
-use Rattle.theory.specs.Runs.{within-in, runs-even, runs-cover, runs-rule}
+use Rattle.theory.specs.MaximalRuns.{within-in, maximal-even, maximal-cover, maximal-rule}
 
 -- ---- the ticks at which the least supply rises
 
@@ -75,11 +75,11 @@ module _ (σ : ℕ → Bool) (P : ℕ) where
   -- its windows keep the rule of window tables
   pub critical-rule : badWindow (record { frame = P }) (windowsOf (critical σ P)) ≡ none
   unfolding critical
-  critical-rule = runs-rule (rises σ P) P
+  critical-rule = maximal-rule (rises σ P) P
 
   pub critical-even : length (critical σ P) % 2 ≡ 0
   unfolding critical
-  critical-even = runs-even (rises σ P) P
+  critical-even = maximal-even (rises σ P) P
 
 module _ (σ : ℕ → Bool) (P : ℕ) (per : Periodic σ P) where
   -- it supplies the ticks at which the least supply rises
@@ -87,7 +87,7 @@ module _ (σ : ℕ → Bool) (P : ℕ) (per : Periodic σ P) where
   unfolding supplied critical
   critical-supplied =
       fun-ext (λ k.
-      runs-cover (rises σ P) P (k % P) ∙ within-in (rises σ P) P (k % P) (mod-lt k (per .some))
+      maximal-cover (rises σ P) P (k % P) ∙ within-in (rises σ P) P (k % P) (mod-lt k (per .some))
       ∙ same-mod (rises σ P) P (rises-periodic σ P per) k)
 
   pub critical-supply : (t : ℕ) → supply (supplied (record { frame = P }) (critical σ P)) 0 t ≡ leastSupply σ P t

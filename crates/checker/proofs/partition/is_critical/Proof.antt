@@ -1,6 +1,6 @@
 use mathlib.Core.Path.{sym, ap₂, _∙_}
 use lib.Dec.{ltb}
-use Rattle.theory.specs.Runs.{within-out}
+use Rattle.theory.specs.MaximalRuns.{within-out}
 use borrow.Author.Needs.{needs}
 use Rattle.checker.proofs.PartitionLaws.{risen-in}
 use Rattle.checker.proofs.partition.is_critical.Statement.{statement}

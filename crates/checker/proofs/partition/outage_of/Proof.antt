@@ -13,7 +13,7 @@ use Rattle.checker.proofs.partition.outage_of.Tie as tie
 use Rattle.checker.proofs.partition.outage_of.Reads as reads
 use Rattle.checker.proofs.partition.outage_of.Lts as lts
 use Rattle.checker.proofs.partition.larger.Reads as larger-reads
-use Rattle.checker.proofs.partition.run_on.Reads as run-on-reads
+use Rattle.checker.proofs.partition.outage_on.Reads as outage-on-reads
 use Rattle.checker.proofs.supply.is_supplied.Reads as is-supplied-reads
 
 abbrev Inv-loop : tie.InvT-loop
@@ -34,8 +34,8 @@ is-supplied-requires : tie.Need-is-supplied-requires Inv-loop μ-loop
 is-supplied-requires c κs = search needs
 
 -- src/partition.rt:163:9
-run-on-requires : tie.Need-run-on-requires Inv-loop μ-loop
-run-on-requires c κs =
+outage-on-requires : tie.Need-outage-on-requires Inv-loop μ-loop
+outage-on-requires c κs =
     let a = c .before .before .before .before .args in
     let l = c .before .before .loop in
     omega (arith, l .inv .1, outage-le (supplied (boardOf (a .board)) (a .windows .now)) (l .k))
@@ -58,8 +58,8 @@ loop-again c =
     let a = c .before .before .before .before .before .before .args in
     let l = c .before .before .before .before .loop in
     let σ = supplied (boardOf (a .board)) (a .windows .now) in
-    let r : c .before .run-on .result ≡ outageBefore σ (l .k + 1) =
-    c .before .run-on .ensures
+    let r : c .before .outage-on .result ≡ outageBefore σ (l .k + 1) =
+    c .before .outage-on .ensures
     ∙ ap₂ (λ (on : Bool) (n : ℕ). cond on 0 (n + 1)) (c .before .before .is-supplied .ensures) (l .inv .1)
     ∙ sym (outage-more σ (l .k)) in
     (omega arith, r, c .larger .ensures ∙ ap₂ max (l .inv .2) r ∙ sym (greatest-more (outageBefore σ) (l .k + 1)))
@@ -81,7 +81,7 @@ outage-of-spec =
     μ-loop
     loop-holds
     is-supplied-requires
-    run-on-requires
+    outage-on-requires
     larger-requires
     add-k
     loop-less

@@ -9,16 +9,16 @@ use Rattle.host.proofs.demand.signed_answer.Statement.{statement}
 use Rattle.host.proofs.demand.signed_answer.Tie as tie
 
 -- src/demand.rt:19:28
-size-requires : tie.Need-size-requires
-size-requires c κs = search needs
+magnitude-requires : tie.Need-magnitude-requires
+magnitude-requires c κs = search needs
 
 -- src/demand.rt:19:9
 one-requires : tie.Need-one-requires
 one-requires c κs = search needs
 
 -- src/demand.rt:21:29
-size-requires-2 : tie.Need-size-requires-2
-size-requires-2 c κs = search needs
+magnitude-requires-2 : tie.Need-magnitude-requires-2
+magnitude-requires-2 c κs = search needs
 
 -- src/demand.rt:21:9
 one-requires-2 : tie.Need-one-requires-2
@@ -32,15 +32,15 @@ kept c = toZ-ofZ w64 (c .args .m) (c .fits .m)
 returns : tie.Need-returns
 returns c =
     let m = c .before .before .before .args .m in
-    c .one .ensures ∙ ap below (c .before .size .ensures) ∙ sym (signed-below (toZ w64 (ofZ w64 m)) (c .before .before .if1 .taken)) ∙ ap signed (kept (c .before .before .before))
+    c .one .ensures ∙ ap below (c .before .magnitude .ensures) ∙ sym (signed-below (toZ w64 (ofZ w64 m)) (c .before .before .if1 .taken)) ∙ ap signed (kept (c .before .before .before))
 
 -- src/demand.rt:15:1
 returns-2 : tie.Need-returns-2
 returns-2 c =
     let m = c .before .before .before .args .m in
-    c .one2 .ensures ∙ ap above (c .before .size2 .ensures) ∙ sym (signed-above (toZ w64 (ofZ w64 m)) (c .before .before .if1 .left)) ∙ ap signed (kept (c .before .before .before))
+    c .one2 .ensures ∙ ap above (c .before .magnitude2 .ensures) ∙ sym (signed-above (toZ w64 (ofZ w64 m)) (c .before .before .if1 .left)) ∙ ap signed (kept (c .before .before .before))
 
 pub signed-answer-spec : {M : Type 1} → statement M
 signed-answer-spec =
     tie.close
-    (tie.spec size-requires one-requires size-requires-2 one-requires-2 returns returns-2)
+    (tie.spec magnitude-requires one-requires magnitude-requires-2 one-requires-2 returns returns-2)

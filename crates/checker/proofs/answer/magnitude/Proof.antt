@@ -5,10 +5,10 @@ use mir.Syntax.{w64}
 use lib.IntN.{natAbs}
 use mathlib.Core.Path.{_≡_, ap}
 use native.Mathlib.Omega.{arith}
-use Rattle.checker.proofs.answer.size.Statement.{statement}
-use Rattle.checker.proofs.answer.size.Tie as tie
-use Rattle.checker.proofs.answer.size.Reads as reads
-use Rattle.checker.proofs.answer.size.Lts as lts
+use Rattle.checker.proofs.answer.magnitude.Statement.{statement}
+use Rattle.checker.proofs.answer.magnitude.Tie as tie
+use Rattle.checker.proofs.answer.magnitude.Reads as reads
+use Rattle.checker.proofs.answer.magnitude.Lts as lts
 
 -- what is lent comes back as it was stored
 kept : (c : tie.Start) → toZ w64 (ofZ w64 (c .args .m)) ≡ c .args .m
@@ -45,6 +45,6 @@ returns c = rw (kept (c .before), read _ (negative c)) (negative c .size)
 returns-2 : tie.Need-returns-2
 returns-2 c = ap natAbs (kept (c .before))
 
-pub size-spec : {M : Type 1} → statement M
-size-spec =
+pub magnitude-spec : {M : Type 1} → statement M
+magnitude-spec =
     tie.close (tie.spec add-below sub-below cast-result add-result cast-result-2 returns returns-2)

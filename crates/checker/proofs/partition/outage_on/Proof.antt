@@ -2,10 +2,10 @@ use mathlib.Core.Path.{sym, ap}
 use mathlib.Core.Bool.{Bool, cond}
 use Prim.Native.Nat.{_+_}
 use borrow.Author.Needs.{needs}
-use Rattle.checker.proofs.partition.run_on.Statement.{statement}
-use Rattle.checker.proofs.partition.run_on.Tie as tie
-use Rattle.checker.proofs.partition.run_on.Reads as reads
-use Rattle.checker.proofs.partition.run_on.Lts as lts
+use Rattle.checker.proofs.partition.outage_on.Statement.{statement}
+use Rattle.checker.proofs.partition.outage_on.Tie as tie
+use Rattle.checker.proofs.partition.outage_on.Reads as reads
+use Rattle.checker.proofs.partition.outage_on.Lts as lts
 
 -- src/partition.rt:149:24
 add-result : tie.Need-add-result
@@ -19,5 +19,5 @@ returns c = search needs
 returns-2 : tie.Need-returns-2
 returns-2 c = sym (ap (λ (b : Bool). cond b 0 (c .before .args .n + 1)) (c .if1 .left))
 
-pub run-on-spec : {M : Type 1} → statement M
-run-on-spec = tie.close (tie.spec add-result returns returns-2)
+pub outage-on-spec : {M : Type 1} → statement M
+outage-on-spec = tie.close (tie.spec add-result returns returns-2)

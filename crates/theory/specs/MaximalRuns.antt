@@ -13,7 +13,7 @@ use lib.ListN.{length, getD, length-append}
 use borrow.Author.Tests.{lt-ltb, le-ltb, le-leb, lt-leb, eq-eqb}
 use Rattle.scope.specs.Numbers.{keep, piecesFrom, pieces}
 use Rattle.scope.specs.Windows.{Board, Window, window, windowsOf, windowAt, inWindow, covers, windowLegal, badWindow}
-use Rattle.scope.specs.Partition.{within, edge, runs}
+use Rattle.scope.specs.Partition.{within, edge, maximalRuns}
 use Rattle.theory.specs.Numbers.{both-and, bool-cases, below-suc, none-first}
 use Rattle.theory.specs.Lists.{pieces-length, two-at, pieces-append, keep-hit, keep-miss, Rising, keep-rising}
 
@@ -194,27 +194,27 @@ module _ (q : ℕ → Bool) where
 
 module _ (p : ℕ → Bool) (n : ℕ) where
   -- no run is open past n, where the pattern is false
-  runs-closed : Closed (within p n) (runs p n) (suc n)
-  unfolding runs
-  runs-closed = rw add-one (go (state (within p n) (suc n)))
+  maximal-closed : Closed (within p n) (maximalRuns p n) (suc n)
+  unfolding maximalRuns
+  maximal-closed = rw add-one (go (state (within p n) (suc n)))
     where
       go : State (within p n) (suc n) → Closed (within p n) (edges (within p n) (suc n)) (suc n)
       go (closed b c) = c
       go (opened b l s o) =
           absurd (true≢false (sym (sym (before-suc (within p n) n) ∙ b) ∙ within-out p n n (omega arith)))
 
-  pub runs-even : length (runs p n) % 2 ≡ 0
-  runs-even = runs-closed .even
+  pub maximal-even : length (maximalRuns p n) % 2 ≡ 0
+  maximal-even = maximal-closed .even
 
   -- the windows cover exactly the ticks below n at which p holds
-  pub runs-cover : (k : ℕ) → covers (windowsOf (runs p n)) k ≡ within p n k
-  runs-cover k =
-      runs-closed .cover k ∙ elim (decLt k (suc n)) [
+  pub maximal-cover : (k : ℕ) → covers (windowsOf (maximalRuns p n)) k ≡ within p n k
+  maximal-cover k =
+      maximal-closed .cover k ∙ elim (decLt k (suc n)) [
         | yes h ↦ within-in (within p n) (suc n) k h
         | no h ↦ within-out (within p n) (suc n) k (omega arith) ∙ sym (within-out p n k (omega arith))
       ]
 
   -- each run starts before it ends, ends at n or before, and starts strictly after the previous one's end
-  pub runs-rule : badWindow (record { frame = n }) (windowsOf (runs p n)) ≡ none
-  unfolding runs
-  runs-rule = rising-rule (record { frame = n }) (runs p n) (keep-rising (edge (within p n)) (n + 1))
+  pub maximal-rule : badWindow (record { frame = n }) (windowsOf (maximalRuns p n)) ≡ none
+  unfolding maximalRuns
+  maximal-rule = rising-rule (record { frame = n }) (maximalRuns p n) (keep-rising (edge (within p n)) (n + 1))
