@@ -53,7 +53,7 @@ demand-long x t h = rw (le-ltb t (x .D) h)
 pub work-most : (a b w : ℕ) → a < 4294967296 → w < 4294967296 → (a / b + 1) * w ≤ 4294967296 * 4294967295
 work-most a b w h k = mul-le-mul {n₁ = a / b + 1} {m₁ = w} {n₂ = 4294967296} {m₂ = 4294967295} (omega (arith, div-le-self a b)) (omega arith)
 
--- ---- a list of tasks: in threes and at most 32, then each by its rule
+-- ---- a list of tasks: in threes and not too many, then each by its rule
 
 module _ (ts : List ℕ) where
   pub list-by : (t : Bool) → badCount 3 mostTasks ts ≡ t → faultIf t 4 0 ≡ taskListFault ts

@@ -8,6 +8,7 @@ use native.Mathlib.Decide.{decLt}
 use lib.Dec.{eqb}
 use lib.ListN.{length}
 use borrow.Author.Tests.{lt-ltb, le-ltb}
+use Rattle.scope.specs.Limits.{mostWindows, mostTasks}
 use Rattle.scope.specs.Answers.{Fault, Fault.fine, Fault.fault, Answer, Answer.refused, unless}
 use Rattle.scope.specs.Plan.{Read, Read.read, Read.bad, readNumber, readNumbers, Plan, orNine, past, andThen, windowCountFault, taskCountFault, restFault, windowsFrom, planOf, planAnswer}
 use Rattle.plan.specs.declared.number.Numbers.{Numbers}
@@ -16,18 +17,18 @@ use Rattle.plan.specs.Parts.{readInto, judged}
 
 -- ---- the faults of the two counts; where there is none, theory/Plan says so
 
-pub window-count-wrong : (n : ℕ) → ((1 ≤ n) × (n ≤ 64) → ⊥) → windowCountFault n ≡ fault 1 0
+pub window-count-wrong : (n : ℕ) → ((1 ≤ n) × (n ≤ mostWindows) → ⊥) → windowCountFault n ≡ fault 1 0
 unfolding windowCountFault
 window-count-wrong zero h = refl
 window-count-wrong (suc n) h =
-    elim (decLt 64 (suc n)) [
-      | yes l ↦ rw (lt-ltb 64 (suc n) l, or-true (eqb (suc n) 0))
+    elim (decLt mostWindows (suc n)) [
+      | yes l ↦ rw (lt-ltb mostWindows (suc n) l, or-true (eqb (suc n) 0))
       | no l ↦ absurd (h (omega arith, omega arith))
     ]
 
-pub task-count-wrong : (n : ℕ) → 32 < n → taskCountFault n ≡ fault 4 0
+pub task-count-wrong : (n : ℕ) → mostTasks < n → taskCountFault n ≡ fault 4 0
 unfolding taskCountFault
-task-count-wrong n h = rw (lt-ltb 32 n h)
+task-count-wrong n h = rw (lt-ltb mostTasks n h)
 
 -- ---- numbers in a buffer, by how their reading ended
 
