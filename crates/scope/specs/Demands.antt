@@ -52,7 +52,7 @@ pub record LeastMiss (σ : ℕ → Bool) (P : ℕ) (ts : List Task) (t s d p : �
 -- ---- every run under a rule that goes first by a number
 
 -- left k is the work left of each job at instant k of a run in which each supplied tick goes to some pending job of the least m, if any is pending:
--- under earliest deadline first m is the deadline. Which of several such jobs is free, and may be another rule's choice at every tick
+-- under earliest deadline first m is the deadline. Which of several such jobs gets the tick is left open, at every tick anew
 pub record Under (σ : ℕ → Bool) (js : List Job) (m : ℕ → ℕ) (left : ℕ → List ℕ) : Type 0 where
   pub goes : ℕ → Option ℕ
   pub start : left 0 ≡ map (λ x. x .work) js

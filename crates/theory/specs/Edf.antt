@@ -1,6 +1,6 @@
 -- Demand 3, first half: where the verdict is "meets", every legal run under earliest deadline first meets every deadline
 use mathlib.Core.Path.{_≡_, refl}
-use mathlib.Core.Bool.{Bool, _&&_}
+use mathlib.Core.Bool.{Bool, false, _&&_}
 use mathlib.Core.Option.{none}
 use mathlib.Core.List.{List}
 use Prim.Native.Nat.{ℕ, _+_, _≤_, _<_}
@@ -8,7 +8,7 @@ use native.Mathlib.Omega.{arith}
 use native.Mathlib.Nat.{le-trans}
 use lib.Dec.{leb}
 use lib.ListN.{length, getD}
-use borrow.Author.Tests.{leb-true, le-leb}
+use borrow.Author.Tests.{le-ltb, leb-true, le-leb, eq-eqb}
 use Rattle.scope.specs.Numbers.{when}
 use Rattle.scope.specs.Ticks.{supply}
 use Rattle.scope.specs.Windows.{Board, supplied}
@@ -38,6 +38,11 @@ met-supply b ws ts H answered s t =
     le-trans (exact-meets b ws ts (meets H) answered H .0 refl .1 t) (least-over-all-starts (supplied b ws) (b .frame) (supplied-periodic b ws (f .table .frame)) s t)
 
 -- ---- every run under earliest deadline first
+
+-- the machine's order is strict: no job goes before itself
+pub edf-strict : (ts : List Task) (js : List Job) (j : ℕ) → edf ts js j j ≡ false
+edf-strict ts js j =
+    rw (le-ltb (deadline ts js j) (deadline ts js j) (omega arith), eq-eqb (deadline ts js j) (deadline ts js j) refl, le-ltb (taskOf js j) (taskOf js j) (omega arith))
 
 -- the tick machine's is one: of the earliest jobs it serves the one of the lowest task
 pub machine-edf : (σ : ℕ → Bool) (ts : List Task) (js : List Job) → Under σ js (deadline ts js) (workLeft σ (edf ts js) js)
