@@ -2,5 +2,5 @@ pub mod NumberLaws
 pub mod TaskLaws
 pub mod SumLaws
 pub mod FlatLaws
-pub mod EnoughLaws
+pub mod AlikeLaws
 pub mod Passed

@@ -1,7 +1,7 @@
 -- `verdict` meets its contract: a walk of its MIR, by hand. The records are passed on to `flatten`, and what it returns to `verdict_of`, with the rest.
--- All that the proof knows of the two is that each meets its contract. That the first 33 records are enough is `EnoughLaws`'.
+-- All that the proof knows of the two is that each meets its contract. That the numbers of the first records are answered as all are is `AlikeLaws`'.
 -- Assumes nothing.
-use mathlib.Core.Path.{_≡_, refl, _∙_, ap}
+use mathlib.Core.Path.{_≡_, refl, _∙_}
 use Prim.Native.Nat.{ℕ, _≤_}
 use mathlib.Core.List.{[], _∷_, List}
 use lib.ListN.{length}
@@ -45,9 +45,9 @@ use Rattle.checker.proofs.task.Task as T
 use Rattle.checker.proofs.answer.Verdict as U
 use Rattle.checker.proofs.answer.Verdict.Laws as U′
 use Rattle.records.specs.declared.flat.Flat.{Flat}
-use Rattle.records.specs.Numbers.{numbersOf}
+use Rattle.records.specs.Numbers.{numbersOf, enoughNumbers}
 use Rattle.records.proofs.FlatLaws.{front, Flattened}
-use Rattle.records.proofs.EnoughLaws.{enough-verdict}
+use Rattle.records.proofs.AlikeLaws.{flattened-alike, alike-verdict}
 use Rattle.records.proofs.Passed.{Windows, Records, windows-val, records-val, WindowsOwn, RecordsOwn, board-vals, Params, Token, Twice, lists-out, lists-in, Flatten, flatten-of, to-flatten, goes-flatten}
 use Rattle.records.proofs.flat.Flat as F
 use Rattle.records.proofs.flat.Flat.Laws as F′
@@ -102,7 +102,7 @@ module _ {M : Type 1} (𝓤 : URA M) (H : Heap 𝓤) (A : Atoms 𝓤) (W : Given
   abbrev to-callee : Flat → Val → Callee 𝓤 H A mem run .Ghost
   to-callee f v = (((κ, tt), (q, tt), tt, (b, (ws, (f, tt))), (board-vals b, (windows-val ws ∷ [], (v ∷ [], tt)))), tt)
 
-  goes-callee : (f : Flat) (v : Val) → f .len ≤ 99 → Is F.the-row f (v ∷ []) → ent 𝓤 (⋆ 𝓤 H A (‵ (flft κ q) ∷ ‵ (WindowsOwn κ ws) ∷ [])) (Callee 𝓤 H A mem run .pre (to-callee f v))
+  goes-callee : (f : Flat) (v : Val) → f .len ≤ enoughNumbers → Is F.the-row f (v ∷ []) → ent 𝓤 (⋆ 𝓤 H A (‵ (flft κ q) ∷ ‵ (WindowsOwn κ ws) ∷ [])) (Callee 𝓤 H A mem run .pre (to-callee f v))
   goes-callee f v le is =
       qed W (‵ (flft κ q) ∷ ‵ (WindowsOwn κ ws) ∷ []) ∵ says ! le $ nothing ! $ owned ! F.the-row (Is F.the-row) (LL.makes F.the-type F′.the-plain 𝓤 H A) f _ is $ fjoin ! $
       move ! (2 ∷ 0 ∷ []) $ fjoin ! $ owned ! B.the-row (Is B.the-row) (LL.makes B.the-type B′.the-plain 𝓤 H A) b _ good $ fjoin ! $ nothing ! $ move ! (2 ∷ 0 ∷ []) $ join ! $ frame ! $ done !
@@ -135,7 +135,7 @@ module _ {M : Type 1} (𝓤 : URA M) (H : Heap 𝓤) (A : Atoms 𝓤) (W : Given
         -- [windows' token; records' token; windows; records; _4; …; _3; …; _2; …; _1; …; _0; …]
         returns ! (look ! 12 refl) $ forget ! 4 refl $ forget ! 6 refl $ forget ! 8 refl $ forget ! 10 refl $ forget ! 12 refl $
         move ! (12 ∷ 13 ∷ []) $ free1 ! $ move ! (10 ∷ 11 ∷ []) $ free1 ! $ move ! (8 ∷ 9 ∷ []) $ free1 ! $ move ! (6 ∷ 7 ∷ []) $ free1 ! $ move ! (4 ∷ 5 ∷ []) $ free1 ! $ free0 ! $
-        keep ! (0 ∷ 1 ∷ 3 ∷ 2 ∷ []) $ by ! (exits r w (e ∙ ap (λ (l : List ℕ). verdictAnswer (boardOf b) (ws .now) l) (flat .1) ∙ enough-verdict (ts .now) (boardOf b) (ws .now)) is′))))))))))))))
+        keep ! (0 ∷ 1 ∷ 3 ∷ 2 ∷ []) $ by ! (exits r w (e ∙ alike-verdict (front f) (numbersOf (ts .now)) (flattened-alike (ts .now) f flat) (boardOf b) (ws .now)) is′))))))))))))))
 
 module _ {M : Type 1} (𝓤 : URA M) (H : Heap 𝓤) (A : Atoms 𝓤) (W : Given 𝓤 H A) (mem : Memory → SProp 𝓤) (run : Routine → Fun 𝓤) (𝓣 : Tables 𝓤 H) (known-flatten : Triple 𝓤 (𝓣 .C #flatten) (Flatten 𝓤 H A mem run)) (known : Triple 𝓤 (𝓣 .C #verdict-of) (Callee 𝓤 H A mem run)) where
   walks : Walks 𝓤 H A this.ended stayed (WpFn 𝓤 H (𝓣 .C) (𝓣 .Λ) code.function) (this.clauses 𝓤 H A mem run)
