@@ -3,4 +3,5 @@ pub mod TaskLaws
 pub mod SumLaws
 pub mod FlatLaws
 pub mod AlikeLaws
+pub mod Carried
 pub mod Passed

@@ -1,7 +1,6 @@
 use mathlib.Core.Path.{refl, _≡_}
 use Rattle.records.proofs.FlatLaws.{three-more, flat-length}
 use native.Mathlib.Omega.{arith}
-use Prim.Native.Nat.{_-_}
 use lib.ListN.{length}
 use Rattle.records.specs.Numbers.{enoughNumbers}
 use borrow.Author.Needs.{needs}
