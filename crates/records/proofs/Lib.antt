@@ -5,3 +5,4 @@ pub mod FlatLaws
 pub mod AlikeLaws
 pub mod Carried
 pub mod Passed
+pub mod Buffered
