@@ -6,3 +6,5 @@ pub mod AlikeLaws
 pub mod Carried
 pub mod Passed
 pub mod Buffered
+pub mod Flattening
+pub mod Asked

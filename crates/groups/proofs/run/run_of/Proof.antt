@@ -45,7 +45,7 @@ use Rattle.machine.proofs.run.Ran.Laws as U′
 use Rattle.records.specs.Numbers.{numbersOf, enoughRecords}
 use Rattle.records.proofs.Buffered as Buffered
 use Rattle.records.proofs.Buffered.{Numbers, numbers-val, JobsOwn, CountsOwn, Last, Answered, Written, Told, Lasted, rest-out, rest-in, lasted}
-use Rattle.records.proofs.Passed.{Windows, Records, windows-val, records-val, WindowsOwn, board-vals, Params, Token, lists-in}
+use Rattle.records.proofs.Passed.{windows-mir, Windows, Records, windows-val, records-val, WindowsOwn, board-vals, Params, Token, lists-in}
 use Rattle.records.proofs.run.run as entry
 use Rattle.records.proofs.run.run.Symbol as entry-def
 use Rattle.records.proofs.run.run.Symbol.{name as #entry}
@@ -53,7 +53,7 @@ use Rattle.records.proofs.run.run.Met as entry-thm
 use Rattle.groups.proofs.Front.{Row, row-vals, row-tells, front, Front}
 use Rattle.records.proofs.Carried.{Carried, Rooms, Cells, opened, shut}
 use Rattle.groups.proofs.Lending.{Spots, envAt, Lends, lends}
-use Rattle.groups.proofs.Held.{windows-mir, held-stays, held-goes, Held, Out, held-out, held-in}
+use Rattle.groups.proofs.Held.{held-stays, held-goes, Held, Out, held-out, held-in}
 use Rattle.groups.proofs.run.run_of.Key.{name as #this}
 use Rattle.groups.proofs.run.run_of as this
 use Rattle.groups.proofs.run.run_of.Statement as stated

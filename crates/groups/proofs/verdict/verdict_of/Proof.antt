@@ -41,7 +41,7 @@ use Rattle.checker.proofs.board.Board.Laws as B′
 use Rattle.checker.proofs.answer.Verdict as U
 use Rattle.checker.proofs.answer.Verdict.Laws as U′
 use Rattle.records.specs.Numbers.{numbersOf, enoughRecords}
-use Rattle.records.proofs.Passed.{Windows, windows-val, records-val, WindowsOwn, board-vals, Token}
+use Rattle.records.proofs.Passed.{windows-mir, Windows, windows-val, records-val, WindowsOwn, board-vals, Token}
 use Rattle.records.proofs.verdict.verdict as entry
 use Rattle.records.proofs.verdict.verdict.Symbol as entry-def
 use Rattle.records.proofs.verdict.verdict.Symbol.{name as #entry}
@@ -49,7 +49,7 @@ use Rattle.records.proofs.verdict.verdict.Met as entry-thm
 use Rattle.groups.proofs.Front.{Row, row-vals, row-tells, front}
 use Rattle.records.proofs.Carried.{Carried}
 use Rattle.groups.proofs.Lending.{Lends, lends}
-use Rattle.groups.proofs.Held.{windows-mir, held-stays, held-goes, Entry, asked, answered, ended}
+use Rattle.groups.proofs.Held.{held-stays, held-goes, Entry, asked, answered, ended}
 use Rattle.groups.proofs.verdict.verdict_of.Key.{name as #this}
 use Rattle.groups.proofs.verdict.verdict_of as this
 use Rattle.groups.proofs.verdict.verdict_of.Statement as stated
