@@ -1,4 +1,4 @@
--- The first k records of a local array of 33, lent as a `&[Task]` for a lifetime of a call, and back.
+-- The first k records of a local array, lent as a `&[Task]` for a lifetime of a call, and back.
 --     behind           what is left of a row once its first k elements are taken.        cut-front, put-front      a row is its first k elements and that
 --     lends-front      the local's cell at xs  ⊢ ⇛ ∃ γ. own (the `&κ [Task]` to the first k, γ) ∗ the lender's part ∗ the rest
 --     front-back       [†κ] ∗ the lender's part ∗ the rest  ⊢ ⇛ the local's cell at xs
@@ -32,13 +32,14 @@ use denote.Struct.Laws as LL
 use Rattle.checker.specs.declared.task.Task.{Task}
 use Rattle.checker.proofs.task.Task as T
 use Rattle.checker.proofs.task.Task.Laws as T′
+use Rattle.records.specs.Numbers.{enoughRecords}
 use Rattle.records.proofs.Passed.{Records, RecordsOwn}
 
 abbrev pub Row : RattleType
-Row = Array T.the-row 33
+Row = Array T.the-row enoughRecords
 
 abbrev pub row-mir : Ty
-row-mir = tyArray T′.mir 33
+row-mir = tyArray T′.mir enoughRecords
 
 abbrev pub row-vals : List Task → List Val
 row-vals = array-vals (LL.vals T.the-type T′.the-laws)
@@ -47,7 +48,7 @@ abbrev pub row-val : List Task → Val
 row-val xs = only (row-vals xs)
 
 pub row-tells : Tells Row (Is Row) row-vals
-row-tells = array-tells T.the-row (LL.vals T.the-type T′.the-laws) (LL.tells T.the-type T′.the-laws) 33
+row-tells = array-tells T.the-row (LL.vals T.the-type T′.the-laws) (LL.tells T.the-type T′.the-laws) enoughRecords
 
 -- what is left of a row once its first k elements are taken
 abbrev pub behind : List Task → ℕ → ℕ → ℕ → Fml
@@ -72,10 +73,10 @@ slice = sliceTy (tyRef erased imm (pointee (T.the-row .written)))
 
 module _ {M : Type 1} (𝓤 : URA M) (H : Heap 𝓤) (A : Atoms 𝓤) (W : Given 𝓤 H A) where
   pub row-lawful : Lawful 𝓤 H A Row
-  row-lawful = array-lawful 𝓤 H A W T.the-row (LL.lawful T.the-type T′.the-laws 𝓤 H A W) 33
+  row-lawful = array-lawful 𝓤 H A W T.the-row (LL.lawful T.the-type T′.the-laws 𝓤 H A W) enoughRecords
 
   pub row-makes : Makes 𝓤 H A Row (Is Row)
-  row-makes = array-makes 𝓤 H A W T.the-row (LL.makes T.the-type T′.the-plain 𝓤 H A) 33
+  row-makes = array-makes 𝓤 H A W T.the-row (LL.makes T.the-type T′.the-plain 𝓤 H A) enoughRecords
 
   cut-front : (xs : List Task) (k b o : ℕ) → ent 𝓤 (sem 𝓤 H A (row T.the-row fullShare xs b o)) (sep 𝓤 (sem 𝓤 H A (row T.the-row fullShare (take k xs) b o)) (sem 𝓤 H A (behind xs k b o)))
   cut-front xs zero b o = qed W (‵ (row T.the-row fullShare xs b o) ∷ []) ∵ nothing ! $ done !
@@ -98,16 +99,16 @@ module _ {M : Type 1} (𝓤 : URA M) (H : Heap 𝓤) (A : Atoms 𝓤) (W : Given
       qed W (‵ (fat fullShare row-mir l 0 (row-val xs)) ∷ []) ∵ updating ! $ use1 W (‵ (cellAt fullShare (Row .mir) (row-vals xs) l 0)) (W .laws .at-raw fullShare row-mir l 0 (row-val xs)) $
       owned ! Row (Is Row) row-makes xs _ is $ move ! (1 ∷ 0 ∷ []) $ fjoin ! $
       fpack ! (List Val) (λ us. fsep (cellAt fullShare (Row .mir) us l 0) (Row .own xs us)) (row-vals xs) $
-      use1 W (‵ (arr-parts (shares T.the-row) 33 .part fullShare xs l 0)) (array-apart 𝓤 H A W T.the-row fullShare tt 33 xs l 0) $ fsplit ! $ drop ! $
+      use1 W (‵ (arr-parts (shares T.the-row) enoughRecords .part fullShare xs l 0)) (array-apart 𝓤 H A W T.the-row fullShare tt enoughRecords xs l 0) $ fsplit ! $ drop ! $
       use1 W (‵ (row T.the-row fullShare (take k xs) l 0) ⊛ ‵ (behind xs k l 0)) (cut-front xs k l 0) $ split ! $ feqI ! ℕ (length (take k xs)) (length (take k xs)) refl $ fjoin ! $
       use1 W (later (some (λ (γ : GName). ‵ (Front κ l γ xs k) ⊛ ‵ (LentFront κ l xs k)))) (lends-shr-slice 𝓤 H A W T.the-row (named 1) κ fullShare (take k xs) l 0 room) $ await ! tt $ pick ! (λ γ. at-once ! $
       show ! (λ (δ : GName). sep 𝓤 (sep 𝓤 (sem 𝓤 H A (Front κ l δ xs k)) (sem 𝓤 H A (LentFront κ l xs k))) (sem 𝓤 H A (behind xs k l 0))) γ $ done !)
 
-  pub front-back : (κ : Lft) (xs : List Task) (k l : ℕ) → length xs ≡ 33
+  pub front-back : (κ : Lft) (xs : List Task) (k l : ℕ) → length xs ≡ enoughRecords
       → ent 𝓤 (sep 𝓤 (A .dead κ) (sep 𝓤 (sem 𝓤 H A (LentFront κ l xs k)) (sem 𝓤 H A (behind xs k l 0)))) (H .⇛ (H .at fullShare row-mir l 0 (row-val xs)))
   unfolding partOf
   front-back κ xs k l e =
       qed W (‵ (fdead κ) ∷ ‵ (LentFront κ l xs k) ∷ ‵ (behind xs k l 0) ∷ []) ∵ updating ! $ lent-back ! tt $ fsplit ! $ drop ! $ use2 W (‵ (row T.the-row fullShare xs l 0)) (put-front xs k l 0) $
-      feqI ! ℕ (length xs) 33 e $ fjoin ! $ use1 W (‵ (partAt Row fullShare xs l 0)) (array-whole 𝓤 H A W T.the-row fullShare 33 xs l 0) $
+      feqI ! ℕ (length xs) enoughRecords e $ fjoin ! $ use1 W (‵ (partAt Row fullShare xs l 0)) (array-whole 𝓤 H A W T.the-row fullShare enoughRecords xs l 0) $
       fpick ! (λ vs. fsplit ! $ spelt ! Row (Is Row) (shows 𝓤 H A Row) row-vals row-tells fullShare xs vs l 0 $
       use1 W (‵ (fat fullShare row-mir l 0 (row-val xs))) (W .laws .raw-at fullShare row-mir l 0 (row-val xs)) $ at-once ! $ keep ! (0 ∷ []) $ done !)

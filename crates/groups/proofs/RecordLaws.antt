@@ -1,34 +1,66 @@
--- The records of a list of numbers, made one after the other, and the numbers of as many as are made
-use mathlib.Core.Path.{_≡_, sym, ap, _∙_}
+-- The records of a list of numbers, made one after the other, and what is answered on those that are lent
+use mathlib.Core.Path.{_≡_, refl, sym, ap, _∙_}
+use mathlib.Core.Logic.{inl, inr}
 use mathlib.Core.List.{List, [], _∷_, _++_}
-use Prim.Native.Nat.{ℕ, _+_, _/_, _<_}
+use Prim.Native.Nat.{ℕ, _+_, _*_, _/_, _%_, _<_, _≤_}
 use native.Mathlib.Omega.{arith}
 use native.Mathlib.Numerals.{add-one}
+use native.Mathlib.Decide.{ℕ-discrete, decLe}
 use lib.ListN.{length, take, set}
-use lib.Seq.{take-suc, take-suc-set}
+use lib.Seq.{length-take-le, take-all, take-suc, take-suc-set}
+use Rattle.scope.specs.Limits.{mostTasks}
+use Rattle.scope.specs.Answers.{Fault, Fault.fine, Fault.fault, taskListFault}
 use Rattle.theory.specs.Lists.{threes-length, threes-at}
 use Rattle.checker.specs.declared.task.Task.{Task}
-use Rattle.records.specs.Numbers.{numbersOf}
-use Rattle.records.proofs.NumberLaws.{none}
-use Rattle.records.proofs.FlatLaws.{enough-is}
-use Rattle.groups.specs.Records.{recordOf, recordsOf, recordAt, enough}
+use Rattle.checker.proofs.TaskLaws.{not-threes, too-many, list-fine, list-short}
+use Rattle.records.specs.Numbers.{numbersOf, enoughRecords}
+use Rattle.records.proofs.NumberLaws.{none, numbers-length}
+use Rattle.records.proofs.AlikeLaws.{Alike, bad-list, over}
+use Rattle.groups.specs.Records.{recordOf, recordsOf, recordAt, madeRecords, lentOf, lentRecords, records-numbers}
 
-pub record-more : (ns : List ℕ) (xs : List Task) (i : ℕ) (x : Task) → i < enough ns → i < length xs → x ≡ recordAt ns i →
-    take i xs ≡ take i (recordsOf ns) → take (i + 1) (set xs i x) ≡ take (i + 1) (recordsOf ns)
+records-length : (ns : List ℕ) → length (recordsOf ns) ≡ length ns / 3
 unfolding recordsOf
+records-length ns = threes-length recordOf ns
+
+record-is : (ns : List ℕ) (i : ℕ) (x : Task) → i < length ns / 3 → x ≡ recordAt ns i → take i (recordsOf ns) ++ (x ∷ []) ≡ take (i + 1) (recordsOf ns)
+unfolding recordsOf
+record-is ns i x l e =
+    rw (add-one i) (ap (λ (y : Task). take i (recordsOf ns) ++ (y ∷ [])) (e ∙ sym (threes-at recordOf none ns i (omega arith)))
+    ∙ sym (take-suc (recordsOf ns) i none (omega (arith, records-length ns))))
+
+-- one record more is made
+pub record-more : (ns : List ℕ) (xs : List Task) (i : ℕ) (x : Task) → i < madeRecords ns → i < length xs → x ≡ recordAt ns i →
+    take i xs ≡ take i (recordsOf ns) → take (i + 1) (set xs i x) ≡ take (i + 1) (recordsOf ns)
 record-more ns xs i x h l e so =
-    let m : length (recordsOf ns) ≡ length ns / 3 = threes-length recordOf ns in
-    rw (add-one i) (take-suc-set xs i x l ∙ ap (λ (ys : List Task). ys ++ (x ∷ [])) so
-    ∙ ap (λ (y : Task). take i (recordsOf ns) ++ (y ∷ [])) (e ∙ sym (threes-at recordOf none ns i (omega arith))) ∙ sym (take-suc (recordsOf ns) i none (omega arith)))
+    ap (λ (k : ℕ). take k (set xs i x)) (add-one i) ∙ take-suc-set xs i x l ∙ ap (λ (ys : List Task). ys ++ (x ∷ [])) so ∙ record-is ns i x (omega arith) e
 
 -- what `gathered` says of what it returns
 abbrev pub Gathered : List ℕ → List Task → Type 0
-Gathered ns xs = take (enough ns) xs ≡ take (enough ns) (recordsOf ns)
+Gathered ns xs = (length xs ≡ enoughRecords) × (take (madeRecords ns) xs ≡ take (madeRecords ns) (recordsOf ns))
 
--- what is answered on the records that are lent is answered on all: `same` is a law of `EnoughLaws`
-pub lent-answer : {A : Type 0} {x : A} (ns : List ℕ) (xs : List Task) (k : ℕ) → k ≡ enough ns → Gathered ns xs → (answer : List ℕ → A) →
-    x ≡ answer (numbersOf (take k xs)) → answer (take 99 (numbersOf (recordsOf ns))) ≡ answer (numbersOf (recordsOf ns)) → x ≡ answer (numbersOf (recordsOf ns))
-unfolding recordsOf
-lent-answer ns xs k e so answer told same =
-    let m : length (recordsOf ns) ≡ length ns / 3 = threes-length recordOf ns in
-    told ∙ ap answer (ap (λ (k : ℕ). numbersOf (take k xs)) e ∙ ap numbersOf so ∙ enough-is (recordsOf ns) (enough ns) (omega arith)) ∙ same
+-- the records that are lent are those of the numbers, or both are refused
+pub lent-alike : (ns : List ℕ) (xs : List Task) (k : ℕ) → Gathered ns xs → k ≡ lentRecords ns → Alike (numbersOf (take k xs)) ns
+lent-alike ns xs k made e =
+    elim (ℕ-discrete (length ns % 3) 0) [
+      | yes t ↦ elim (decLe (length ns) (3 * mostTasks)) [ yes s ↦ inl (whole t s) | no s ↦ refused (too-many ns (omega arith)) ]
+      | no t ↦ refused (not-threes ns t)
+    ]
+  where
+    whole : length ns % 3 ≡ 0 → length ns ≤ 3 * mostTasks → numbersOf (take k xs) ≡ ns
+    whole t s =
+        let m : k ≡ madeRecords ns = e ∙ ap (λ (f : Fault). lentOf f (length ns / 3)) (sym (list-fine ns t s)) ∙ omega arith in
+        ap (λ (n : ℕ). numbersOf (take n xs)) m
+        ∙ ap numbersOf (made .1 ∙ take-all (madeRecords ns) (recordsOf ns) (omega (arith, records-length ns)))
+        ∙ records-numbers ns t
+
+    refused : fault 4 0 ≡ taskListFault ns → Alike (numbersOf (take k xs)) ns
+    refused f =
+        let m : k ≡ enoughRecords = e ∙ ap (λ (f : Fault). lentOf f (length ns / 3)) (sym f) in
+        inr (over (numbersOf (take k xs)) (omega (arith, numbers-length (take k xs), length-take-le k xs (omega (arith, made .0)))), bad-list ns (sym f))
+
+pub lent-within : (ns : List ℕ) (k : ℕ) → k ≡ lentRecords ns → k ≤ enoughRecords
+lent-within ns k e = go (taskListFault ns) refl
+  where
+    go : (f : Fault) → taskListFault ns ≡ f → k ≤ enoughRecords
+    go fine t = let m : k ≡ length ns / 3 = e ∙ ap (λ (f : Fault). lentOf f (length ns / 3)) t in omega (arith, list-short ns t)
+    go (fault n p) t = let m : k ≡ enoughRecords = e ∙ ap (λ (f : Fault). lentOf f (length ns / 3)) t in omega arith

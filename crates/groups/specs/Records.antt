@@ -1,17 +1,18 @@
--- The task records that numbers are: C, T, D, C, T, D, ..
+-- The task records that numbers are, C, T, D, C, T, D, .., and how many of them are lent to `records`
 use Prim.Native.Nat.{ℕ, _+_, _*_, _/_, _%_, min}
 use mathlib.Core.Path.{_≡_, refl, ap}
 use mathlib.Core.List.{List, [], _∷_}
 use native.Mathlib.Omega.{arith}
 use lib.ListN.{length, getD}
 use Rattle.scope.specs.Numbers.{threes}
+use Rattle.scope.specs.Limits.{mostTasks}
+use Rattle.scope.specs.Answers.{Fault, Fault.fine, Fault.fault, taskListFault}
 use Rattle.checker.specs.declared.task.Task.{Task}
-use Rattle.records.specs.Numbers.{numbersOf}
+use Rattle.records.specs.Numbers.{numbersOf, enoughRecords}
 
 abbrev pub recordOf : ℕ → ℕ → ℕ → Task
 recordOf c t d = record { work = c; period = t; deadline = d }
 
--- numbers left over at the end are not read
 unfoldable pub recordsOf : List ℕ → List Task
 recordsOf ns = threes recordOf ns
 
@@ -19,11 +20,18 @@ recordsOf ns = threes recordOf ns
 abbrev pub recordAt : List ℕ → ℕ → Task
 recordAt ns i = recordOf (getD ns (3 * i) 0) (getD ns (3 * i + 1) 0) (getD ns (3 * i + 2) 0)
 
--- how many records are made: over 32 are refused, whatever they hold, and 33 are enough to see that
-abbrev pub enough : List ℕ → ℕ
-enough ns = min (length ns / 3) 33
+-- how many records are made: no more than a group may have
+abbrev pub madeRecords : List ℕ → ℕ
+madeRecords ns = min (length ns / 3) mostTasks
 
--- numbers in threes are their records' own: on them each entry answers as `checker` does
+-- how many are lent: all that are made, or of a list that is refused more records than a group may have: these are refused alike, whatever they hold
+abbrev pub lentOf : Fault → ℕ → ℕ
+lentOf fine whole = whole
+lentOf (fault number place) whole = enoughRecords
+
+abbrev pub lentRecords : List ℕ → ℕ
+lentRecords ns = lentOf (taskListFault ns) (length ns / 3)
+
 pub records-numbers : (ns : List ℕ) → length ns % 3 ≡ 0 → numbersOf (recordsOf ns) ≡ ns
 unfolding recordsOf threes numbersOf
 records-numbers [] h = refl

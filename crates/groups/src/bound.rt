@@ -8,20 +8,25 @@ ghost use Prim.Native.Nat.{_≤_};
 ghost use lib.ListN.{take};
 ghost use Rattle.scope.specs.Answers.{boundAnswer};
 ghost use Rattle.checker.specs.Told.{boardOf, toldBound};
-ghost use Rattle.records.specs.Numbers.{numbersOf};
-ghost use Rattle.groups.specs.Records.{recordsOf};
+ghost use Rattle.records.specs.Numbers.{numbersOf, enoughRecords};
 
 // The bound of a task among the first records.
-fn bound_of(board: Board, windows: &[u32], tasks: [Task; 33], count: usize, index: u32) -> Bound
-    requires { ⌜ count ≤ 33 ⌝ }
+fn bound_of(
+    tasks: [Task; Task::MOST + 1],
+    count: usize,
+    board: Board,
+    windows: &[u32],
+    index: u32,
+) -> Bound
+    requires { ⌜ count ≤ enoughRecords ⌝ }
     ensures { λ r. ⌜ toldBound r ≡ boundAnswer (boardOf board) (now (windows .entry)) (numbersOf (take count tasks)) index ⌝ }
 {
     records::bound::bound(board, windows, &tasks[..count], index)
 }
 
-// The response bound of task `index` under fixed priority, lower index first. Refusals 1 2 3 4 (only over 32 tasks) 5 7.
+// The response bound of task `index` under fixed priority, lower index first. Refusals 1 2 3 4 5 7.
 pub fn bound(board: Board, windows: &[u32], numbers: &[u32], index: u32) -> Bound
-    ensures { λ r. ⌜ toldBound r ≡ boundAnswer (boardOf board) (now (windows .entry)) (numbersOf (recordsOf (now (numbers .entry)))) index ⌝ }
+    ensures { λ r. ⌜ toldBound r ≡ boundAnswer (boardOf board) (now (windows .entry)) (now (numbers .entry)) index ⌝ }
 {
-    bound_of(board, windows, gathered(numbers), count(numbers), index)
+    bound_of(gathered(numbers), count(numbers), board, windows, index)
 }

@@ -9,35 +9,40 @@ ghost use Prim.Native.Nat.{_≤_};
 ghost use lib.ListN.{take};
 ghost use Rattle.scope.specs.Answers.{demandAnswer, marginAnswer};
 ghost use Rattle.checker.specs.Told.{boardOf, toldAmount, toldMargin};
-ghost use Rattle.records.specs.Numbers.{numbersOf};
-ghost use Rattle.groups.specs.Records.{recordsOf};
+ghost use Rattle.records.specs.Numbers.{numbersOf, enoughRecords};
 
 // The demand of the first records.
-fn demand_of(tasks: [Task; 33], count: usize, length: u32) -> Amount
-    requires { ⌜ count ≤ 33 ⌝ }
+fn demand_of(tasks: [Task; Task::MOST + 1], count: usize, length: u32) -> Amount
+    requires { ⌜ count ≤ enoughRecords ⌝ }
     ensures { λ r. ⌜ toldAmount r ≡ demandAnswer (numbersOf (take count tasks)) length ⌝ }
 {
     records::demand::demand(&tasks[..count], length)
 }
 
-// The demand of a group at a length. Refusals 4 (only over 32 tasks) 5 7.
+// The demand of a group at a length. Refusals 4 5 7.
 pub fn demand(numbers: &[u32], length: u32) -> Amount
-    ensures { λ r. ⌜ toldAmount r ≡ demandAnswer (numbersOf (recordsOf (now (numbers .entry)))) length ⌝ }
+    ensures { λ r. ⌜ toldAmount r ≡ demandAnswer (now (numbers .entry)) length ⌝ }
 {
     demand_of(gathered(numbers), count(numbers), length)
 }
 
 // The margin of the first records.
-fn margin_of(board: Board, windows: &[u32], tasks: [Task; 33], count: usize, length: u32) -> Margin
-    requires { ⌜ count ≤ 33 ⌝ }
+fn margin_of(
+    tasks: [Task; Task::MOST + 1],
+    count: usize,
+    board: Board,
+    windows: &[u32],
+    length: u32,
+) -> Margin
+    requires { ⌜ count ≤ enoughRecords ⌝ }
     ensures { λ r. ⌜ toldMargin r ≡ marginAnswer (boardOf board) (now (windows .entry)) (numbersOf (take count tasks)) length ⌝ }
 {
     records::demand::margin(board, windows, &tasks[..count], length)
 }
 
-// Least supply minus demand at a length. Refusals 1 2 3 4 (only over 32 tasks) 5 7.
+// Least supply minus demand at a length. Refusals 1 2 3 4 5 7.
 pub fn margin(board: Board, windows: &[u32], numbers: &[u32], length: u32) -> Margin
-    ensures { λ r. ⌜ toldMargin r ≡ marginAnswer (boardOf board) (now (windows .entry)) (numbersOf (recordsOf (now (numbers .entry)))) length ⌝ }
+    ensures { λ r. ⌜ toldMargin r ≡ marginAnswer (boardOf board) (now (windows .entry)) (now (numbers .entry)) length ⌝ }
 {
-    margin_of(board, windows, gathered(numbers), count(numbers), length)
+    margin_of(gathered(numbers), count(numbers), board, windows, length)
 }

@@ -1,18 +1,22 @@
+use checker::answer::Checked;
 use checker::task::Task;
+use checker::task::check_task_list;
 ghost use mathlib.Core.Path.{_≡_};
 ghost use Prim.Native.Nat.{_+_, _*_, _<_};
 ghost use lib.ListN.{length, take};
-ghost use Rattle.groups.specs.Records.{recordAt, recordsOf, enough};
+ghost use Rattle.records.specs.Numbers.{enoughRecords};
+ghost use Rattle.groups.specs.Records.{recordAt, recordsOf, madeRecords, lentRecords};
 
-// How many records are made of the numbers.
+// How many records are lent: all that the numbers are, or of a list that is refused one more than a group may have. `records` refuses those with 4 too, whatever they hold.
 pub(crate) fn count(numbers: &[u32]) -> usize
-    ensures { λ r. ⌜ r ≡ enough (now (numbers .entry)) ⌝ }
+    ensures { λ r. ⌜ r ≡ lentRecords (now (numbers .entry)) ⌝ }
 {
     let whole = numbers.len() / 3;
-    if whole < 33 {
-        return whole;
+    let over = Task::MOST + 1;
+    match check_task_list(numbers) {
+        Checked::Fine => whole,
+        Checked::Bad(_) => over,
     }
-    33
 }
 
 fn record_at(numbers: &[u32], i: usize) -> Task
@@ -29,16 +33,27 @@ fn record_at(numbers: &[u32], i: usize) -> Task
     }
 }
 
-// The records of the numbers. What stands after them is not lent.
-pub(crate) fn gathered(numbers: &[u32]) -> [Task; 33]
-    ensures { λ r. ⌜ take (enough (now (numbers .entry))) r ≡ take (enough (now (numbers .entry))) (recordsOf (now (numbers .entry))) ⌝ }
+// How many records are made: no more than a group may have.
+fn made(numbers: &[u32]) -> usize
+    ensures { λ r. ⌜ r ≡ madeRecords (now (numbers .entry)) ⌝ }
+{
+    let whole = numbers.len() / 3;
+    if whole <= Task::MOST {
+        return whole;
+    }
+    Task::MOST
+}
+
+// The records that are made. The array has room for one more than a group may have.
+pub(crate) fn gathered(numbers: &[u32]) -> [Task; Task::MOST + 1]
+    ensures { λ r. ⌜ (length r ≡ enoughRecords) × (take (madeRecords (now (numbers .entry))) r ≡ take (madeRecords (now (numbers .entry))) (recordsOf (now (numbers .entry)))) ⌝ }
 {
     let mut tasks = [Task {
         work: 0,
         period: 0,
         deadline: 0,
-    }; 33];
-    let n = count(numbers);
+    }; Task::MOST + 1];
+    let n = made(numbers);
     let mut i = 0;
     while i < n {
         tasks[i] = record_at(numbers, i);

@@ -1,5 +1,5 @@
 // The group of tasks as numbers, C, T, D of each task, asked as task records: whoever has numbers asks `records` through these entries.
-// Each entry's answer equals that of `records` on the records that the numbers are.
+// Each entry's answer is the definition's on the numbers: `records` is lent the records that they are, or where the list is refused some that it refuses alike.
 pub mod bound;
 pub mod demand;
 pub mod gather;

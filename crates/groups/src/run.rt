@@ -9,27 +9,26 @@ ghost use lib.ListN.{length, take};
 ghost use Rattle.scope.specs.Answers.{runAnswer, runOut};
 ghost use Rattle.checker.specs.Told.{boardOf};
 ghost use Rattle.machine.specs.Told.{toldRan};
-ghost use Rattle.records.specs.Numbers.{numbersOf};
-ghost use Rattle.groups.specs.Records.{recordsOf};
+ghost use Rattle.records.specs.Numbers.{numbersOf, enoughRecords};
 
 // The run of the first records.
 fn run_of(
+    tasks: [Task; Task::MOST + 1],
+    count: usize,
     board: Board,
     windows: &[u32],
-    tasks: [Task; 33],
-    count: usize,
     n: u32,
     jobs: &[u32],
     counts: &mut [u32],
 ) -> Ran
-    requires { ⌜ count ≤ 33 ⌝ }
+    requires { ⌜ count ≤ enoughRecords ⌝ }
     ensures answer { λ r. ⌜ toldRan r ≡ runAnswer (boardOf board) (now (windows .entry)) (numbersOf (take count tasks)) n (now (jobs .entry)) (length (now (counts .entry))) ⌝ }
     ensures buffer { λ _. ⌜ now (counts .exit) ≡ runOut (boardOf board) (now (windows .entry)) (numbersOf (take count tasks)) n (now (jobs .entry)) (now (counts .entry)) ⌝ }
 {
     records::run::run(board, windows, &tasks[..count], n, jobs, counts)
 }
 
-// Runs a job list of a group on a table for n ticks: the answer, and one count for each job in the lent buffer. Refusals 1 2 3 4 (only over 32 tasks) 5 10 11 8.
+// Runs a job list of a group on a table for n ticks: the answer, and one count for each job in the lent buffer. Refusals 1 2 3 4 5 10 11 8.
 pub fn run(
     board: Board,
     windows: &[u32],
@@ -38,14 +37,14 @@ pub fn run(
     jobs: &[u32],
     counts: &mut [u32],
 ) -> Ran
-    ensures answer { λ r. ⌜ toldRan r ≡ runAnswer (boardOf board) (now (windows .entry)) (numbersOf (recordsOf (now (numbers .entry)))) n (now (jobs .entry)) (length (now (counts .entry))) ⌝ }
-    ensures buffer { λ _. ⌜ now (counts .exit) ≡ runOut (boardOf board) (now (windows .entry)) (numbersOf (recordsOf (now (numbers .entry)))) n (now (jobs .entry)) (now (counts .entry)) ⌝ }
+    ensures answer { λ r. ⌜ toldRan r ≡ runAnswer (boardOf board) (now (windows .entry)) (now (numbers .entry)) n (now (jobs .entry)) (length (now (counts .entry))) ⌝ }
+    ensures buffer { λ _. ⌜ now (counts .exit) ≡ runOut (boardOf board) (now (windows .entry)) (now (numbers .entry)) n (now (jobs .entry)) (now (counts .entry)) ⌝ }
 {
     run_of(
-        board,
-        windows,
         gathered(numbers),
         count(numbers),
+        board,
+        windows,
         n,
         jobs,
         counts,

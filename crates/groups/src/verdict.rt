@@ -8,20 +8,19 @@ ghost use Prim.Native.Nat.{_≤_};
 ghost use lib.ListN.{take};
 ghost use Rattle.scope.specs.Answers.{verdictAnswer};
 ghost use Rattle.checker.specs.Told.{boardOf, toldVerdict};
-ghost use Rattle.records.specs.Numbers.{numbersOf};
-ghost use Rattle.groups.specs.Records.{recordsOf};
+ghost use Rattle.records.specs.Numbers.{numbersOf, enoughRecords};
 
 // The verdict of the first records.
-fn verdict_of(board: Board, windows: &[u32], tasks: [Task; 33], count: usize) -> Verdict
-    requires { ⌜ count ≤ 33 ⌝ }
+fn verdict_of(tasks: [Task; Task::MOST + 1], count: usize, board: Board, windows: &[u32]) -> Verdict
+    requires { ⌜ count ≤ enoughRecords ⌝ }
     ensures { λ r. ⌜ toldVerdict r ≡ verdictAnswer (boardOf board) (now (windows .entry)) (numbersOf (take count tasks)) ⌝ }
 {
     records::verdict::verdict(board, windows, &tasks[..count])
 }
 
-// Whether the group meets its deadlines under earliest deadline first, or the miss. Refusals 1 2 3 4 (only over 32 tasks) 5 6.
+// Whether the group meets its deadlines under earliest deadline first, or the miss. Refusals 1 2 3 4 5 6.
 pub fn verdict(board: Board, windows: &[u32], numbers: &[u32]) -> Verdict
-    ensures { λ r. ⌜ toldVerdict r ≡ verdictAnswer (boardOf board) (now (windows .entry)) (numbersOf (recordsOf (now (numbers .entry)))) ⌝ }
+    ensures { λ r. ⌜ toldVerdict r ≡ verdictAnswer (boardOf board) (now (windows .entry)) (now (numbers .entry)) ⌝ }
 {
-    verdict_of(board, windows, gathered(numbers), count(numbers))
+    verdict_of(gathered(numbers), count(numbers), board, windows)
 }

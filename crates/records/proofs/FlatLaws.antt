@@ -12,7 +12,7 @@ use denote.Laws.{Is}
 use denote.Struct.Laws as LL
 use Rattle.checker.specs.declared.task.Task.{Task}
 use Rattle.records.specs.declared.flat.Flat.{Flat}
-use Rattle.records.specs.Numbers.{numbersOf}
+use Rattle.records.specs.Numbers.{numbersOf, enoughRecords, enoughNumbers}
 use Rattle.records.proofs.flat.Flat as F
 use Rattle.records.proofs.flat.Flat.Laws as F′
 use Rattle.records.proofs.NumberLaws.{none, numbers-length}
@@ -56,13 +56,12 @@ numbers-take (y ∷ ys) (suc i) =
     let e : 3 * suc i ≡ suc (suc (suc (3 * i))) = omega arith in
     rw e (ap (before y) (numbers-take ys i))
 
--- 33 records are 99 numbers
-pub enough-is : (ys : List Task) (n : ℕ) → n ≡ min (length ys) 33 → numbersOf (take n ys) ≡ take 99 (numbersOf ys)
+pub enough-is : (ys : List Task) (n : ℕ) → n ≡ min (length ys) enoughRecords → numbersOf (take n ys) ≡ take enoughNumbers (numbersOf ys)
 enough-is ys n e =
     let all = numbers-length ys in
-    numbers-take ys n ∙ elim (decLe 33 (length ys)) [
-      | yes l ↦ let m : 3 * n ≡ 99 = omega arith in ap (λ (k : ℕ). take k (numbersOf ys)) m
-      | no l ↦ take-all (3 * n) (numbersOf ys) (omega arith) ∙ sym (take-all 99 (numbersOf ys) (omega arith))
+    numbers-take ys n ∙ elim (decLe enoughRecords (length ys)) [
+      | yes l ↦ let m : 3 * n ≡ enoughNumbers = omega arith in ap (λ (k : ℕ). take k (numbersOf ys)) m
+      | no l ↦ take-all (3 * n) (numbersOf ys) (omega arith) ∙ sym (take-all enoughNumbers (numbersOf ys) (omega arith))
     ]
 
 -- ---- what whoever holds a `Flat` knows
@@ -70,7 +69,7 @@ enough-is ys n e =
 abbrev pub flat-vals : Flat → List Val
 flat-vals = LL.vals F.the-type F′.the-laws
 
-pub flat-length : (f : Flat) (vs : List Val) → Is F.the-row f vs → length (f .numbers) ≡ 99
+pub flat-length : (f : Flat) (vs : List Val) → Is F.the-row f vs → length (f .numbers) ≡ enoughNumbers
 flat-length f vs is = sym (length-map (f .numbers) (λ v. v)) ∙ LL.owed F.the-type F′.the-laws f vs is .0 .1 .0 .1
 
 -- what is written of it, as it is lent
@@ -79,9 +78,9 @@ front f = take (f .len) (f .numbers)
 
 -- what `flatten` says of what it returns
 abbrev pub Flattened : List Task → Flat → Type 0
-Flattened ys f = (f .len ≤ 99) × (front f ≡ take 99 (numbersOf ys))
+Flattened ys f = (f .len ≤ enoughNumbers) × (front f ≡ take enoughNumbers (numbersOf ys))
 
-module _ (f : Flat) (vs : List Val) (is : Is F.the-row f vs) (le : f .len ≤ 99) where
+module _ (f : Flat) (vs : List Val) (is : Is F.the-row f vs) (le : f .len ≤ enoughNumbers) where
   pub front-within : f .len ≤ length (f .numbers)
   front-within = omega (arith, flat-length f vs is)
 

@@ -2,5 +2,9 @@ pub mod NumberLaws
 pub mod TaskLaws
 pub mod SumLaws
 pub mod FlatLaws
-pub mod EnoughLaws
+pub mod AlikeLaws
+pub mod Carried
 pub mod Passed
+pub mod Buffered
+pub mod Flattening
+pub mod Asked

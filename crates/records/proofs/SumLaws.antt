@@ -3,7 +3,7 @@ use mathlib.Core.Path.{_≡_, refl, sym}
 use mathlib.Core.Bool.{Bool, true, false, not, cond}
 use mathlib.Core.Option.{Option, none, some}
 use mathlib.Core.List.{List}
-use Prim.Native.Nat.{ℕ, suc, _+_, _-_, _^_, _≤_, _<_}
+use Prim.Native.Nat.{ℕ, suc, _+_, _^_, _≤_, _<_}
 use native.Mathlib.Omega.{arith}
 use native.Mathlib.Numerals.{add-one}
 use lib.ListN.{length, getD}
@@ -77,7 +77,7 @@ module _ (ys : List records.Task) (t : ℕ) where
       go fine = refl
       go (fault n p) = refl
 
-  -- 32 tasks of at most 2 ^ 52 each
+  -- as many tasks as a group may have, of at most 2 ^ 52 each
   pub roomy : (i : ℕ) → i ≤ length ys → t < 2 ^ 32 → Roomy (soFar i)
   unfolding soFar
   roomy i l h = go (taskListFault (numbersOf ys)) (first broken i) refl refl

@@ -13,7 +13,7 @@ ghost use lib.ListN.{take};
 ghost use Rattle.scope.specs.Tasks.{task, taskLegal, taskDemand};
 ghost use Rattle.scope.specs.Answers.{demandAnswer, marginAnswer};
 ghost use Rattle.checker.specs.Told.{boardOf, toldAmount, toldMargin};
-ghost use Rattle.records.specs.Numbers.{numbersOf};
+ghost use Rattle.records.specs.Numbers.{numbersOf, enoughNumbers};
 ghost use Rattle.records.specs.Sums.{beginOf, addOf, finishOf, Roomy};
 
 // Whether a task keeps its rule.
@@ -38,7 +38,7 @@ fn task_demand(work: u32, period: u32, deadline: u32, length: u32) -> u64
     jobs * work as u64
 }
 
-// Before the first task: over 32 are refused.
+// Before the first task: more than a group may have are refused.
 fn begin(count: usize) -> Amount
     ensures { λ r. ⌜ toldAmount r ≡ beginOf count ⌝ }
 {
@@ -81,7 +81,7 @@ fn finish(sum: Amount, length: u32) -> Amount
     }
 }
 
-// The demand of a group at a length. Refusals 4 (only over 32 tasks) 5 7.
+// The demand of a group at a length. Refusals 4 (only over a group's most tasks) 5 7.
 pub fn demand(tasks: &[Task], length: u32) -> Amount
     ensures { λ r. ⌜ toldAmount r ≡ demandAnswer (numbersOf (now (tasks .entry))) length ⌝ }
 {
@@ -97,7 +97,7 @@ pub fn demand(tasks: &[Task], length: u32) -> Amount
 
 // The margin of a group's first numbers.
 fn margin_of(board: Board, windows: &[u32], flat: Flat, length: u32) -> Margin
-    requires { ⌜ flat .len ≤ 99 ⌝ }
+    requires { ⌜ flat .len ≤ enoughNumbers ⌝ }
     ensures { λ r. ⌜ toldMargin r ≡ marginAnswer (boardOf board) (now (windows .entry)) (take (flat .len) (flat .numbers)) length ⌝ }
 {
     let numbers = flat.numbers;
@@ -105,7 +105,7 @@ fn margin_of(board: Board, windows: &[u32], flat: Flat, length: u32) -> Margin
     checker::demand::margin(board, windows, &numbers[..n], length)
 }
 
-// Least supply minus demand at a length. Refusals 1 2 3 4 (only over 32 tasks) 5 7.
+// Least supply minus demand at a length. Refusals 1 2 3 4 (only over a group's most tasks) 5 7.
 pub fn margin(board: Board, windows: &[u32], tasks: &[Task], length: u32) -> Margin
     ensures { λ r. ⌜ toldMargin r ≡ marginAnswer (boardOf board) (now (windows .entry)) (numbersOf (now (tasks .entry))) length ⌝ }
 {

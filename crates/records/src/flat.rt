@@ -3,36 +3,36 @@ ghost use mathlib.Core.Path.{_≡_};
 ghost use mathlib.Core.List.{[], _∷_, _++_};
 ghost use Prim.Native.Nat.{_+_, _≤_, min};
 ghost use lib.ListN.{take};
-ghost use Rattle.records.specs.Numbers.{numbersOf};
+ghost use Rattle.records.specs.Numbers.{numbersOf, enoughRecords, enoughNumbers};
 
 // The numbers of a group's first records, as the entries of `checker` take them: C, T, D, C, T, D, ..
 pub(crate) struct Flat {
-    pub numbers: [u32; 99],
+    pub numbers: [u32; 3 * (Task::MOST + 1)],
     pub len: usize,
 }
 
-// How many records are read: over 32 are refused, whatever they hold, and 33 are enough to see that.
+// How many records are read: more than a group may have are refused, whatever they hold, and one more is enough to see that.
 fn enough(count: usize) -> usize
-    ensures { λ r. ⌜ r ≡ min count 33 ⌝ }
+    ensures { λ r. ⌜ r ≡ min count enoughRecords ⌝ }
 {
-    if count < 33 {
+    if count <= Task::MOST {
         return count;
     }
-    33
+    Task::MOST + 1
 }
 
 fn empty() -> Flat
     ensures { λ r. ⌜ r .len ≡ 0 ⌝ }
 {
     Flat {
-        numbers: [0; 99],
+        numbers: [0; 3 * (Task::MOST + 1)],
         len: 0,
     }
 }
 
 // One record more.
 fn push(flat: Flat, work: u32, period: u32, deadline: u32) -> Flat
-    requires { ⌜ flat .len ≤ 96 ⌝ }
+    requires { ⌜ flat .len + 3 ≤ enoughNumbers ⌝ }
     ensures { λ r. ⌜ (r .len ≡ flat .len + 3) × (take (r .len) (r .numbers) ≡ take (flat .len) (flat .numbers) ++ (work ∷ period ∷ deadline ∷ [])) ⌝ }
 {
     let mut next = flat;
@@ -44,9 +44,9 @@ fn push(flat: Flat, work: u32, period: u32, deadline: u32) -> Flat
     next
 }
 
-// The numbers of the first 33 records at most.
+// The numbers of as many records as are enough.
 pub(crate) fn flatten(tasks: &[Task]) -> Flat
-    ensures { λ r. ⌜ (r .len ≤ 99) × (take (r .len) (r .numbers) ≡ take 99 (numbersOf (now (tasks .entry)))) ⌝ }
+    ensures { λ r. ⌜ (r .len ≤ enoughNumbers) × (take (r .len) (r .numbers) ≡ take enoughNumbers (numbersOf (now (tasks .entry)))) ⌝ }
 {
     let n = enough(tasks.len());
     let mut flat = empty();

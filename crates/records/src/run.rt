@@ -9,7 +9,7 @@ ghost use lib.ListN.{length, take};
 ghost use Rattle.scope.specs.Answers.{runAnswer, runOut};
 ghost use Rattle.checker.specs.Told.{boardOf};
 ghost use Rattle.machine.specs.Told.{toldRan};
-ghost use Rattle.records.specs.Numbers.{numbersOf};
+ghost use Rattle.records.specs.Numbers.{numbersOf, enoughNumbers};
 
 // The run of a group's first numbers.
 fn run_of(
@@ -20,7 +20,7 @@ fn run_of(
     jobs: &[u32],
     counts: &mut [u32],
 ) -> Ran
-    requires { ⌜ flat .len ≤ 99 ⌝ }
+    requires { ⌜ flat .len ≤ enoughNumbers ⌝ }
     ensures answer { λ r. ⌜ toldRan r ≡ runAnswer (boardOf board) (now (windows .entry)) (take (flat .len) (flat .numbers)) n (now (jobs .entry)) (length (now (counts .entry))) ⌝ }
     ensures buffer { λ _. ⌜ now (counts .exit) ≡ runOut (boardOf board) (now (windows .entry)) (take (flat .len) (flat .numbers)) n (now (jobs .entry)) (now (counts .entry)) ⌝ }
 {
@@ -29,7 +29,7 @@ fn run_of(
     machine::run::run(board, windows, &numbers[..most], n, jobs, counts)
 }
 
-// Runs a job list of a group on a table for n ticks: the answer, and one count for each job in the lent buffer. Refusals 1 2 3 4 (only over 32 tasks) 5 10 11 8.
+// Runs a job list of a group on a table for n ticks: the answer, and one count for each job in the lent buffer. Refusals 1 2 3 4 (only over a group's most tasks) 5 10 11 8.
 pub fn run(
     board: Board,
     windows: &[u32],

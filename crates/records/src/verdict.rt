@@ -8,11 +8,11 @@ ghost use Prim.Native.Nat.{_≤_};
 ghost use lib.ListN.{take};
 ghost use Rattle.scope.specs.Answers.{verdictAnswer};
 ghost use Rattle.checker.specs.Told.{boardOf, toldVerdict};
-ghost use Rattle.records.specs.Numbers.{numbersOf};
+ghost use Rattle.records.specs.Numbers.{numbersOf, enoughNumbers};
 
 // The verdict of a group's first numbers.
 fn verdict_of(board: Board, windows: &[u32], flat: Flat) -> Verdict
-    requires { ⌜ flat .len ≤ 99 ⌝ }
+    requires { ⌜ flat .len ≤ enoughNumbers ⌝ }
     ensures { λ r. ⌜ toldVerdict r ≡ verdictAnswer (boardOf board) (now (windows .entry)) (take (flat .len) (flat .numbers)) ⌝ }
 {
     let numbers = flat.numbers;
@@ -20,7 +20,7 @@ fn verdict_of(board: Board, windows: &[u32], flat: Flat) -> Verdict
     checker::verdict::verdict(board, windows, &numbers[..n])
 }
 
-// Whether the group meets its deadlines under earliest deadline first, or the miss. Refusals 1 2 3 4 (only over 32 tasks) 5 6.
+// Whether the group meets its deadlines under earliest deadline first, or the miss. Refusals 1 2 3 4 (only over a group's most tasks) 5 6.
 pub fn verdict(board: Board, windows: &[u32], tasks: &[Task]) -> Verdict
     ensures { λ r. ⌜ toldVerdict r ≡ verdictAnswer (boardOf board) (now (windows .entry)) (numbersOf (now (tasks .entry))) ⌝ }
 {

@@ -2,21 +2,22 @@ use borrow.Author.Needs.{needs}
 use native.Mathlib.Omega.{arith}
 use Prim.Native.Nat.{ℕ, _-_, _≤_}
 use lib.ListN.{length, take}
-use Rattle.groups.specs.Records.{recordsOf, enough}
+use Rattle.records.specs.Numbers.{enoughRecords}
+use Rattle.groups.specs.Records.{recordsOf, madeRecords}
 use Rattle.groups.proofs.RecordLaws.{record-more}
 use mathlib.Core.Path.{_≡_, sym, ap, _∙_}
 use Rattle.groups.proofs.gather.gathered.Statement.{statement}
 use Rattle.groups.proofs.gather.gathered.Tie as tie
 
 abbrev Inv-loop : tie.InvT-loop
-Inv-loop numbers tasks₀ n i₀ tasks i = (i ≤ n) × (length tasks ≡ 33) × (take i tasks ≡ take i (recordsOf numbers))
+Inv-loop numbers tasks₀ n i₀ tasks i = (i ≤ n) × (length tasks ≡ enoughRecords) × (take i tasks ≡ take i (recordsOf numbers))
 
 abbrev μ-loop : tie.MeasureT-loop
 μ-loop numbers tasks₀ n i₀ tasks i = n - i
 
 -- src/gather.rt:42:9
-count-requires : tie.Need-count-requires Inv-loop μ-loop
-count-requires c κs = search needs
+made-requires : tie.Need-made-requires Inv-loop μ-loop
+made-requires c κs = search needs
 
 -- src/gather.rt:44:5
 loop-holds : tie.Need-loop-holds Inv-loop μ-loop
@@ -47,7 +48,7 @@ loop-again : tie.Need-loop-again Inv-loop μ-loop
 loop-again c =
     let start = c .before .before in
     let l = start .loop in
-    let n : start .before .count .result ≡ enough (start .before .before .before .args .numbers .now) = start .before .count .ensures in
+    let n : start .before .made .result ≡ madeRecords (start .before .before .before .args .numbers .now) = start .before .made .ensures in
     let less = c .before .loop-test .taken in
     (omega arith, search needs, record-more (start .before .before .before .args .numbers .now) (l .tasks) (l .i) (c .record-at .result) (omega arith) (omega (arith, l .inv .1)) (c .record-at .ensures) (l .inv .2))
 
@@ -56,10 +57,10 @@ returns : tie.Need-returns Inv-loop μ-loop
 returns c =
     let start = c .before in
     let ns = start .before .before .before .args .numbers .now in
-    let n : start .before .count .result ≡ enough ns = start .before .count .ensures in
+    let n : start .before .made .result ≡ madeRecords ns = start .before .made .ensures in
     let over = c .loop-test .left in
-    let i : start .loop .i ≡ enough ns = omega (arith, start .loop .inv .0) in
-    ap (λ (k : ℕ). take k (start .loop .tasks)) (sym i) ∙ start .loop .inv .2 ∙ ap (λ (k : ℕ). take k (recordsOf ns)) i
+    let i : start .loop .i ≡ madeRecords ns = omega (arith, start .loop .inv .0) in
+    (start .loop .inv .1, ap (λ (k : ℕ). take k (start .loop .tasks)) (sym i) ∙ start .loop .inv .2 ∙ ap (λ (k : ℕ). take k (recordsOf ns)) i)
 
 pub gathered-spec : {M : Type 1} → statement M
 gathered-spec =
@@ -67,7 +68,7 @@ gathered-spec =
     (tie.spec
     Inv-loop
     μ-loop
-    count-requires
+    made-requires
     loop-holds
     record-at-requires
     mul-tasks

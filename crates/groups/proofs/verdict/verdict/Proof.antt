@@ -1,11 +1,7 @@
-use mathlib.Core.List.{List}
-use Prim.Native.Nat.{ℕ}
+use mathlib.Core.Path.{_∙_}
 use borrow.Author.Needs.{needs}
-use Rattle.scope.specs.Answers.{verdictAnswer}
-use Rattle.checker.specs.Told.{boardOf}
-use Rattle.records.proofs.EnoughLaws.{enough-verdict}
-use Rattle.groups.specs.Records.{recordsOf}
-use Rattle.groups.proofs.RecordLaws.{lent-answer}
+use Rattle.records.proofs.AlikeLaws.{alike-verdict}
+use Rattle.groups.proofs.RecordLaws.{lent-alike, lent-within}
 use Rattle.groups.proofs.verdict.verdict.Statement.{statement}
 use Rattle.groups.proofs.verdict.verdict.Tie as tie
 
@@ -19,14 +15,13 @@ count-requires c κs = search needs
 
 -- src/verdict.rt:26:5
 verdict-of-requires : tie.Need-verdict-of-requires
-verdict-of-requires c κs = search needs
+verdict-of-requires c κs = lent-within _ _ (c .count .ensures)
 
 -- src/verdict.rt:23:1
 returns : tie.Need-returns
 returns c =
-    let start = c .before .before .before .before .before in
-    let ns = start .args .numbers .now in
-    lent-answer ns _ _ (c .before .count .ensures) (c .before .before .gathered .ensures) (λ (l : List ℕ). verdictAnswer (boardOf (start .args .board)) (start .args .windows .now) l) (c .verdict-of .ensures) (enough-verdict (recordsOf ns) _ _)
+    let lent = lent-alike _ _ _ (c .before .before .gathered .ensures) (c .before .count .ensures) in
+    c .verdict-of .ensures ∙ alike-verdict _ _ lent _ _
 
 pub verdict-spec : {M : Type 1} → statement M
 verdict-spec = tie.close (tie.spec gathered-requires count-requires verdict-of-requires returns)

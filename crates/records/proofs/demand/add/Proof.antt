@@ -5,7 +5,6 @@ use Rattle.checker.specs.Told.{toldAmount}
 use Rattle.records.specs.Sums.{addOf, Roomy}
 use Rattle.records.proofs.TaskLaws.{task-most}
 use native.Mathlib.Omega.{arith}
-use Prim.Native.Nat.{_-_}
 use lib.ListN.{length}
 use borrow.Author.Needs.{needs}
 use Rattle.records.proofs.demand.add.Statement.{statement}

@@ -1,7 +1,6 @@
 use borrow.Author.Needs.{needs}
 use borrow.Author.Tests.{lt-ltb, le-ltb}
 use Rattle.records.specs.Sums.{beginOf}
-use Prim.Native.Nat.{_-_}
 use Rattle.records.proofs.demand.begin.Statement.{statement}
 use Rattle.records.proofs.demand.begin.Tie as tie
 

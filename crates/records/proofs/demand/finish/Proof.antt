@@ -1,7 +1,6 @@
 use borrow.Author.Tests.{lt-ltb, le-ltb}
 use Rattle.scope.specs.Answers.{lengthFault}
 use Rattle.records.specs.Sums.{finishOf}
-use Prim.Native.Nat.{_-_}
 use borrow.Author.Needs.{needs}
 use Rattle.records.proofs.demand.finish.Statement.{statement}
 use Rattle.records.proofs.demand.finish.Tie as tie

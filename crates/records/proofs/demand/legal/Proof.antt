@@ -1,7 +1,6 @@
 use mathlib.Core.Path.{sym, ap, _∙_}
 use Rattle.checker.specs.Told.{toldTask}
 use Rattle.records.proofs.TaskLaws.{taken-legal, refused-illegal}
-use Prim.Native.Nat.{_-_}
 use borrow.Author.Needs.{needs}
 use Rattle.records.proofs.demand.legal.Statement.{statement}
 use Rattle.records.proofs.demand.legal.Tie as tie

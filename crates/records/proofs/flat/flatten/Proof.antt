@@ -49,7 +49,7 @@ use denote.Triple.Walked.{says, Stays, stay-none-slice, walkOf, goes-none-slice,
 use denote.Exit.{yes}
 use Rattle.checker.specs.declared.task.Task.{Task}
 use Rattle.records.specs.declared.flat.Flat.{Flat}
-use Rattle.records.specs.Numbers.{numbersOf}
+use Rattle.records.specs.Numbers.{numbersOf, enoughRecords, enoughNumbers}
 use Rattle.records.proofs.NumberLaws.{none}
 use Rattle.records.proofs.FlatLaws.{before, numbers-more, enough-is, flat-vals, front, Flattened}
 use Rattle.checker.proofs.task.Task as T
@@ -131,7 +131,7 @@ goes-on ys n s r w less le e is = record {
   so-far = e .1 ∙ ap (λ (l : List ℕ). l ++ before (elem ys n s) []) (s .so-far) ∙ sym (numbers-more ys (s .i) (omega arith));
 }
 
-all-done : (ys : List Task) (n : ℕ) (s : St ys n) → n ≡ min (length ys) 33 → n ≤ s .i → Flattened ys (s .flat)
+all-done : (ys : List Task) (n : ℕ) (s : St ys n) → n ≡ min (length ys) enoughRecords → n ≤ s .i → Flattened ys (s .flat)
 all-done ys n s e over =
     let at : s .i ≡ n = omega (arith, s .within) in
     (omega (arith, s .long), s .so-far ∙ ap (λ (k : ℕ). numbersOf (take k ys)) at ∙ enough-is ys n e)
@@ -156,8 +156,8 @@ module _ {M : Type 1} (𝓤 : URA M) (H : Heap 𝓤) (A : Atoms 𝓤) (mem : Mem
   Push = tripleOf 𝓤 H A push.signature (push.spec 𝓤 H A mem run)
 
   -- of each callee's `ensured`, the clause alone: none has a last value
-  enough-of : (n r : ℕ) → ent 𝓤 (ensured 𝓤 H A enough.ended (enough.clauses 𝓤 H A mem run) tt (n, tt) tt r) (fact 𝓤 (r ≡ min n 33))
-  enough-of n r = exE 𝓤 _ (λ ws. snd∗ 𝓤 (sem 𝓤 H A (lasts enough.ended tt (n, tt) ws)) (fact 𝓤 (r ≡ min n 33)))
+  enough-of : (n r : ℕ) → ent 𝓤 (ensured 𝓤 H A enough.ended (enough.clauses 𝓤 H A mem run) tt (n, tt) tt r) (fact 𝓤 (r ≡ min n enoughRecords))
+  enough-of n r = exE 𝓤 _ (λ ws. snd∗ 𝓤 (sem 𝓤 H A (lasts enough.ended tt (n, tt) ws)) (fact 𝓤 (r ≡ min n enoughRecords)))
 
   empty-of : (r : Flat) → ent 𝓤 (ensured 𝓤 H A empty.ended (empty.clauses 𝓤 H A mem run) tt tt tt r) (fact 𝓤 (r .len ≡ 0))
   empty-of r = exE 𝓤 _ (λ ws. snd∗ 𝓤 (sem 𝓤 H A (lasts empty.ended tt tt ws)) (fact 𝓤 (r .len ≡ 0)))
@@ -205,7 +205,7 @@ module _ {M : Type 1} (𝓤 : URA M) (H : Heap 𝓤) (A : Atoms 𝓤) (W : Given
   abbrev to-push : Flat → Task → Push 𝓤 H A mem run .Ghost
   to-push f y = ((tt, tt, tt, (f, (y .work, (y .period, (y .deadline, tt)))), (flat-vals f, (vint w32 (y .work) ∷ [], (vint w32 (y .period) ∷ [], (vint w32 (y .deadline) ∷ [], tt))))), tt)
 
-  goes-push : (f : Flat) (y : Task) → f .len ≤ 96 → Good f → Is T.the-row y (vals y) → ent 𝓤 (sem 𝓤 H A ftrue) (Push 𝓤 H A mem run .pre (to-push f y))
+  goes-push : (f : Flat) (y : Task) → f .len + 3 ≤ enoughNumbers → Good f → Is T.the-row y (vals y) → ent 𝓤 (sem 𝓤 H A ftrue) (Push 𝓤 H A mem run .pre (to-push f y))
   goes-push f y le good g =
       let fields = LL.owed T.the-type T′.the-laws y _ g in
       qed W (‵ ftrue ∷ []) ∵ says ! le $ nothing ! $
@@ -213,7 +213,7 @@ module _ {M : Type 1} (𝓤 : URA M) (H : Heap 𝓤) (A : Atoms 𝓤) (W : Given
       owned ! u32 (Is u32) (uint-makes 𝓤 H A W w32) (y .work) _ (refl, fields .0 .1) $ fjoin ! $
       owned ! U.the-row (Is U.the-row) (LL.makes U.the-type U′.the-plain 𝓤 H A) f _ good $ fjoin ! $ move ! (1 ∷ 0 ∷ []) $ frame ! $ done !
 
-  module _ (n : ℕ) (n-is : n ≡ min (length ys) 33) (𝓣 : Tables 𝓤 H) (known-push : Triple 𝓤 (𝓣 .C #push) (Push 𝓤 H A mem run)) (l₀ l₁ l₂ l₃ l₄ l₅ l₆ l₇ l₈ l₉ l₁₀ : ℕ) where
+  module _ (n : ℕ) (n-is : n ≡ min (length ys) enoughRecords) (𝓣 : Tables 𝓤 H) (known-push : Triple 𝓤 (𝓣 .C #push) (Push 𝓤 H A mem run)) (l₀ l₁ l₂ l₃ l₄ l₅ l₆ l₇ l₈ l₉ l₁₀ : ℕ) where
     abbrev C : Calls 𝓤 H
     C = 𝓣 .C
 
@@ -315,7 +315,7 @@ module _ {M : Type 1} (𝓤 : URA M) (H : Heap 𝓤) (A : Atoms 𝓤) (W : Given
         nothing ! $ use1 W (raw (Enough 𝓤 H A mem run .pre to-enough)) goes-enough $
         calls-at ! (fmOf 𝓤 H (W .laws) 𝓣) (Enough 𝓤 H A mem run) known-enough to-enough (and-then ! (load ! (from ! (stop !)) (look ! 9 refl)) (no-more !)) (λ v.
         use1 W (later (some (λ (n : ℕ). (‵ ftrue ⊛ ‵ (usize .own n (v ∷ []))) ⊛ raw (ensured 𝓤 H A enough.ended (enough.clauses 𝓤 H A mem run) tt (length ys, tt) tt n)))) (id⊢ 𝓤 _) $ await ! tt $ pick ! (λ n.
-        split ! $ move ! (1 ∷ []) $ use1 W (raw (fact 𝓤 (n ≡ min (length ys) 33))) (enough-of 𝓤 H A mem run (length ys) n) $ heard ! (n ≡ min (length ys) 33) (λ n-is. split ! $ drop ! $
+        split ! $ move ! (1 ∷ []) $ use1 W (raw (fact 𝓤 (n ≡ min (length ys) enoughRecords))) (enough-of 𝓤 H A mem run (length ys) n) $ heard ! (n ≡ min (length ys) enoughRecords) (λ n-is. split ! $ drop ! $
         facts ! usize (Is usize) (shows 𝓤 H A usize) n (v ∷ []) (λ n-fits.
         land ! (from ! (stop !)) (init ! 16 refl (uint-lawful 𝓤 H A W w64 .typed n _ n-fits .0)) $ rewrite ! 16 (λ (u : Val). ‵ (fat fullShare (tyInt w64) l₂ 0 u)) (ap only (n-fits .0)) refl $
         nothing ! $ use1 W (raw (Empty 𝓤 H A mem run .pre (to-empty 𝓤 H A mem run))) goes-empty $

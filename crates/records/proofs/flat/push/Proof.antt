@@ -1,8 +1,8 @@
 use mathlib.Core.Path.{refl, _≡_}
 use Rattle.records.proofs.FlatLaws.{three-more, flat-length}
 use native.Mathlib.Omega.{arith}
-use Prim.Native.Nat.{_-_}
 use lib.ListN.{length}
+use Rattle.records.specs.Numbers.{enoughNumbers}
 use borrow.Author.Needs.{needs}
 use Rattle.records.proofs.flat.push.Statement.{statement}
 use Rattle.records.proofs.flat.push.Tie as tie
@@ -47,7 +47,7 @@ add-next-3 c = search needs
 returns : tie.Need-returns
 returns c =
     let a = c .args in
-    let all : length (a .flat .numbers) ≡ 99 = flat-length (a .flat) _ (c .good .0) in
+    let all : length (a .flat .numbers) ≡ enoughNumbers = flat-length (a .flat) _ (c .good .0) in
     (refl, three-more (a .flat .numbers) (a .flat .len) (a .work) (a .period) (a .deadline) (omega (arith, c .pre)))
 
 pub push-spec : {M : Type 1} → statement M

@@ -1,8 +1,8 @@
 -- `run` meets its contract: a walk of its MIR, by hand. The records are passed on to `flatten`, and what it returns to `run_of`, with the rest.
 -- The buffer is passed on to `run_of` for good: of it the walk has at the end what `run_of` says of its last numbers.
--- All that the proof knows of the two is that each meets its contract. That the first 33 records are enough is `EnoughLaws`'.
+-- All that the proof knows of the two is that each meets its contract. That the numbers of the first records are answered as all are is `AlikeLaws`'.
 -- Assumes nothing.
-use mathlib.Core.Path.{_≡_, refl, _∙_, ap}
+use mathlib.Core.Path.{_≡_, refl, _∙_}
 use Prim.Native.Nat.{ℕ, _<_, _≤_, _^_}
 use mathlib.Core.List.{[], _∷_, List}
 use lib.ListN.{length}
@@ -50,9 +50,9 @@ use Rattle.machine.specs.Told.{toldRan}
 use Rattle.machine.proofs.run.Ran as U
 use Rattle.machine.proofs.run.Ran.Laws as U′
 use Rattle.records.specs.declared.flat.Flat.{Flat}
-use Rattle.records.specs.Numbers.{numbersOf}
+use Rattle.records.specs.Numbers.{numbersOf, enoughNumbers}
 use Rattle.records.proofs.FlatLaws.{front, Flattened}
-use Rattle.records.proofs.EnoughLaws.{enough-run, enough-out}
+use Rattle.records.proofs.AlikeLaws.{flattened-alike, alike-run, alike-out}
 use Rattle.records.proofs.Passed.{Windows, Records, windows-val, records-val, WindowsOwn, RecordsOwn, board-vals, Params, Token, lists-in, Flatten, flatten-of, to-flatten, goes-flatten}
 use Rattle.records.proofs.flat.Flat as F
 use Rattle.records.proofs.flat.Flat.Laws as F′
@@ -187,7 +187,7 @@ module _ {M : Type 1} (𝓤 : URA M) (H : Heap 𝓤) (A : Atoms 𝓤) (W : Given
   abbrev Asked : List (Item 𝓤)
   Asked = Tokens ∷ ‵ (WindowsOwn κ ws) ∷ ‵ (JobsOwn κ₂ js) ∷ ‵ (CountsOwn κ₃ cs) ∷ []
 
-  goes-callee : (f : Flat) (v : Val) → f .len ≤ 99 → Is F.the-row f (v ∷ []) → ent 𝓤 (⋆ 𝓤 H A Asked) (Callee 𝓤 H A mem run .pre (to-callee f v))
+  goes-callee : (f : Flat) (v : Val) → f .len ≤ enoughNumbers → Is F.the-row f (v ∷ []) → ent 𝓤 (⋆ 𝓤 H A Asked) (Callee 𝓤 H A mem run .pre (to-callee f v))
   goes-callee f v le is =
       qed W Asked ∵ says ! le $ nothing ! $ move ! (4 ∷ 0 ∷ []) $ fjoin ! $ move ! (3 ∷ 0 ∷ []) $ fjoin ! $ owned ! u32 (Is u32) (uint-makes 𝓤 H A W w32) n _ (refl, n-fits) $ fjoin ! $
       owned ! F.the-row (Is F.the-row) (LL.makes F.the-type F′.the-plain 𝓤 H A) f _ is $ fjoin ! $ move ! (2 ∷ 0 ∷ []) $ fjoin ! $
@@ -232,8 +232,8 @@ module _ {M : Type 1} (𝓤 : URA M) (H : Heap 𝓤) (A : Atoms 𝓤) (W : Given
         move ! (24 ∷ 25 ∷ []) $ free1 ! $ move ! (22 ∷ 23 ∷ []) $ free1 ! $ move ! (20 ∷ 21 ∷ []) $ free1 ! $ move ! (18 ∷ 19 ∷ []) $ free1 ! $ move ! (16 ∷ 17 ∷ []) $ free1 ! $
         move ! (14 ∷ 15 ∷ []) $ free1 ! $ move ! (12 ∷ 13 ∷ []) $ free1 ! $ move ! (10 ∷ 11 ∷ []) $ free1 ! $ move ! (8 ∷ 9 ∷ []) $ free1 ! $ move ! (6 ∷ 7 ∷ []) $ free1 ! $ free0 ! $
         keep ! (0 ∷ 2 ∷ 5 ∷ 4 ∷ 3 ∷ 1 ∷ []) $ by ! (exits r ys w
-        (told .0 ∙ ap (λ (l : List ℕ). runAnswer (boardOf b) (ws .now) l n (js .now) (length (cs .now))) (flat .1) ∙ enough-run (ts .now) (boardOf b) (ws .now) n (js .now) (length (cs .now)))
-        (told .1 ∙ ap (λ (l : List ℕ). runOut (boardOf b) (ws .now) l n (js .now) (cs .now)) (flat .1) ∙ enough-out (ts .now) (boardOf b) (ws .now) n (js .now) (cs .now))
+        (told .0 ∙ alike-run (front f) (numbersOf (ts .now)) (flattened-alike (ts .now) f flat) (boardOf b) (ws .now) n (js .now) (length (cs .now)))
+        (told .1 ∙ alike-out (front f) (numbersOf (ts .now)) (flattened-alike (ts .now) f flat) (boardOf b) (ws .now) n (js .now) (cs .now))
         (told .2) is′))))))))))))))))))))
 
 module _ {M : Type 1} (𝓤 : URA M) (H : Heap 𝓤) (A : Atoms 𝓤) (W : Given 𝓤 H A) (mem : Memory → SProp 𝓤) (run : Routine → Fun 𝓤) (𝓣 : Tables 𝓤 H) (known-flatten : Triple 𝓤 (𝓣 .C #flatten) (Flatten 𝓤 H A mem run)) (known : Triple 𝓤 (𝓣 .C #run-of) (Callee 𝓤 H A mem run)) where

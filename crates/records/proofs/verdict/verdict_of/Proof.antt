@@ -1,5 +1,4 @@
 use Rattle.records.proofs.FlatLaws.{front-within, front-length}
-use Prim.Native.Nat.{_-_}
 use borrow.Author.Needs.{needs}
 use Rattle.records.proofs.verdict.verdict_of.Statement.{statement}
 use Rattle.records.proofs.verdict.verdict_of.Tie as tie
