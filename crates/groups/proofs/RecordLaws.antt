@@ -1,18 +1,20 @@
 -- The records of a list of numbers, made one after the other, and what is answered on those that are lent
 use mathlib.Core.Path.{_≡_, refl, sym, ap, _∙_}
+use mathlib.Core.Bool.{Bool, true, false}
 use mathlib.Core.Logic.{inl, inr}
 use mathlib.Core.List.{List, [], _∷_, _++_}
 use Prim.Native.Nat.{ℕ, _+_, _*_, _/_, _%_, _<_, _≤_}
 use native.Mathlib.Omega.{arith}
 use native.Mathlib.Numerals.{add-one}
-use native.Mathlib.Decide.{ℕ-discrete, decLe}
 use lib.ListN.{length, take, set}
 use lib.Seq.{length-take-le, take-all, take-suc, take-suc-set}
+use Rattle.scope.specs.Numbers.{badCount}
 use Rattle.scope.specs.Limits.{mostTasks}
 use Rattle.scope.specs.Answers.{Fault, Fault.fine, Fault.fault, taskListFault}
-use Rattle.theory.specs.Lists.{threes-length, threes-at}
+use Rattle.theory.specs.Lists.{pieces-length, three-at, count-fine}
+use Rattle.theory.specs.Answers.{task-list-legal}
 use Rattle.checker.specs.declared.task.Task.{Task}
-use Rattle.checker.proofs.TaskLaws.{not-threes, too-many, list-fine, list-short}
+use Rattle.checker.proofs.TaskLaws.{list-by}
 use Rattle.records.specs.Numbers.{numbersOf, enoughRecords}
 use Rattle.records.proofs.NumberLaws.{none, numbers-length}
 use Rattle.records.proofs.AlikeLaws.{Alike, bad-list, over}
@@ -20,12 +22,12 @@ use Rattle.groups.specs.Records.{recordOf, recordsOf, recordAt, madeReco
 
 records-length : (ns : List ℕ) → length (recordsOf ns) ≡ length ns / 3
 unfolding recordsOf
-records-length ns = threes-length recordOf ns
+records-length ns = pieces-length _ 3 recordOf ns
 
 record-is : (ns : List ℕ) (i : ℕ) (x : Task) → i < length ns / 3 → x ≡ recordAt ns i → take i (recordsOf ns) ++ (x ∷ []) ≡ take (i + 1) (recordsOf ns)
 unfolding recordsOf
 record-is ns i x l e =
-    rw (add-one i) (ap (λ (y : Task). take i (recordsOf ns) ++ (y ∷ [])) (e ∙ sym (threes-at recordOf none ns i (omega arith)))
+    rw (add-one i) (ap (λ (y : Task). take i (recordsOf ns) ++ (y ∷ [])) (e ∙ sym (three-at recordOf none ns i (omega arith)))
     ∙ sym (take-suc (recordsOf ns) i none (omega (arith, records-length ns))))
 
 -- one record more is made
@@ -40,15 +42,11 @@ Gathered ns xs = (length xs ≡ enoughRecords) × (take (madeRecords ns) xs ≡ 
 
 -- the records that are lent are those of the numbers, or both are refused
 pub lent-alike : (ns : List ℕ) (xs : List Task) (k : ℕ) → Gathered ns xs → k ≡ lentRecords ns → Alike (numbersOf (take k xs)) ns
-lent-alike ns xs k made e =
-    elim (ℕ-discrete (length ns % 3) 0) [
-      | yes t ↦ elim (decLe (length ns) (3 * mostTasks)) [ yes s ↦ inl (whole t s) | no s ↦ refused (too-many ns (omega arith)) ]
-      | no t ↦ refused (not-threes ns t)
-    ]
+lent-alike ns xs k made e = go (badCount 3 mostTasks ns) refl
   where
-    whole : length ns % 3 ≡ 0 → length ns ≤ 3 * mostTasks → numbersOf (take k xs) ≡ ns
-    whole t s =
-        let m : k ≡ madeRecords ns = e ∙ ap (λ (f : Fault). lentOf f (length ns / 3)) (sym (list-fine ns t s)) ∙ omega arith in
+    whole : fine ≡ taskListFault ns → length ns % 3 ≡ 0 → length ns / 3 ≤ mostTasks → numbersOf (take k xs) ≡ ns
+    whole f t s =
+        let m : k ≡ madeRecords ns = e ∙ ap (λ (f : Fault). lentOf f (length ns / 3)) (sym f) ∙ omega arith in
         ap (λ (n : ℕ). numbersOf (take n xs)) m
         ∙ ap numbersOf (made .1 ∙ take-all (madeRecords ns) (recordsOf ns) (omega (arith, records-length ns)))
         ∙ records-numbers ns t
@@ -58,9 +56,13 @@ lent-alike ns xs k made e =
         let m : k ≡ enoughRecords = e ∙ ap (λ (f : Fault). lentOf f (length ns / 3)) (sym f) in
         inr (over (numbersOf (take k xs)) (omega (arith, numbers-length (take k xs), length-take-le k xs (omega (arith, made .0)))), bad-list ns (sym f))
 
+    go : (t : Bool) → badCount 3 mostTasks ns ≡ t → Alike (numbersOf (take k xs)) ns
+    go true bad = refused (list-by ns true bad)
+    go false good = let c = count-fine 3 mostTasks ns good in inl (whole (list-by ns false good) (c .0) (c .1))
+
 pub lent-within : (ns : List ℕ) (k : ℕ) → k ≡ lentRecords ns → k ≤ enoughRecords
 lent-within ns k e = go (taskListFault ns) refl
   where
     go : (f : Fault) → taskListFault ns ≡ f → k ≤ enoughRecords
-    go fine t = let m : k ≡ length ns / 3 = e ∙ ap (λ (f : Fault). lentOf f (length ns / 3)) t in omega (arith, list-short ns t)
+    go fine t = let m : k ≡ length ns / 3 = e ∙ ap (λ (f : Fault). lentOf f (length ns / 3)) t in omega (arith, task-list-legal ns t .1)
     go (fault n p) t = let m : k ≡ enoughRecords = e ∙ ap (λ (f : Fault). lentOf f (length ns / 3)) t in omega arith

@@ -4,7 +4,7 @@ use mathlib.Core.Path.{_≡_, refl, ap}
 use mathlib.Core.List.{List, [], _∷_}
 use native.Mathlib.Omega.{arith}
 use lib.ListN.{length, getD}
-use Rattle.scope.specs.Numbers.{threes}
+use Rattle.scope.specs.Numbers.{piecesFrom, pieces}
 use Rattle.scope.specs.Limits.{mostTasks}
 use Rattle.scope.specs.Answers.{Fault, Fault.fine, Fault.fault, taskListFault}
 use Rattle.checker.specs.declared.task.Task.{Task}
@@ -14,7 +14,7 @@ abbrev pub recordOf : ℕ → ℕ → ℕ → Task
 recordOf c t d = record { work = c; period = t; deadline = d }
 
 unfoldable pub recordsOf : List ℕ → List Task
-recordsOf ns = threes recordOf ns
+recordsOf ns = pieces 3 recordOf ns
 
 -- record i of the numbers
 abbrev pub recordAt : List ℕ → ℕ → Task
@@ -33,7 +33,7 @@ abbrev pub lentRecords : List ℕ → ℕ
 lentRecords ns = lentOf (taskListFault ns) (length ns / 3)
 
 pub records-numbers : (ns : List ℕ) → length ns % 3 ≡ 0 → numbersOf (recordsOf ns) ≡ ns
-unfolding recordsOf threes numbersOf
+unfolding recordsOf piecesFrom pieces numbersOf
 records-numbers [] h = refl
 records-numbers (a ∷ []) h = absurd (omega arith)
 records-numbers (a ∷ b ∷ []) h = absurd (omega arith)

@@ -2,7 +2,7 @@
 use mathlib.Core.Path.{_≡_, refl, sym, ap, subst}
 use mathlib.Core.Logic.{_⊎_, inl, inr}
 use mathlib.Core.List.{List}
-use Prim.Native.Nat.{ℕ, _*_, _<_}
+use Prim.Native.Nat.{ℕ, _/_, _<_}
 use native.Mathlib.Omega.{arith}
 use native.Mathlib.Decide.{decLe}
 use lib.ListN.{length, take}
@@ -78,7 +78,7 @@ pub bad-list : (ts : List ℕ) → taskListFault ts ≡ fault 4 0 → groupFault
 unfolding groupFault
 bad-list ts e = or-fault _ _ e
 
-pub over : (ts : List ℕ) → 3 * mostTasks < length ts → groupFault ts ≡ fault 4 0
+pub over : (ts : List ℕ) → mostTasks < length ts / 3 → groupFault ts ≡ fault 4 0
 over ts h = bad-list ts (sym (too-many ts h))
 
 -- the numbers of the first records, as many as are enough, and all

@@ -12,10 +12,10 @@ use Rattle.scope.specs.Numbers.{sum, first, firstBy}
 use Rattle.scope.specs.Tasks.{Task, tasksOf, taskAt, taskLegal, badTask, taskDemand, demand}
 use Rattle.scope.specs.Answers.{Fault, Fault.fine, Fault.fault, Answer, faultIf, faultAt, _orElse_, unless, taskListFault, taskFault, groupFault, lengthFault, demandAnswer}
 use Rattle.theory.specs.Numbers.{sum-le, sum-same, first-none, first-some, some-first}
+use Rattle.theory.specs.Answers.{task-list-legal}
 use Rattle.theory.specs.Tasks.{demand-sum}
 use Rattle.checker.specs.Told.{taskOf}
 use Rattle.checker.specs.declared.task.Task as records
-use Rattle.checker.proofs.TaskLaws.{list-short}
 use Rattle.records.specs.Numbers.{numbersOf}
 use Rattle.records.specs.Sums.{beginOf, addOf, finishOf, Roomy}
 use Rattle.records.proofs.NumberLaws as numbers
@@ -91,7 +91,7 @@ module _ (ys : List records.Task) (t : ℕ) where
       go fine (some c) e e′ = tt
       go fine none e e′ = omega (
         arith,
-        list-short (numbersOf ys) e,
+        task-list-legal (numbersOf ys) e .1,
         numbers.numbers-length ys,
         sum-le (λ k. taskDemand (taskAt ts k) t) (λ k. 2 ^ 52) i (each e′),
         sum-same (2 ^ 52) i,

@@ -2,6 +2,7 @@
 use Prim.Native.Nat.{ℕ, _≤_, _<_}
 use mathlib.Core.Path.{_≡_, sym, _∙_}
 use mathlib.Core.Logic.{_↔_}
+use mathlib.Core.Option.{none}
 use mathlib.Core.List.{List}
 use lib.ListN.{length, getD}
 use Rattle.scope.specs.Ticks.{leastSupply}
@@ -9,11 +10,13 @@ use Rattle.scope.specs.Windows.{supplied}
 use Rattle.scope.specs.Tasks.{tasksOf, taskAt, demand}
 use Rattle.scope.specs.Cycle.{cycle}
 use Rattle.scope.specs.Verdict as Verdicts
-use Rattle.scope.specs.Jobs.{jobsOf, taskOf, deadline}
+use Rattle.scope.specs.Jobs.{Job, jobsOf, taskOf, deadline, badJob}
+use Rattle.scope.specs.Run.{countOf}
 use Rattle.scope.specs.Answers.{Answer.given, Fault.fine, _orElse_, jobListFault, jobFault, roomFault, demandAnswer, marginAnswer, verdictAnswer, boundAnswer, runAnswer, runOut}
-use Rattle.scope.specs.Demands.{LeastMiss, Way, Served}
+use Rattle.scope.specs.Demands.{LeastMiss, Under, Way, Served}
 use Rattle.checker.specs.declared.board.Board.{Board}
 use Rattle.checker.specs.declared.task.Task.{Task}
+use Rattle.checker.specs.declared.answer.Refusal.{Refusal}
 use Rattle.checker.specs.declared.answer.Amount.{Amount}
 use Rattle.checker.specs.declared.answer.Margin.{Margin}
 use Rattle.checker.specs.declared.answer.Bound.{Bound}
@@ -22,10 +25,10 @@ use Rattle.checker.specs.declared.answer.Verdict.the-variants.{Meets, Miss}
 use Rattle.checker.specs.Told.{boardOf, toldAmount, toldMargin, toldVerdict, toldBound}
 use Rattle.checker.specs.Determined.{amount-determined, margin-determined, verdict-determined, bound-determined}
 use Rattle.machine.specs.declared.run.Ran.{Ran}
-use Rattle.machine.specs.declared.run.Ran.the-variants.{Met}
+use Rattle.machine.specs.declared.run.Ran.the-variants.{Met, Refused}
 use Rattle.machine.specs.Told.{toldRan}
 use Rattle.machine.specs.Determined.{ran-determined}
-use Rattle.machine.specs.Demands.{verdict-meets, verdict-miss, meets-runs, miss-starves}
+use Rattle.machine.specs.Demands.{run-refused, verdict-meets, verdict-miss, meets-runs, meets-every, miss-starves}
 use Rattle.records.specs.Numbers.{numbersOf}
 
 -- ---- what an entry answers on records, x, and on their numbers, y, is the same: each promises it
@@ -52,6 +55,12 @@ module _ (xs : List Task) where
 
 -- ---- the demands
 
+-- 1: where `run` refuses, the lent buffer is as it was
+pub records-refused : (b : Board) (ws : List ℕ) (xs : List Task) (n : ℕ) (js out left : List ℕ) (r : Ran) →
+    toldRan r ≡ runAnswer (boardOf b) ws (numbersOf xs) n js (length out) → left ≡ runOut (boardOf b) ws (numbersOf xs) n js out →
+    (e : Refusal) → r ≡ Refused e → left ≡ out
+records-refused b ws xs = run-refused b ws (numbersOf xs)
+
 module _ (b : Board) (ws : List ℕ) (xs : List Task) (v : Verdict) (promised : toldVerdict v ≡ verdictAnswer (boardOf b) ws (numbersOf xs)) where
   -- (a)
   pub records-meet : (w : Verdicts.Verdict) → toldVerdict v ≡ given w → (h : ℕ) →
@@ -73,6 +82,14 @@ module _ (b : Board) (ws : List ℕ) (xs : List Task) (v : Verdict) (promised : 
       × ((j : ℕ) → j < length (jobsOf js) → deadline (tasksOf (numbersOf xs)) (jobsOf js) j ≤ n →
       (1 ≤ getD left j 0) × (getD left j 0 ≤ (taskAt (tasksOf (numbersOf xs)) (taskOf (jobsOf js) j)) .D))
   records-run = meets-runs b ws (numbersOf xs) v promised
+
+  pub records-every : (h : ℕ) → v ≡ Meets h →
+      (n : ℕ) (js : List Job) → badJob (tasksOf (numbersOf xs)) n js ≡ none →
+      (left : ℕ → List ℕ) → Under (supplied (boardOf b) ws) js (deadline (tasksOf (numbersOf xs)) js) left →
+      (j : ℕ) → j < length js → deadline (tasksOf (numbersOf xs)) js j ≤ n →
+      (getD (left (deadline (tasksOf (numbersOf xs)) js j)) j 0 ≡ 0)
+      × (1 ≤ countOf left js n j) × (countOf left js n j ≤ (taskAt (tasksOf (numbersOf xs)) (taskOf js j)) .D)
+  records-every = meets-every b ws (numbersOf xs) v promised
 
   -- (d)
   pub records-starve : (t s d p : ℕ) → v ≡ Miss t s d p → (w : Way) → Served (supplied (boardOf b) ws) (tasksOf (numbersOf xs)) w s t → ⊥
