@@ -17,31 +17,24 @@ kept c = toZ-ofZ w64 (c .args .m) (c .fits .m)
 negative : (c : tie.Then1) → Steps (c .before .args .m)
 negative c = steps _ (c .before .fits .m) (rw (kept (c .before)) at (c .if1 .taken))
 
--- src/answer.rt:108:26
 add-below : tie.Need-add-below
 add-below c = rw (kept (c .before)) (negative c .one)
 
--- src/answer.rt:108:21
 sub-below : tie.Need-sub-below
 sub-below c = rw (kept (c .before), negative c .is) (record { sfits = negative c .small })
 
--- src/answer.rt:109:9
 cast-result : tie.Need-cast-result
 cast-result c = rw (kept (c .before), read _ (negative c)) (tt, omega (arith, negative c .small))
 
--- src/answer.rt:109:9
 add-result : tie.Need-add-result
 add-result c = rw (kept (c .before), read _ (negative c)) (omega (arith, negative c .small))
 
--- src/answer.rt:111:9
 cast-result-2 : tie.Need-cast-result-2
 cast-result-2 c = let p = not-negative _ (c .before .fits .m) (rw (kept (c .before)) at (c .if1 .left)) in rw (kept (c .before)) (p .0, omega (arith, p .1))
 
--- src/answer.rt:104:1
 returns : tie.Need-returns
 returns c = rw (kept (c .before), read _ (negative c)) (negative c .size)
 
--- src/answer.rt:104:1
 returns-2 : tie.Need-returns-2
 returns-2 c = ap natAbs (kept (c .before))
 

@@ -9,24 +9,19 @@ use Rattle.checker.proofs.board.check_frame.Reads as reads
 use Rattle.checker.proofs.board.check_frame.Lts as lts
 use Rattle.checker.proofs.board.Board.new.Reads as new-reads
 
--- src/board.rt:38:11
 new-requires : tie.Need-new-requires
 new-requires c κs = search needs
 
--- src/board.rt:39:29
 enum-told : tie.Need-enum-told
 enum-told c = search needs
 
--- src/board.rt:40:28
 enum-known-r : tie.Need-enum-known-r
 enum-known-r c = search needs
 
--- src/board.rt:35:1
 returns : tie.Need-returns
 unfolding boardAnswer
 returns c = none-of _ _ _ (sym (ap toldBoard (c .enum-told .given .1)) ∙ c .before .before .new .ensures)
 
--- src/board.rt:35:1
 returns-2 : tie.Need-returns-2
 unfolding boardAnswer
 returns-2 c = fault-of _ _ (sym (ap toldBoard (c .before .r .given .1)) ∙ c .before .before .before .new .ensures)

@@ -22,23 +22,18 @@ Inv-loop tasks index length sum₀ j₀ sum j = (j ≤ index) × (sum ≡ askedT
 abbrev μ-loop : tie.MeasureT-loop
 μ-loop tasks index length sum₀ j₀ sum j = index - j
 
--- src/bound.rt:31:9
 task-at-requires : tie.Need-task-at-requires Inv-loop μ-loop
 task-at-requires c κs = omega (arith, pieces-length _ 3 task (c .before .args .tasks .now))
 
--- src/bound.rt:32:19
 cast-sum : tie.Need-cast-sum Inv-loop μ-loop
 cast-sum c = search needs
 
--- src/bound.rt:34:5
 loop-holds : tie.Need-loop-holds Inv-loop μ-loop
 loop-holds c = (omega arith, ap (λ (x : Task). x .C) (c .before .task-at .ensures) ∙ sym (askedTo-none _ _ _))
 
--- src/bound.rt:35:13
 task-at-requires-2 : tie.Need-task-at-requires-2 Inv-loop μ-loop
 task-at-requires-2 c κs = omega (arith, pieces-length _ 3 task (c .before .before .before .before .before .args .tasks .now))
 
--- src/bound.rt:36:13
 -- the task just read keeps its rule
 rule : (c : tie.After-task-at2 Inv-loop μ-loop) → TaskRule (taskOf (c .task-at2 .result))
 rule c =
@@ -65,35 +60,27 @@ term c =
 rounded-up-requires : tie.Need-rounded-up-requires Inv-loop μ-loop
 rounded-up-requires c κs = let r = rule c in (omega arith, r .period, r .period-most)
 
--- src/bound.rt:37:17
 cast-sum-2 : tie.Need-cast-sum-2 Inv-loop μ-loop
 cast-sum-2 c = search needs
 
--- src/bound.rt:37:33
 cast-sum-3 : tie.Need-cast-sum-3 Inv-loop μ-loop
 cast-sum-3 c = search needs
 
--- src/bound.rt:37:16
 mul-sum : tie.Need-mul-sum Inv-loop μ-loop
 mul-sum c = omega (arith, term c)
 
--- src/bound.rt:37:9
 add-sum : tie.Need-add-sum Inv-loop μ-loop
 add-sum c = omega (arith, term c)
 
--- src/bound.rt:38:9
 add-j : tie.Need-add-j Inv-loop μ-loop
 add-j c = search needs
 
--- src/bound.rt:34:5
 loop-less : tie.Need-loop-less Inv-loop μ-loop
 loop-less c = search needs
 
--- src/bound.rt:34:5
 loop-again : tie.Need-loop-again Inv-loop μ-loop
 loop-again c = (omega arith, omega (arith, term c))
 
--- src/bound.rt:27:1
 returns : tie.Need-returns Inv-loop μ-loop
 returns c =
     let a = c .before .before .before .before .before .args in

@@ -14,19 +14,15 @@ use Rattle.checker.proofs.bound.bound.Lts as lts
 use Rattle.checker.proofs.bound.response_of.Reads as response-of-reads
 use Rattle.checker.proofs.task.check_group.Reads as check-group-reads
 
--- src/bound.rt:65:11
 check-group-requires : tie.Need-check-group-requires
 check-group-requires c κs = search needs
 
--- src/bound.rt:66:22
 enum-known-r : tie.Need-enum-known-r
 enum-known-r c = search needs
 
--- src/bound.rt:68:21
 enum-told : tie.Need-enum-told
 enum-told c = search needs
 
--- src/bound.rt:72:17
 -- both checks have passed
 group-fine : (c : tie.After-enum-told) → let a = c .before .before .before .before .before .args in
     (tableFault (boardOf (a .board)) (a .windows .now) orElse groupFault (a .tasks .now)) ≡ fine
@@ -37,15 +33,12 @@ response-of-requires c κs =
     let k = checked-legal _ _ _ (group-fine (c .before)) in
     (k .0 .frame, k .0 .frame-most, k .1, omega (arith, pieces-length _ 3 task (c .before .before .before .before .before .before .args .tasks .now)))
 
--- src/bound.rt:62:1
 returns : tie.Need-returns
 returns c = bound-refused _ _ _ _ (sym (c .before .before .before .check-group .ensures) ∙ ap faultOf (c .before .r .given .1))
 
--- src/bound.rt:62:1
 returns-2 : tie.Need-returns-2
 returns-2 c = bound-absent _ _ _ _ (group-fine (c .before)) (c .if1 .taken)
 
--- src/bound.rt:62:1
 returns-3 : tie.Need-returns-3
 returns-3 c = c .response-of .ensures ∙ bound-given _ _ _ _ (group-fine (c .before .before)) (c .before .if1 .left)
 

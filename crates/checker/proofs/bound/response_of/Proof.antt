@@ -25,11 +25,9 @@ Inv-loop board windows tasks index deadline length₀ length =
 abbrev μ-loop : tie.MeasureT-loop
 μ-loop board windows tasks index deadline length₀ length = deadline + 1 - length
 
--- src/bound.rt:48:9
 task-at-requires : tie.Need-task-at-requires Inv-loop μ-loop
 task-at-requires c κs = omega (arith, pieces-length _ 3 task (c .before .before .args .tasks .now))
 
--- src/bound.rt:51:5
 -- the deadline is the task's, and small
 due : (c : tie.After-task-at Inv-loop μ-loop) → let a = c .before .before .before .args in
     (c .task-at .result .deadline ≡ (taskAt (tasksOf (a .tasks .now)) (a .index)) .D) × (c .task-at .result .deadline ≤ mostOfTask)
@@ -42,23 +40,19 @@ due c =
 loop-holds : tie.Need-loop-holds Inv-loop μ-loop
 loop-holds c = (omega arith, omega arith, short-first _ _ _ _)
 
--- src/bound.rt:52:13
 least-of-requires : tie.Need-least-of-requires Inv-loop μ-loop
 least-of-requires c κs =
     let p = c .before .before .before .before .before .pre in
     (p .0, p .1, omega (arith, due (c .before .before)))
 
--- src/bound.rt:53:12
 asked-of-requires : tie.Need-asked-of-requires Inv-loop μ-loop
 asked-of-requires c κs =
     let p = c .before .before .before .before .before .before .pre in
     (p .2, p .3, omega (arith, due (c .before .before .before)))
 
--- src/bound.rt:53:46
 cast-if1 : tie.Need-cast-if1 Inv-loop μ-loop
 cast-if1 c = search needs
 
--- src/bound.rt:54:13
 returns : tie.Need-returns Inv-loop μ-loop
 returns c =
     let l = c .before .before .before .before .loop in
@@ -66,20 +60,16 @@ returns c =
     (bound-found _ _ _ _ (l .length) _ _ _ (l .inv .0) (omega arith) (due (c .before .before .before .before .before) .0)
     (c .before .before .least-of .ensures) (c .before .asked-of .ensures) (c .if1 .taken) (l .inv .2))
 
--- src/bound.rt:56:9
 add-length : tie.Need-add-length Inv-loop μ-loop
 add-length c = omega (arith, due (c .before .before .before .before .before))
 
--- src/bound.rt:51:5
 loop-less : tie.Need-loop-less Inv-loop μ-loop
 loop-less c = search needs
 
--- src/bound.rt:51:5
 loop-again : tie.Need-loop-again Inv-loop μ-loop
 loop-again c =
     (omega arith, omega arith, short-next _ _ _ _ _ _ _ (c .before .before .least-of .ensures) (c .before .asked-of .ensures) (c .if1 .left) (c .before .before .before .before .loop .inv .2))
 
--- src/bound.rt:44:1
 returns-2 : tie.Need-returns-2 Inv-loop μ-loop
 returns-2 c =
     let l = c .before .loop in ap given (no-bound-found _ _ _ _ (l .length) _ (omega arith) (due (c .before .before) .0) (l .inv .2))

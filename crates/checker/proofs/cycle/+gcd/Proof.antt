@@ -21,19 +21,15 @@ gcd-at t = and 0 gcd-kinds.ps (is 0 gcd-kinds.ps μ-gcd t) gcd.Pre
 abbrev gcd-below : ℕ → In 0 gcd-kinds.ps
 gcd-below t = and 0 gcd-kinds.ps (falls 0 gcd-kinds.ps _<_ μ-gcd t) gcd.Pre
 
--- src/cycle.rt:15:35
 gcd-rem-gcd : (t : ℕ) → gcd-lts.Need-rem-gcd (gcd-below t, gcd.Post) (gcd-at t) gcd.Post
 gcd-rem-gcd t c = search needs
 
--- src/cycle.rt:15:28
 gcd-gcd-requires : (t : ℕ) → gcd-lts.Need-gcd-requires (gcd-below t, gcd.Post) (gcd-at t) gcd.Post
 gcd-gcd-requires t c κs = (omega (arith, mod-lt (c .before .args .a) (pos-of-ne-zero (c .if1 .left))), tt)
 
--- src/cycle.rt:12:1
 gcd-returns : (t : ℕ) → gcd-lts.Need-returns (gcd-below t, gcd.Post) (gcd-at t) gcd.Post
 gcd-returns t c = rw (c .if1 .taken) (sym (gcd-zero _))
 
--- src/cycle.rt:12:1
 gcd-returns-2 : (t : ℕ) → gcd-lts.Need-returns-2 (gcd-below t, gcd.Post) (gcd-at t) gcd.Post
 gcd-returns-2 t c = c .gcd .ensures ∙ sym (gcd-step _ _ (pos-of-ne-zero (c .before .if1 .left)))
 

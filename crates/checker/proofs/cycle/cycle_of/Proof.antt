@@ -22,23 +22,18 @@ Inv-loop tasks frame count h₀ i₀ h i = (i ≤ count) × (count ≡ length ta
 abbrev μ-loop : tie.MeasureT-loop
 μ-loop tasks frame count h₀ i₀ h i = count - i
 
--- src/cycle.rt:30:17
 cast-h : tie.Need-cast-h Inv-loop μ-loop
 cast-h c = search needs
 
--- src/cycle.rt:32:5
 loop-holds : tie.Need-loop-holds Inv-loop μ-loop
 loop-holds c = (omega arith, refl, omega arith, refl)
 
--- src/cycle.rt:33:13
 task-at-requires : tie.Need-task-at-requires Inv-loop μ-loop
 task-at-requires c κs = omega arith
 
--- src/cycle.rt:34:22
 cast-period : tie.Need-cast-period Inv-loop μ-loop
 cast-period c = search needs
 
--- src/cycle.rt:35:17
 gcd-requires : tie.Need-gcd-requires Inv-loop μ-loop
 gcd-requires c κs = search needs
 
@@ -48,11 +43,9 @@ period c =
     let b = c .before .before .before .before in
     let r = read-rule _ _ _ (b .pre .2) (omega arith) (c .task-at .ensures) in (r .period, r .period-most)
 
--- src/cycle.rt:35:13
 div-h : tie.Need-div-h Inv-loop μ-loop
 div-h c = rw (c .gcd .ensures) (gcd-pos _ _ (period (c .before .before) .0))
 
--- src/cycle.rt:35:13
 mul-h : tie.Need-mul-h Inv-loop μ-loop
 mul-h c =
     let l = c .before .before .before .before .loop in
@@ -66,29 +59,23 @@ turn c =
     let l = c .before .before .before .before .loop in
     cycle-turn _ _ _ _ _ _ (omega arith) (c .before .before .task-at .ensures) (c .gcd .ensures) (l .inv .3)
 
--- src/cycle.rt:37:13
 returns : tie.Need-returns Inv-loop μ-loop
 returns c =
     let b = c .before .before .before .before .before .before .before in
     cycle-over _ _ _ _ (b .pre .0) (b .pre .2 .rules) (turn (c .before)) (c .if1 .taken)
 
--- src/cycle.rt:39:9
 add-i : tie.Need-add-i Inv-loop μ-loop
 add-i c = search needs
 
--- src/cycle.rt:32:5
 loop-less : tie.Need-loop-less Inv-loop μ-loop
 loop-less c = search needs
 
--- src/cycle.rt:32:5
 loop-again : tie.Need-loop-again Inv-loop μ-loop
 loop-again c = (omega arith, refl, c .if1 .left, turn (c .before))
 
--- src/cycle.rt:41:15
 cast-t13 : tie.Need-cast-t13 Inv-loop μ-loop
 cast-t13 c = search needs
 
--- src/cycle.rt:24:1
 returns-2 : tie.Need-returns-2 Inv-loop μ-loop
 returns-2 c =
     let l = c .before .loop in

@@ -12,27 +12,21 @@ use Rattle.checker.proofs.demand.demand_of.Reads as demand-of-reads
 use Rattle.checker.proofs.length.check_length.Reads as check-length-reads
 use Rattle.checker.proofs.task.check_tasks.Reads as check-tasks-reads
 
--- src/demand.rt:47:11
 check-tasks-requires : tie.Need-check-tasks-requires
 check-tasks-requires c κs = search needs
 
--- src/demand.rt:48:22
 enum-known-r : tie.Need-enum-known-r
 enum-known-r c = search needs
 
--- src/demand.rt:49:32
 enum-told : tie.Need-enum-told
 enum-told c = search needs
 
--- src/demand.rt:49:32
 check-length-requires : tie.Need-check-length-requires
 check-length-requires c κs = search needs
 
--- src/demand.rt:50:26
 enum-known-r-2 : tie.Need-enum-known-r-2
 enum-known-r-2 c = search needs
 
--- src/demand.rt:51:41
 enum-told-2 : tie.Need-enum-told-2
 enum-told-2 c = search needs
 
@@ -43,21 +37,17 @@ tasks-fine c = sym (c .before .before .check-tasks .ensures) ∙ ap faultOf (c .
 length-fine : (c : tie.After-enum-told2) → lengthFault (c .before .before .before .before .before .before .before .args .length) ≡ fine
 length-fine c = sym (c .before .before .check-length .ensures) ∙ ap faultOf (c .enum-told2 .given .1)
 
--- src/demand.rt:51:41
 demand-of-requires : tie.Need-demand-of-requires
 demand-of-requires c κs = (group-legal _ (tasks-fine (c .before .before .before)), length-legal _ (length-fine c))
 
--- src/demand.rt:44:1
 returns : tie.Need-returns
 unfolding demandAnswer
 returns c = refused-by _ _ (or-fault _ _ (sym (c .before .before .before .check-tasks .ensures) ∙ ap faultOf (c .before .r .given .1)))
 
--- src/demand.rt:44:1
 returns-2 : tie.Need-returns-2
 unfolding demandAnswer
 returns-2 c = refused-by _ _ (or-fine _ _ (tasks-fine (c .before .before .before .before)) ∙ sym (c .before .before .before .check-length .ensures) ∙ ap faultOf (c .before .r2 .given .1))
 
--- src/demand.rt:44:1
 returns-3 : tie.Need-returns-3
 unfolding demandAnswer
 returns-3 c = ap given (c .demand-of .ensures .0) ∙ given-by _ _ (or-fine _ _ (tasks-fine (c .before .before .before .before)) ∙ length-fine (c .before))

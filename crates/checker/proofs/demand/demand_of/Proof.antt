@@ -19,15 +19,12 @@ Inv-loop tasks length count sum₀ i₀ sum i = (i ≤ count) × (count ≡ list
 abbrev μ-loop : tie.MeasureT-loop
 μ-loop tasks length count sum₀ i₀ sum i = count - i
 
--- src/demand.rt:27:5
 loop-holds : tie.Need-loop-holds Inv-loop μ-loop
 loop-holds c = (omega arith, refl, sym (demandTo-none _ _))
 
--- src/demand.rt:28:13
 task-at-requires : tie.Need-task-at-requires Inv-loop μ-loop
 task-at-requires c κs = omega arith
 
--- src/demand.rt:29:16
 demand-requires : tie.Need-demand-requires Inv-loop μ-loop
 demand-requires c κs =
     let b = c .before .before .before .before in
@@ -42,26 +39,21 @@ more c =
     let l = c .before .before .before .loop in
     omega (arith, l .inv .2, demandTo-next (tasksOf (a .tasks .now)) (a .length) (l .i), c .demand .ensures, ap (λ (x : Task). taskDemand x (a .length)) (c .before .task-at .ensures))
 
--- src/demand.rt:29:9
 add-sum : tie.Need-add-sum Inv-loop μ-loop
 add-sum c =
     let b = c .before .before .before .before .before in
     let l = c .before .before .before .loop in
     omega (arith, more c, demandTo-most (b .args .tasks .now) (b .args .length) (l .i + 1) (b .pre .0) (b .pre .1) (omega arith))
 
--- src/demand.rt:30:9
 add-i : tie.Need-add-i Inv-loop μ-loop
 add-i c = search needs
 
--- src/demand.rt:27:5
 loop-less : tie.Need-loop-less Inv-loop μ-loop
 loop-less c = search needs
 
--- src/demand.rt:27:5
 loop-again : tie.Need-loop-again Inv-loop μ-loop
 loop-again c = (omega arith, refl, more c)
 
--- src/demand.rt:20:1
 returns : tie.Need-returns Inv-loop μ-loop
 returns c =
     let b = c .before .before .before in

@@ -6,19 +6,15 @@ use Rattle.checker.proofs.demand.difference.Tie as tie
 use Rattle.checker.proofs.demand.difference.Reads as reads
 use Rattle.checker.proofs.demand.difference.Lts as lts
 
--- src/demand.rt:40:6
 cast-result : tie.Need-cast-result
 cast-result c = search needs
 
--- src/demand.rt:40:24
 cast-result-2 : tie.Need-cast-result-2
 cast-result-2 c = search needs
 
--- src/demand.rt:40:5
 sub-result : tie.Need-sub-result
 sub-result c = sub-fits (c .args .supply) (c .args .demand) (omega arith) (omega arith)
 
--- src/demand.rt:36:1
 returns : tie.Need-returns
 returns c = sub-is (c .args .supply) (c .args .demand) (omega arith) (omega arith)
 

@@ -17,27 +17,21 @@ use Rattle.checker.proofs.length.check_length.Reads as check-length-rea
 use Rattle.checker.proofs.supply.least_of.Reads as least-of-reads
 use Rattle.checker.proofs.task.check_group.Reads as check-group-reads
 
--- src/demand.rt:60:11
 check-group-requires : tie.Need-check-group-requires
 check-group-requires c κs = search needs
 
--- src/demand.rt:61:22
 enum-known-r : tie.Need-enum-known-r
 enum-known-r c = search needs
 
--- src/demand.rt:62:32
 enum-told : tie.Need-enum-told
 enum-told c = search needs
 
--- src/demand.rt:62:32
 check-length-requires : tie.Need-check-length-requires
 check-length-requires c κs = search needs
 
--- src/demand.rt:63:26
 enum-known-r-2 : tie.Need-enum-known-r-2
 enum-known-r-2 c = search needs
 
--- src/demand.rt:65:21
 enum-told-2 : tie.Need-enum-told-2
 enum-told-2 c = search needs
 
@@ -55,27 +49,21 @@ known : (c : tie.After-enum-told2) → let a = c .before .before .before .before
 known c =
     let p = checked-legal _ _ _ (group-fine (c .before .before .before)) in (p .0, p .1, length-legal _ (length-fine c))
 
--- src/demand.rt:65:21
 least-of-requires : tie.Need-least-of-requires
 least-of-requires c κs = let k = known c in (k .0 .frame, k .0 .frame-most, k .2)
 
--- src/demand.rt:66:21
 demand-of-requires : tie.Need-demand-of-requires
 demand-of-requires c κs = let k = known (c .before) in (k .1, k .2)
 
--- src/demand.rt:67:28
 difference-requires : tie.Need-difference-requires
 difference-requires c κs = c .demand-of .ensures .1
 
--- src/demand.rt:57:1
 returns : tie.Need-returns
 returns c = margin-refused _ _ _ _ (sym (c .before .before .before .check-group .ensures) ∙ ap faultOf (c .before .r .given .1))
 
--- src/demand.rt:57:1
 returns-2 : tie.Need-returns-2
 returns-2 c = margin-late _ _ _ _ (group-fine (c .before .before .before .before)) (sym (c .before .before .before .check-length .ensures) ∙ ap faultOf (c .before .r2 .given .1))
 
--- src/demand.rt:57:1
 returns-3 : tie.Need-returns-3
 returns-3 c =
     let s = c .before .before .least-of in

@@ -9,24 +9,19 @@ use Rattle.checker.proofs.length.check_length.Reads as reads
 use Rattle.checker.proofs.length.check_length.Lts as lts
 use Rattle.checker.proofs.length.Length.new.Reads as new-reads
 
--- src/length.rt:35:11
 new-requires : tie.Need-new-requires
 new-requires c κs = search needs
 
--- src/length.rt:36:30
 enum-told : tie.Need-enum-told
 enum-told c = search needs
 
--- src/length.rt:37:29
 enum-known-r : tie.Need-enum-known-r
 enum-known-r c = search needs
 
--- src/length.rt:32:1
 returns : tie.Need-returns
 unfolding lengthAnswer
 returns c = none-of _ _ _ (sym (ap toldLength (c .enum-told .given .1)) ∙ c .before .before .new .ensures)
 
--- src/length.rt:32:1
 returns-2 : tie.Need-returns-2
 unfolding lengthAnswer
 returns-2 c = fault-of _ _ (sym (ap toldLength (c .before .r .given .1)) ∙ c .before .before .before .new .ensures)

@@ -6,23 +6,18 @@ use Rattle.checker.proofs.list.bad_count.Tie as tie
 use Rattle.checker.proofs.list.bad_count.Reads as reads
 use Rattle.checker.proofs.list.bad_count.Lts as lts
 
--- src/list.rt:11:9
 returns : tie.Need-returns
 returns c = sym (none-count _ _ _ (c .if1 .taken))
 
--- src/list.rt:13:8
 rem-if2 : tie.Need-rem-if2
 rem-if2 c = search needs
 
--- src/list.rt:14:9
 returns-2 : tie.Need-returns-2
 returns-2 c = sym (left-over-count _ _ _ (c .if2 .taken))
 
--- src/list.rt:16:12
 div-result : tie.Need-div-result
 div-result c = search needs
 
--- src/list.rt:6:1
 returns-3 : tie.Need-returns-3
 returns-3 c = sym (whole-count _ _ _ (c .if2 .left))
 

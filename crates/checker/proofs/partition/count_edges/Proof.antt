@@ -28,34 +28,27 @@ edge-at : (c : tie.After-is-critical Inv-loop μ-loop) →
     edge (risen (boardOf (a .board)) (a .windows .now)) (l .k) ≡ not (Bool·beq (c .is-critical .result) (l .before))
 edge-at c = edge-is _ _ _ _ (c .is-critical .ensures) (c .before .before .loop .inv .1)
 
--- src/partition.rt:44:5
 loop-holds : tie.Need-loop-holds Inv-loop μ-loop
 loop-holds c = (omega arith, was-none _, sym (ap length (kept-none _)))
 
--- src/partition.rt:44:15
 add-loop : tie.Need-add-loop Inv-loop μ-loop
 add-loop c = search needs
 
--- src/partition.rt:45:13
 is-critical-requires : tie.Need-is-critical-requires Inv-loop μ-loop
 is-critical-requires c κs = search needs
 
--- src/partition.rt:47:13
 add-n : tie.Need-add-n Inv-loop μ-loop
 add-n c =
     let a = c .before .before .before .before .before .args in
     let l = c .before .before .before .loop in
     omega (arith, l .inv .2, count-le (edge (risen (boardOf (a .board)) (a .windows .now))) (l .k))
 
--- src/partition.rt:50:9
 add-k : tie.Need-add-k Inv-loop μ-loop
 add-k c = search needs
 
--- src/partition.rt:44:5
 loop-less : tie.Need-loop-less Inv-loop μ-loop
 loop-less c = search needs
 
--- src/partition.rt:44:5
 loop-again : tie.Need-loop-again Inv-loop μ-loop
 loop-again c =
     let a = c .before .before .before .before .before .args in
@@ -68,7 +61,6 @@ loop-again c =
     (λ w. (omega arith, now-was, omega (arith, l .inv .2, w .1, count-miss (edge q) (l .k) (e ∙ w .0 .left))))
     (c .if1 .came)
 
--- src/partition.rt:36:1
 returns : tie.Need-returns Inv-loop μ-loop
 returns c =
     let a = c .before .before .before .args in

@@ -21,45 +21,35 @@ use Rattle.checker.proofs.window.check_table.Reads as check-table-reads
 fine-at : (c : tie.After-enum-told) → let a = c .before .before .before .before .before .args in tableFault (boardOf (a .board)) (a .windows .now) ≡ fine
 fine-at c = sym (c .before .before .check-table .ensures) ∙ ap faultOf (c .enum-told .given .1)
 
--- src/partition.rt:89:11
 check-table-requires : tie.Need-check-table-requires
 check-table-requires c κs = search needs
 
--- src/partition.rt:90:22
 enum-known-r : tie.Need-enum-known-r
 enum-known-r c = search needs
 
--- src/partition.rt:90:28
 refuse-requires : tie.Need-refuse-requires
 refuse-requires c κs = search needs
 
--- src/partition.rt:92:27
 enum-told : tie.Need-enum-told
 enum-told c = search needs
 
--- src/partition.rt:92:27
 count-edges-requires : tie.Need-count-edges-requires
 count-edges-requires c κs = let w = table-legal _ _ (fine-at c) in omega arith
 
--- src/partition.rt:92:27
 cast-numbers : tie.Need-cast-numbers
 cast-numbers c = search needs
 
--- src/partition.rt:95:17
 refuse-requires-2 : tie.Need-refuse-requires-2
 refuse-requires-2 c κs = search needs
 
--- src/partition.rt:97:17
 write-edges-requires : tie.Need-write-edges-requires
 write-edges-requires c κs =
     let w = table-legal _ _ (fine-at (c .before .before .before)) in
     (omega arith, omega arith, omega (arith, c .before .before .count-edges .ensures, c .before .if1 .left))
 
--- src/partition.rt:85:1
 same-length : tie.Need-same-length
 same-length c = search needs
 
--- src/partition.rt:85:1
 returns : tie.Need-returns
 unfolding criticalAnswer criticalOut
 returns c =
@@ -69,11 +59,9 @@ returns c =
     let x = c .before .before .refuse .ensures in
     (x .0 ∙ refused-by _ _ f, x .1 ∙ kept-by _ _ _ f)
 
--- src/partition.rt:85:1
 same-length-2 : tie.Need-same-length-2
 same-length-2 c = search needs
 
--- src/partition.rt:85:1
 returns-2 : tie.Need-returns-2
 unfolding criticalAnswer criticalOut
 returns-2 c =
@@ -84,11 +72,9 @@ returns-2 c =
     let x = c .before .before .refuse2 .ensures in
     (x .0 ∙ ap (refused 8) e ∙ refused-by _ _ f, x .1 ∙ kept-by _ _ _ f)
 
--- src/partition.rt:85:1
 same-length-3 : tie.Need-same-length-3
 same-length-3 c = search needs
 
--- src/partition.rt:85:1
 returns-3 : tie.Need-returns-3
 unfolding criticalAnswer criticalOut
 returns-3 c =

@@ -18,32 +18,25 @@ use Rattle.checker.proofs.window.check_table.Reads as check-table-reads
 fine-at : (c : tie.After-enum-told) → let a = c .before .before .before .before .args in tableFault (boardOf (a .board)) (a .windows .now) ≡ fine
 fine-at c = sym (c .before .before .check-table .ensures) ∙ ap faultOf (c .enum-told .given .1)
 
--- src/partition.rt:127:11
 check-table-requires : tie.Need-check-table-requires
 check-table-requires c κs = search needs
 
--- src/partition.rt:128:22
 enum-known-r : tie.Need-enum-known-r
 enum-known-r c = search needs
 
--- src/partition.rt:130:17
 enum-told : tie.Need-enum-told
 enum-told c = search needs
 
--- src/partition.rt:131:17
 supply-from-requires : tie.Need-supply-from-requires
 supply-from-requires c κs = let w = table-legal _ _ (fine-at c) in omega arith
 
--- src/partition.rt:132:17
 delay-of-requires : tie.Need-delay-of-requires
 delay-of-requires c κs = let w = table-legal _ _ (fine-at (c .before)) in (omega arith, omega arith, c .supply-from .ensures)
 
--- src/partition.rt:124:1
 returns : tie.Need-returns
 unfolding delayAnswer
 returns c = refused-by _ _ (sym (c .before .before .before .check-table .ensures) ∙ ap faultOf (c .before .r .given .1))
 
--- src/partition.rt:124:1
 returns-2 : tie.Need-returns-2
 unfolding delayAnswer
 returns-2 c =

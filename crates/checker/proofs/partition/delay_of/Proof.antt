@@ -21,27 +21,21 @@ Inv-loop board windows whole frame most₀ t₀ most t =
 abbrev μ-loop : tie.MeasureT-loop
 μ-loop board windows whole frame most₀ t₀ most t = frame + 1 - t
 
--- src/partition.rt:113:5
 loop-holds : tie.Need-loop-holds Inv-loop μ-loop
 loop-holds c = (omega arith, sym (greatest-none _))
 
--- src/partition.rt:113:15
 add-loop : tie.Need-add-loop Inv-loop μ-loop
 add-loop c = search needs
 
--- src/partition.rt:114:13
 lag-of-requires : tie.Need-lag-of-requires Inv-loop μ-loop
 lag-of-requires c κs = (omega arith, omega arith, omega arith, c .before .before .before .pre .2)
 
--- src/partition.rt:118:9
 add-t : tie.Need-add-t Inv-loop μ-loop
 add-t c = search needs
 
--- src/partition.rt:113:5
 loop-less : tie.Need-loop-less Inv-loop μ-loop
 loop-less c = search needs
 
--- src/partition.rt:113:5
 loop-again : tie.Need-loop-again Inv-loop μ-loop
 loop-again c =
     let a = c .before .before .before .before .before .args in
@@ -53,7 +47,6 @@ loop-again c =
     (λ w. (omega arith, omega (arith, w .0 .left, w .1, more, e, l .inv .1)))
     (c .if1 .came)
 
--- src/partition.rt:106:1
 returns : tie.Need-returns Inv-loop μ-loop
 unfolding delay
 returns c =

@@ -9,23 +9,18 @@ use Rattle.checker.proofs.partition.is_critical.Reads as reads
 use Rattle.checker.proofs.partition.is_critical.Lts as lts
 use Rattle.checker.proofs.supply.least_of.Reads as least-of-reads
 
--- src/partition.rt:28:9
 returns : tie.Need-returns
 returns c = sym (within-out _ _ _ (c .if1 .taken))
 
--- src/partition.rt:30:9
 least-of-requires : tie.Need-least-of-requires
 least-of-requires c κs = search needs
 
--- src/partition.rt:31:41
 add-least-of : tie.Need-add-least-of
 add-least-of c = search needs
 
--- src/partition.rt:31:9
 least-of-requires-2 : tie.Need-least-of-requires-2
 least-of-requires-2 c κs = search needs
 
--- src/partition.rt:22:1
 returns-2 : tie.Need-returns-2
 returns-2 c = ap₂ ltb (c .before .least-of .ensures) (c .least-of2 .ensures) ∙ risen-in _ _ _ (c .before .before .if1 .left)
 

@@ -33,31 +33,24 @@ known c =
       order = rw (pre .3, c .least-of .ensures) (least-average σ (a .board .frame) (supplied-periodic _ _ (pre .0)) (a .t));
     }
 
--- src/partition.rt:101:9
 least-of-requires : tie.Need-least-of-requires
 least-of-requires c κs = search needs
 
--- src/partition.rt:102:5
 mul-result : tie.Need-mul-result
 mul-result c = omega (arith, known c)
 
--- src/partition.rt:102:36
 cast-result : tie.Need-cast-result
 cast-result c = search needs
 
--- src/partition.rt:102:53
 cast-result-2 : tie.Need-cast-result-2
 cast-result-2 c = search needs
 
--- src/partition.rt:102:35
 mul-result-2 : tie.Need-mul-result-2
 mul-result-2 c = omega (arith, known c)
 
--- src/partition.rt:102:5
 sub-result : tie.Need-sub-result
 sub-result c = omega (arith, known c)
 
--- src/partition.rt:96:1
 returns : tie.Need-returns
 unfolding lag
 returns c =

@@ -16,32 +16,25 @@ use Rattle.checker.proofs.window.check_table.Reads as check-table-reads
 fine-at : (c : tie.After-enum-told) → let a = c .before .before .before .before .args in tableFault (boardOf (a .board)) (a .windows .now) ≡ fine
 fine-at c = sym (c .before .before .check-table .ensures) ∙ ap faultOf (c .enum-told .given .1)
 
--- src/partition.rt:174:11
 check-table-requires : tie.Need-check-table-requires
 check-table-requires c κs = search needs
 
--- src/partition.rt:175:22
 enum-known-r : tie.Need-enum-known-r
 enum-known-r c = search needs
 
--- src/partition.rt:177:17
 enum-told : tie.Need-enum-told
 enum-told c = search needs
 
--- src/partition.rt:177:17
 outage-of-requires : tie.Need-outage-of-requires
 outage-of-requires c κs = let w = table-legal _ _ (fine-at c) in omega arith
 
--- src/partition.rt:178:24
 cast-t7 : tie.Need-cast-t7
 cast-t7 c = search needs
 
--- src/partition.rt:171:1
 returns : tie.Need-returns
 unfolding outageAnswer
 returns c = refused-by _ _ (sym (c .before .before .before .check-table .ensures) ∙ ap faultOf (c .before .r .given .1))
 
--- src/partition.rt:171:1
 returns-2 : tie.Need-returns-2
 unfolding outageAnswer
 returns-2 c = ap given (c .outage-of .ensures) ∙ given-by _ _ (fine-at (c .before))

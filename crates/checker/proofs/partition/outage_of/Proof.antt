@@ -25,34 +25,27 @@ Inv-loop board windows frame run₀ most₀ k₀ run most k =
 abbrev μ-loop : tie.MeasureT-loop
 μ-loop board windows frame run₀ most₀ k₀ run most k = frame - k
 
--- src/partition.rt:161:5
 loop-holds : tie.Need-loop-holds Inv-loop μ-loop
 loop-holds c = (omega arith, sym (outage-none _), sym (longest-none _))
 
--- src/partition.rt:162:13
 is-supplied-requires : tie.Need-is-supplied-requires Inv-loop μ-loop
 is-supplied-requires c κs = search needs
 
--- src/partition.rt:163:9
 outage-on-requires : tie.Need-outage-on-requires Inv-loop μ-loop
 outage-on-requires c κs =
     let a = c .before .before .before .before .args in
     let l = c .before .before .loop in
     omega (arith, l .inv .1, outage-le (supplied (boardOf (a .board)) (a .windows .now)) (l .k))
 
--- src/partition.rt:164:9
 larger-requires : tie.Need-larger-requires Inv-loop μ-loop
 larger-requires c κs = search needs
 
--- src/partition.rt:165:9
 add-k : tie.Need-add-k Inv-loop μ-loop
 add-k c = search needs
 
--- src/partition.rt:161:5
 loop-less : tie.Need-loop-less Inv-loop μ-loop
 loop-less c = search needs
 
--- src/partition.rt:161:5
 loop-again : tie.Need-loop-again Inv-loop μ-loop
 loop-again c =
     let a = c .before .before .before .before .before .before .args in
@@ -64,7 +57,6 @@ loop-again c =
     ∙ sym (outage-more σ (l .k)) in
     (omega arith, r, c .larger .ensures ∙ ap₂ max (l .inv .2) r ∙ sym (greatest-more (outageBefore σ) (l .k + 1)))
 
--- src/partition.rt:153:1
 returns : tie.Need-returns Inv-loop μ-loop
 unfolding outage
 returns c =

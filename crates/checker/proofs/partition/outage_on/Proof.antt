@@ -7,15 +7,12 @@ use Rattle.checker.proofs.partition.outage_on.Tie as tie
 use Rattle.checker.proofs.partition.outage_on.Reads as reads
 use Rattle.checker.proofs.partition.outage_on.Lts as lts
 
--- src/partition.rt:149:24
 add-result : tie.Need-add-result
 add-result c = search needs
 
--- src/partition.rt:145:1
 returns : tie.Need-returns
 returns c = search needs
 
--- src/partition.rt:145:1
 returns-2 : tie.Need-returns-2
 returns-2 c = sym (ap (λ (b : Bool). cond b 0 (c .before .args .n + 1)) (c .if1 .left))
 

@@ -53,42 +53,33 @@ room c =
       ap length (edges-critical (boardOf (a .board)) (a .windows .now)),
     )
 
--- src/partition.rt:64:5
 loop-holds : tie.Need-loop-holds Inv-loop μ-loop
 loop-holds c =
     let a = c .before .before .args in
     let e = kept-none (edge (risen (boardOf (a .board)) (a .windows .now))) in
     (omega arith, was-none _, sym (ap length e), omega arith, refl, sym (ap (λ (l : List ℕ). written l (a .out .now)) e ∙ written-none _))
 
--- src/partition.rt:64:15
 add-loop : tie.Need-add-loop Inv-loop μ-loop
 add-loop c = search needs
 
--- src/partition.rt:65:13
 is-critical-requires : tie.Need-is-critical-requires Inv-loop μ-loop
 is-critical-requires c κs = search needs
 
--- src/partition.rt:67:13
 mul-out : tie.Need-mul-out Inv-loop μ-loop
 mul-out c = let h = room c in omega arith
 
--- src/partition.rt:67:13
 slice-write-out : tie.Need-slice-write-out Inv-loop μ-loop
 slice-write-out c = room c
 
--- src/partition.rt:68:13
 add-at : tie.Need-add-at Inv-loop μ-loop
 add-at c = let h = room c in omega arith
 
--- src/partition.rt:71:9
 add-k : tie.Need-add-k Inv-loop μ-loop
 add-k c = search needs
 
--- src/partition.rt:64:5
 loop-less : tie.Need-loop-less Inv-loop μ-loop
 loop-less c = search needs
 
--- src/partition.rt:64:5
 loop-again : tie.Need-loop-again Inv-loop μ-loop
 loop-again c =
     let a = c .before .before .before .before .before .before .args in
@@ -116,11 +107,9 @@ loop-again c =
     ))
     (c .if1 .came)
 
--- src/partition.rt:56:1
 same-length : tie.Need-same-length Inv-loop μ-loop
 same-length c = c .before .loop .inv .4
 
--- src/partition.rt:56:1
 returns : tie.Need-returns Inv-loop μ-loop
 returns c =
     let a = c .before .before .before .before .args in

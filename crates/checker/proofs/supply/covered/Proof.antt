@@ -17,34 +17,27 @@ Inv-loop windows k count i₀ i = (i ≤ count) × (covers (windowsOf windows) k
 abbrev μ-loop : tie.MeasureT-loop
 μ-loop windows k count i₀ i = count - i
 
--- src/supply.rt:23:5
 loop-holds : tie.Need-loop-holds Inv-loop μ-loop
 loop-holds c = (omega arith, refl)
 
--- src/supply.rt:24:13
 window-at-requires : tie.Need-window-at-requires Inv-loop μ-loop
 window-at-requires c κs = search needs
 
--- src/supply.rt:25:12
 holds-requires : tie.Need-holds-requires Inv-loop μ-loop
 holds-requires c κs = search needs
 
--- src/supply.rt:26:13
 returns : tie.Need-returns Inv-loop μ-loop
 returns c =
     let l = c .before .before .before .before .loop in
     let h = c .before .before .before .loop-test .taken in
     sym (l .inv .1 ∙ covers-hit _ _ _ h (c .before .before .window-at .ensures) (sym (c .before .holds .ensures) ∙ c .if1 .taken))
 
--- src/supply.rt:28:9
 add-i : tie.Need-add-i Inv-loop μ-loop
 add-i c = search needs
 
--- src/supply.rt:23:5
 loop-less : tie.Need-loop-less Inv-loop μ-loop
 loop-less c = search needs
 
--- src/supply.rt:23:5
 loop-again : tie.Need-loop-again Inv-loop μ-loop
 loop-again c =
     let l = c .before .before .before .before .loop in
@@ -53,7 +46,6 @@ loop-again c =
       l .inv .1 ∙ covers-skip _ _ _ h (c .before .before .window-at .ensures) (sym (c .before .holds .ensures) ∙ c .if1 .left),
     )
 
--- src/supply.rt:18:1
 returns-2 : tie.Need-returns-2 Inv-loop μ-loop
 returns-2 c = sym (c .before .loop .inv .1 ∙ covers-end _ _ _ (c .loop-test .left))
 

@@ -6,15 +6,12 @@ use Rattle.checker.proofs.supply.is_supplied.Reads as reads
 use Rattle.checker.proofs.supply.is_supplied.Lts as lts
 use Rattle.checker.proofs.supply.covered.Reads as covered-reads
 
--- src/supply.rt:39:22
 rem-covered : tie.Need-rem-covered
 rem-covered c = search needs
 
--- src/supply.rt:39:5
 covered-requires : tie.Need-covered-requires
 covered-requires c κs = search needs
 
--- src/supply.rt:34:1
 returns : tie.Need-returns
 unfolding supplied
 returns c = c .covered .ensures

@@ -29,31 +29,24 @@ split c =
       least-at-most σ (a .board .frame) per (a .length),
     )
 
--- src/supply.rt:99:9
 supply-from-requires : tie.Need-supply-from-requires
 supply-from-requires c κs = search needs
 
--- src/supply.rt:100:50
 rem-least-over-starts : tie.Need-rem-least-over-starts
 rem-least-over-starts c = search needs
 
--- src/supply.rt:100:9
 least-over-starts-requires : tie.Need-least-over-starts-requires
 least-over-starts-requires c κs = let a = c .before .before .args in omega (arith, mod-le (a .length) (a .board .frame))
 
--- src/supply.rt:101:5
 div-result : tie.Need-div-result
 div-result c = search needs
 
--- src/supply.rt:101:5
 mul-result : tie.Need-mul-result
 mul-result c = omega (arith, split c)
 
--- src/supply.rt:101:5
 add-result : tie.Need-add-result
 add-result c = omega (arith, split c)
 
--- src/supply.rt:94:1
 returns : tie.Need-returns
 returns c = split c .0
 

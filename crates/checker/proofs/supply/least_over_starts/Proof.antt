@@ -22,27 +22,21 @@ Inv-loop board windows length frame n₀ least₀ start₀ n least start =
 abbrev μ-loop : tie.MeasureT-loop
 μ-loop board windows length frame n₀ least₀ start₀ n least start = frame - start
 
--- src/supply.rt:80:9
 supply-from-requires : tie.Need-supply-from-requires Inv-loop μ-loop
 supply-from-requires c κs = search needs
 
--- src/supply.rt:83:5
 loop-holds : tie.Need-loop-holds Inv-loop μ-loop
 loop-holds c = let e = c .supply-from .ensures in (omega arith, e, e ∙ sym (least-first _ _))
 
--- src/supply.rt:87:9
 slid-requires : tie.Need-slid-requires Inv-loop μ-loop
 slid-requires c κs = (omega arith, omega arith, c .before .before .loop .inv .1)
 
--- src/supply.rt:88:9
 add-start : tie.Need-add-start Inv-loop μ-loop
 add-start c = search needs
 
--- src/supply.rt:83:5
 loop-less : tie.Need-loop-less Inv-loop μ-loop
 loop-less c = search needs
 
--- src/supply.rt:83:5
 loop-again : tie.Need-loop-again Inv-loop μ-loop
 loop-again c =
     let a = c .before .before .before .before .before .before .args in
@@ -56,7 +50,6 @@ loop-again c =
           (c .before .if1 .came),
     )
 
--- src/supply.rt:75:1
 returns : tie.Need-returns Inv-loop μ-loop
 returns c =
     let l = c .before .loop in

@@ -20,49 +20,39 @@ table-fine c = sym (c .before .before .check-table .ensures) ∙ ap faultOf (c .
 length-fine : (c : tie.After-enum-told2) → lengthFault (c .before .before .before .before .before .before .before .args .length) ≡ fine
 length-fine c = sym (c .before .before .check-length .ensures) ∙ ap faultOf (c .enum-told2 .given .1)
 
--- src/supply.rt:118:11
 check-table-requires : tie.Need-check-table-requires
 check-table-requires c κs = search needs
 
--- src/supply.rt:119:22
 enum-known-r : tie.Need-enum-known-r
 enum-known-r c = search needs
 
--- src/supply.rt:120:32
 enum-told : tie.Need-enum-told
 enum-told c = search needs
 
--- src/supply.rt:120:32
 check-length-requires : tie.Need-check-length-requires
 check-length-requires c κs = search needs
 
--- src/supply.rt:121:26
 enum-known-r-2 : tie.Need-enum-known-r-2
 enum-known-r-2 c = search needs
 
--- src/supply.rt:123:21
 enum-told-2 : tie.Need-enum-told-2
 enum-told-2 c = search needs
 
--- src/supply.rt:123:21
 least-of-requires : tie.Need-least-of-requires
 least-of-requires c κs =
     let w = table-legal _ _ (table-fine (c .before .before .before)) in
     let l = length-legal _ (length-fine c) in
     omega arith
 
--- src/supply.rt:124:28
 cast-t11 : tie.Need-cast-t11
 cast-t11 c = search needs
 
--- src/supply.rt:115:1
 returns : tie.Need-returns
 unfolding leastSupplyAnswer
 returns c =
     refused-by (tableFault _ _ orElse lengthFault _) _
     (or-fault (tableFault _ _) _ (sym (c .before .before .before .check-table .ensures) ∙ ap faultOf (c .before .r .given .1)))
 
--- src/supply.rt:115:1
 returns-2 : tie.Need-returns-2
 unfolding leastSupplyAnswer
 returns-2 c =
@@ -70,7 +60,6 @@ returns-2 c =
     (or-fine (tableFault _ _) _ (table-fine (c .before .before .before .before))
     ∙ sym (c .before .before .before .check-length .ensures) ∙ ap faultOf (c .before .r2 .given .1))
 
--- src/supply.rt:115:1
 returns-3 : tie.Need-returns-3
 unfolding leastSupplyAnswer
 returns-3 c =

@@ -24,30 +24,24 @@ moved c =
     let a = c .before .before .before .args in
     supply-slid (supplied (boardOf (a .board)) (a .windows .now)) (a .start) (a .length)
 
--- src/supply.rt:69:41
 add-tick-of : tie.Need-add-tick-of
 add-tick-of c = search needs
 
--- src/supply.rt:69:9
 tick-of-requires : tie.Need-tick-of-requires
 tick-of-requires c κs = search needs
 
--- src/supply.rt:70:9
 tick-of-requires-2 : tie.Need-tick-of-requires-2
 tick-of-requires-2 c κs = search needs
 
--- src/supply.rt:71:5
 add-result : tie.Need-add-result
 add-result c =
     let a = c .before .before .before .args in
     let σ = supplied (boardOf (a .board)) (a .windows .now) in
     omega (arith, supply-le σ (a .start) (a .length), bit-le (σ (a .start + a .length)))
 
--- src/supply.rt:71:5
 sub-result : tie.Need-sub-result
 sub-result c = omega (arith, moved c)
 
--- src/supply.rt:65:1
 returns : tie.Need-returns
 returns c = omega (arith, moved c)
 

@@ -16,28 +16,22 @@ use Rattle.checker.proofs.window.check_table.Reads as check-table-reads
 fine-at : (c : tie.After-enum-told) → let a = c .before .before .before .before .args in tableFault (boardOf (a .board)) (a .windows .now) ≡ fine
 fine-at c = sym (c .before .before .check-table .ensures) ∙ ap faultOf (c .enum-told .given .1)
 
--- src/supply.rt:108:11
 check-table-requires : tie.Need-check-table-requires
 check-table-requires c κs = search needs
 
--- src/supply.rt:109:22
 enum-known-r : tie.Need-enum-known-r
 enum-known-r c = search needs
 
--- src/supply.rt:110:39
 enum-told : tie.Need-enum-told
 enum-told c = search needs
 
--- src/supply.rt:110:39
 is-supplied-requires : tie.Need-is-supplied-requires
 is-supplied-requires c κs = let w = table-legal _ _ (fine-at c) in omega arith
 
--- src/supply.rt:105:1
 returns : tie.Need-returns
 unfolding suppliedAnswer
 returns c = refused-by (tableFault _ _) _ (sym (c .before .before .before .check-table .ensures) ∙ ap faultOf (c .before .r .given .1))
 
--- src/supply.rt:105:1
 returns-2 : tie.Need-returns-2
 unfolding suppliedAnswer
 returns-2 c = ap given (c .is-supplied .ensures) ∙ given-by (tableFault _ _) _ (fine-at (c .before))

@@ -19,15 +19,12 @@ Inv-loop board windows start length n₀ i₀ n i = (i ≤ length) × (n ≡ sup
 abbrev μ-loop : tie.MeasureT-loop
 μ-loop board windows start length n₀ i₀ n i = length - i
 
--- src/supply.rt:57:5
 loop-holds : tie.Need-loop-holds Inv-loop μ-loop
 loop-holds c = (omega arith, sym (supply-none _ _))
 
--- src/supply.rt:58:38
 add-tick-of : tie.Need-add-tick-of Inv-loop μ-loop
 add-tick-of c = search needs
 
--- src/supply.rt:58:14
 tick-of-requires : tie.Need-tick-of-requires Inv-loop μ-loop
 tick-of-requires c κs = search needs
 
@@ -43,23 +40,18 @@ counted c =
     let σ = supplied (boardOf (a .board)) (a .windows .now) in
     (omega (arith, l .inv .1, c .tick-of .ensures, supply-more σ (a .start) (l .i)), supply-le σ (a .start) (l .i + 1))
 
--- src/supply.rt:58:9
 add-n : tie.Need-add-n Inv-loop μ-loop
 add-n c = omega (arith, counted c)
 
--- src/supply.rt:59:9
 add-i : tie.Need-add-i Inv-loop μ-loop
 add-i c = search needs
 
--- src/supply.rt:57:5
 loop-less : tie.Need-loop-less Inv-loop μ-loop
 loop-less c = search needs
 
--- src/supply.rt:57:5
 loop-again : tie.Need-loop-again Inv-loop μ-loop
 loop-again c = (omega arith, omega (arith, counted c))
 
--- src/supply.rt:51:1
 returns : tie.Need-returns Inv-loop μ-loop
 returns c =
     let l = c .before .loop in

@@ -7,15 +7,12 @@ use Rattle.checker.proofs.supply.tick_of.Reads as reads
 use Rattle.checker.proofs.supply.tick_of.Lts as lts
 use Rattle.checker.proofs.supply.is_supplied.Reads as is-supplied-reads
 
--- src/supply.rt:47:8
 is-supplied-requires : tie.Need-is-supplied-requires
 is-supplied-requires c κs = search needs
 
--- src/supply.rt:43:1
 returns : tie.Need-returns
 returns c = sym (ap bit (sym (c .before .is-supplied .ensures) ∙ c .if1 .taken))
 
--- src/supply.rt:43:1
 returns-2 : tie.Need-returns-2
 returns-2 c = sym (ap bit (sym (c .before .is-supplied .ensures) ∙ c .if1 .left))
 

@@ -20,15 +20,12 @@ Inv-loop tasks count i₀ i = (i ≤ count) × (count ≡ length tasks / 3) × (
 abbrev μ-loop : tie.MeasureT-loop
 μ-loop tasks count i₀ i = count - i
 
--- src/task.rt:116:5
 loop-holds : tie.Need-loop-holds Inv-loop μ-loop
 loop-holds c = (omega arith, refl, λ k l. absurd (omega arith))
 
--- src/task.rt:117:13
 task-at-requires : tie.Need-task-at-requires Inv-loop μ-loop
 task-at-requires c κs = omega arith
 
--- src/task.rt:118:13
 legal-requires : tie.Need-legal-requires Inv-loop μ-loop
 legal-requires c κs = search needs
 
@@ -36,25 +33,20 @@ legal-requires c κs = search needs
 tested : (c : tie.After-legal Inv-loop μ-loop) → kept (c .before .before .before .before .before .args .tasks .now) (c .before .before .before .loop .i) ≡ not (not (c .legal .result))
 tested c = ap taskLegal (sym (c .before .task-at .ensures)) ∙ sym (c .legal .ensures) ∙ sym (Bool·not-not (c .legal .result))
 
--- src/task.rt:120:13
 returns : tie.Need-returns Inv-loop μ-loop
 returns c = let l = c .before .before .before .before .loop in
     task-bad _ (l .i) (omega arith) (l .inv .2) (tested (c .before) ∙ ap not (c .if1 .taken))
 
--- src/task.rt:122:9
 add-i : tie.Need-add-i Inv-loop μ-loop
 add-i c = search needs
 
--- src/task.rt:116:5
 loop-less : tie.Need-loop-less Inv-loop μ-loop
 loop-less c = search needs
 
--- src/task.rt:116:5
 loop-again : tie.Need-loop-again Inv-loop μ-loop
 loop-again c = let l = c .before .before .before .before .loop in
     (omega arith, refl, λ k h. below-suc (λ k. kept _ k ≡ true) (l .i) (l .inv .2) (tested (c .before) ∙ ap not (c .if1 .left)) k (omega arith))
 
--- src/task.rt:110:1
 returns-2 : tie.Need-returns-2 Inv-loop μ-loop
 returns-2 c = tasks-fine _ (λ k h. c .before .loop .inv .2 k (omega arith))
 

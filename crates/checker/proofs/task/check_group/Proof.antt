@@ -9,19 +9,15 @@ use Rattle.checker.proofs.answer.Checked.or_else.Reads as or-else-reads
 use Rattle.checker.proofs.task.check_tasks.Reads as check-tasks-reads
 use Rattle.checker.proofs.window.check_table.Reads as check-table-reads
 
--- src/task.rt:139:9
 check-table-requires : tie.Need-check-table-requires
 check-table-requires c κs = search needs
 
--- src/task.rt:140:9
 check-tasks-requires : tie.Need-check-tasks-requires
 check-tasks-requires c κs = search needs
 
--- src/task.rt:141:5
 or-else-requires : tie.Need-or-else-requires
 or-else-requires c κs = search needs
 
--- src/task.rt:136:1
 returns : tie.Need-returns
 returns c = c .or-else .ensures ∙ ap₂ _orElse_ (c .before .before .check-table .ensures) (c .before .check-tasks .ensures)
 

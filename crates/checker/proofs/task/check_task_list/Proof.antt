@@ -8,15 +8,12 @@ use Rattle.checker.proofs.task.check_task_list.Reads as reads
 use Rattle.checker.proofs.task.check_task_list.Lts as lts
 use Rattle.checker.proofs.list.bad_count.Reads as bad-count-reads
 
--- src/task.rt:97:8
 bad-count-requires : tie.Need-bad-count-requires
 bad-count-requires c κs = search needs
 
--- src/task.rt:98:9
 returns : tie.Need-returns
 returns c = list-by _ true (sym (c .before .bad-count .ensures) ∙ c .if1 .taken)
 
--- src/task.rt:94:1
 returns-2 : tie.Need-returns-2
 returns-2 c = list-by _ false (sym (c .before .bad-count .ensures) ∙ c .if1 .left)
 

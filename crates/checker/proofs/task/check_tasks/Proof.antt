@@ -9,19 +9,15 @@ use Rattle.checker.proofs.answer.Checked.or_else.Reads as or-else-reads
 use Rattle.checker.proofs.task.check_each_task.Reads as check-each-task-reads
 use Rattle.checker.proofs.task.check_task_list.Reads as check-task-list-reads
 
--- src/task.rt:130:9
 check-task-list-requires : tie.Need-check-task-list-requires
 check-task-list-requires c κs = search needs
 
--- src/task.rt:131:9
 check-each-task-requires : tie.Need-check-each-task-requires
 check-each-task-requires c κs = search needs
 
--- src/task.rt:132:5
 or-else-requires : tie.Need-or-else-requires
 or-else-requires c κs = search needs
 
--- src/task.rt:127:1
 returns : tie.Need-returns
 unfolding groupFault
 returns c = c .or-else .ensures ∙ ap₂ _orElse_ (c .before .before .check-task-list .ensures) (c .before .check-each-task .ensures)

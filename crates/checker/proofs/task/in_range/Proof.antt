@@ -7,11 +7,9 @@ use Rattle.checker.proofs.task.in_range.Tie as tie
 use Rattle.checker.proofs.task.in_range.Reads as reads
 use Rattle.checker.proofs.task.in_range.Lts as lts
 
--- src/task.rt:74:1
 returns : tie.Need-returns
 returns c = let x = c .before .args .x in and-yes (leb 1 x) (leb x mostOfTask) (le-leb 1 x (c .if1 .taken))
 
--- src/task.rt:74:1
 returns-2 : tie.Need-returns-2
 returns-2 c = let x = c .before .args .x in and-no (leb 1 x) (leb x mostOfTask) (lt-leb 1 x (c .if1 .left))
 

@@ -7,51 +7,39 @@ use Rattle.checker.proofs.task.task_at.Tie as tie
 use Rattle.checker.proofs.task.task_at.Reads as reads
 use Rattle.checker.proofs.task.task_at.Lts as lts
 
--- src/task.rt:85:22
 mul-work : tie.Need-mul-work
 mul-work c = search needs
 
--- src/task.rt:85:16
 mul-work-2 : tie.Need-mul-work-2
 mul-work-2 c = search needs
 
--- src/task.rt:85:16
 shared-slice-read-work : tie.Need-shared-slice-read-work
 shared-slice-read-work c = search needs
 
--- src/task.rt:86:24
 mul-period : tie.Need-mul-period
 mul-period c = search needs
 
--- src/task.rt:86:24
 add-period : tie.Need-add-period
 add-period c = search needs
 
--- src/task.rt:86:18
 mul-period-2 : tie.Need-mul-period-2
 mul-period-2 c = search needs
 
--- src/task.rt:86:18
 shared-slice-read-period : tie.Need-shared-slice-read-period
 shared-slice-read-period c = search needs
 
--- src/task.rt:87:26
 mul-deadline : tie.Need-mul-deadline
 mul-deadline c = search needs
 
--- src/task.rt:87:26
 add-deadline : tie.Need-add-deadline
 add-deadline c = search needs
 
--- src/task.rt:87:20
 mul-deadline-2 : tie.Need-mul-deadline-2
 mul-deadline-2 c = search needs
 
--- src/task.rt:87:20
 shared-slice-read-deadline : tie.Need-shared-slice-read-deadline
 shared-slice-read-deadline c = search needs
 
--- src/task.rt:81:1
 returns : tie.Need-returns
 returns c = let b = c .before .before .before in sym (three-at task (task 0 0 0) (b .args .tasks .now) (b .args .i) (b .pre))
 

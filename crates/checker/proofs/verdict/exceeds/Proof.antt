@@ -14,21 +14,17 @@ use Rattle.checker.proofs.verdict.exceeds.Reads as reads
 use Rattle.checker.proofs.verdict.exceeds.Lts as lts
 use Rattle.checker.proofs.supply.least_of.Reads as least-of-reads
 
--- src/verdict.rt:29:9
 returns : tie.Need-returns
 returns c =
     let a = c .before .before .args in
     sym (le-ltb (leastSupply (supplied (boardOf (a .board)) (a .windows .now)) (a .board .frame) (a .length)) (a .demand) (omega arith))
 
--- src/verdict.rt:31:9
 least-of-requires : tie.Need-least-of-requires
 least-of-requires c κs = search needs
 
--- src/verdict.rt:32:6
 cast-result : tie.Need-cast-result
 cast-result c = search needs
 
--- src/verdict.rt:24:1
 returns-2 : tie.Need-returns-2
 returns-2 c = ap (λ (x : ℕ). ltb x (c .before .before .before .args .demand)) (c .least-of .ensures)
 

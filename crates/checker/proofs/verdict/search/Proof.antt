@@ -38,49 +38,39 @@ Inv-search board windows tasks cycle frame found₀ before₀ length₀ found be
 abbrev μ-search : tie.MeasureT-search
 μ-search board windows tasks cycle frame found₀ before₀ length₀ found before length = cycle + 1 - length
 
--- src/verdict.rt:44:5
 search-holds : tie.Need-search-holds Inv-loop μ-loop Inv-search μ-search
 search-holds c =
     let a = c .before .before in
     (omega arith, omega arith, refl, omega arith, carried-first _ _ (supplied-periodic (boardOf (a .args .board)) (a .args .windows .now) (a .pre .0)) _ (a .pre .2 .rules))
 
--- src/verdict.rt:45:13
 demand-of-requires : tie.Need-demand-of-requires Inv-loop μ-loop Inv-search μ-search
 demand-of-requires c κs = search needs
 
--- src/verdict.rt:46:12
 exceeds-requires : tie.Need-exceeds-requires Inv-loop μ-loop Inv-search μ-search
 exceeds-requires c κs =
     let p = c .before .before .before .before .before .pre in
     (p .0, p .1, omega arith, c .before .before .search .inv .3)
 
--- src/verdict.rt:47:17
 least-of-requires : tie.Need-least-of-requires Inv-loop μ-loop Inv-search μ-search
 least-of-requires c κs = search needs
 
--- src/verdict.rt:49:17
 supply-from-requires : tie.Need-supply-from-requires Inv-loop μ-loop Inv-search μ-search
 supply-from-requires c κs = search needs
 
--- src/verdict.rt:50:13
 loop-holds : tie.Need-loop-holds Inv-loop μ-loop Inv-search μ-search
 loop-holds c =
     (omega arith, c .before .before .before .before .before .before .search .inv .2, c .supply-from .ensures, λ r l. absurd (omega arith))
 
--- src/verdict.rt:60:17
 slid-requires : tie.Need-slid-requires Inv-loop μ-loop Inv-search μ-search
 slid-requires c κs =
     (c .before .before .before .before .before .before .before .before .before .before .before .before .pre .0, omega arith, c .before .before .loop .inv .2)
 
--- src/verdict.rt:61:17
 add-start : tie.Need-add-start Inv-loop μ-loop Inv-search μ-search
 add-start c = search needs
 
--- src/verdict.rt:50:13
 loop-less : tie.Need-loop-less Inv-loop μ-loop Inv-search μ-search
 loop-less c = search needs
 
--- src/verdict.rt:50:13
 loop-again : tie.Need-loop-again Inv-loop μ-loop Inv-search μ-search
 loop-again c =
     let d = c .before .before .before in
@@ -92,15 +82,12 @@ loop-again c =
       above-next _ _ per (tasksOf (a .args .tasks .now)) _ _ _ _ (d .before .before .least-of .ensures) (d .loop .inv .2) (c .before .if2 .left) (d .loop .inv .3),
     )
 
--- src/verdict.rt:65:9
 add-length : tie.Need-add-length Inv-loop μ-loop Inv-search μ-search
 add-length c = search needs
 
--- src/verdict.rt:44:5
 search-less : tie.Need-search-less Inv-loop μ-loop Inv-search μ-search
 search-less c = search needs
 
--- src/verdict.rt:44:5
 search-again : tie.Need-search-again Inv-loop μ-loop Inv-search μ-search
 search-again c =
     let a = c .before .before .before .before .before .before .before in
@@ -113,7 +100,6 @@ search-again c =
     (omega arith, omega arith, w .1 ∙ l .inv .2, carried-on _ _ per _ _ _ e fits, carried-next _ _ per _ _ _ e fits (l .inv .4)))
     (c .if1 .came)
 
--- src/verdict.rt:36:1
 returns : tie.Need-returns Inv-loop μ-loop Inv-search μ-search
 returns c =
     let a = c .before .before .before .before in
@@ -121,7 +107,6 @@ returns c =
     let l = c .before .search in
     ap toldVerdict (l .inv .2) ∙ ap given (search-meets _ _ per _ _ (l .length) (omega arith) (l .inv .4))
 
--- src/verdict.rt:36:1
 returns-2 : tie.Need-returns-2 Inv-loop μ-loop Inv-search μ-search
 returns-2 c =
     let d = c .before .before in

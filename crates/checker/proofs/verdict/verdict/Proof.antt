@@ -20,19 +20,15 @@ use Rattle.checker.proofs.cycle.cycle_of.Reads as cycle-of-reads
 use Rattle.checker.proofs.task.check_group.Reads as check-group-reads
 use Rattle.checker.proofs.verdict.search.Reads as search-reads
 
--- src/verdict.rt:74:11
 check-group-requires : tie.Need-check-group-requires
 check-group-requires c κs = search needs
 
--- src/verdict.rt:75:22
 enum-known-r : tie.Need-enum-known-r
 enum-known-r c = search needs
 
--- src/verdict.rt:76:32
 enum-told : tie.Need-enum-told
 enum-told c = search needs
 
--- src/verdict.rt:76:32
 -- both checks have passed
 group-fine : (c : tie.After-enum-told) → let a = c .before .before .before .before .before .args in
     (tableFault (boardOf (a .board)) (a .windows .now) orElse groupFault (a .tasks .now)) ≡ fine
@@ -46,31 +42,25 @@ cycle-fine c = was-found _ _ (sym (c .before .before .before .cycle-of .ensures)
 cycle-of-requires : tie.Need-cycle-of-requires
 cycle-of-requires c κs = let k = checked-legal _ _ _ (group-fine c) in (k .0 .frame, k .0 .frame-most, k .1)
 
--- src/verdict.rt:77:45
 enum-told-2 : tie.Need-enum-told-2
 enum-told-2 c = search needs
 
--- src/verdict.rt:78:23
 enum-known-cycle : tie.Need-enum-known-cycle
 enum-known-cycle c = search needs
 
--- src/verdict.rt:78:33
 search-requires : tie.Need-search-requires
 search-requires c κs =
     let k = checked-legal _ _ _ (group-fine (c .before .before .before .before)) in
     let h = cycle-fine c in
     (k .0 .frame, k .0 .frame-most, k .1, omega (arith, h))
 
--- src/verdict.rt:71:1
 returns : tie.Need-returns
 returns c = verdict-refused _ _ _ (sym (c .before .before .before .check-group .ensures) ∙ ap faultOf (c .before .r .given .1))
 
--- src/verdict.rt:71:1
 returns-2 : tie.Need-returns-2
 returns-2 c =
     verdict-over _ _ _ (group-fine (c .before .before .before)) (was-over _ (sym (c .before .before .cycle-of .ensures) ∙ c .enum-told2 .given .1))
 
--- src/verdict.rt:71:1
 returns-3 : tie.Need-returns-3
 returns-3 c =
     let d = c .before in

@@ -10,27 +10,21 @@ use Rattle.checker.proofs.board.check_frame.Reads as check-frame-reads
 use Rattle.checker.proofs.window.check_window_list.Reads as check-window-list-reads
 use Rattle.checker.proofs.window.check_windows.Reads as check-windows-reads
 
--- src/window.rt:120:9
 check-window-list-requires : tie.Need-check-window-list-requires
 check-window-list-requires c κs = search needs
 
--- src/window.rt:121:9
 check-frame-requires : tie.Need-check-frame-requires
 check-frame-requires c κs = search needs
 
--- src/window.rt:122:9
 check-windows-requires : tie.Need-check-windows-requires
 check-windows-requires c κs = search needs
 
--- src/window.rt:123:18
 or-else-requires : tie.Need-or-else-requires
 or-else-requires c κs = search needs
 
--- src/window.rt:123:5
 or-else-requires-2 : tie.Need-or-else-requires-2
 or-else-requires-2 c κs = search needs
 
--- src/window.rt:117:1
 returns : tie.Need-returns
 unfolding tableFault
 returns c =

@@ -9,19 +9,15 @@ use Rattle.checker.proofs.window.check_window_list.Reads as reads
 use Rattle.checker.proofs.window.check_window_list.Lts as lts
 use Rattle.checker.proofs.list.bad_count.Reads as bad-count-reads
 
--- src/window.rt:90:8
 bad-count-requires : tie.Need-bad-count-requires
 bad-count-requires c κs = search needs
 
--- src/window.rt:91:9
 returns : tie.Need-returns
 returns c = list-by _ true _ (sym (c .before .bad-count .ensures) ∙ c .if1 .taken) refl
 
--- src/window.rt:94:9
 returns-2 : tie.Need-returns-2
 returns-2 c = list-by _ false true (sym (c .before .before .bad-count .ensures) ∙ c .before .if1 .left) (eq-eqb _ _ (c .if2 .taken))
 
--- src/window.rt:87:1
 returns-3 : tie.Need-returns-3
 returns-3 c = list-by _ false false (sym (c .before .before .bad-count .ensures) ∙ c .before .if1 .left) (ne-eqb _ _ (c .if2 .left))
 

@@ -24,15 +24,12 @@ Inv-loop board windows count i₀ i =
 abbrev μ-loop : tie.MeasureT-loop
 μ-loop board windows count i₀ i = count - i
 
--- src/window.rt:107:5
 loop-holds : tie.Need-loop-holds Inv-loop μ-loop
 loop-holds c = (omega arith, refl, below-none _)
 
--- src/window.rt:108:13
 window-legal-requires : tie.Need-window-legal-requires Inv-loop μ-loop
 window-legal-requires c κs = omega arith
 
--- src/window.rt:110:13
 returns : tie.Need-returns Inv-loop μ-loop
 unfolding windowFault badWindow
 returns c =
@@ -41,19 +38,15 @@ returns c =
     breaks-at 3 (windowLegal (boardOf (a .board)) (windowsOf (a .windows .now))) _ (l .i) (omega (arith, pieces-length _ 2 window (a .windows .now))) (l .inv .2)
     (sym (c .before .window-legal .ensures) ∙ not-true _ (c .if1 .taken))
 
--- src/window.rt:112:9
 add-i : tie.Need-add-i Inv-loop μ-loop
 add-i c = search needs
 
--- src/window.rt:107:5
 loop-less : tie.Need-loop-less Inv-loop μ-loop
 loop-less c = search needs
 
--- src/window.rt:107:5
 loop-again : tie.Need-loop-again Inv-loop μ-loop
 loop-again c = (omega arith, omega arith, below-more _ _ (c .before .before .before .loop .inv .2) (sym (c .before .window-legal .ensures) ∙ not-false _ (c .if1 .left)))
 
--- src/window.rt:101:1
 returns-2 : tie.Need-returns-2 Inv-loop μ-loop
 unfolding windowFault badWindow
 returns-2 c =

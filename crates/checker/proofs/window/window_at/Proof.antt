@@ -7,35 +7,27 @@ use Rattle.checker.proofs.window.window_at.Tie as tie
 use Rattle.checker.proofs.window.window_at.Reads as reads
 use Rattle.checker.proofs.window.window_at.Lts as lts
 
--- src/window.rt:62:25
 mul-start : tie.Need-mul-start
 mul-start c = search needs
 
--- src/window.rt:62:17
 mul-start-2 : tie.Need-mul-start-2
 mul-start-2 c = search needs
 
--- src/window.rt:62:17
 shared-slice-read-start : tie.Need-shared-slice-read-start
 shared-slice-read-start c = search needs
 
--- src/window.rt:63:23
 mul-end : tie.Need-mul-end
 mul-end c = search needs
 
--- src/window.rt:63:23
 add-end : tie.Need-add-end
 add-end c = search needs
 
--- src/window.rt:63:15
 mul-end-2 : tie.Need-mul-end-2
 mul-end-2 c = search needs
 
--- src/window.rt:63:15
 shared-slice-read-end : tie.Need-shared-slice-read-end
 shared-slice-read-end c = search needs
 
--- src/window.rt:58:1
 returns : tie.Need-returns
 returns c = sym (two-at window (window 0 0) _ _ (c .before .before .pre))
 

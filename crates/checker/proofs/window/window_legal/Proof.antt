@@ -13,19 +13,15 @@ use Rattle.checker.proofs.window.window_legal.Lts as lts
 use Rattle.checker.proofs.window.Window.new.Reads as new-reads
 use Rattle.checker.proofs.window.window_at.Reads as window-at-reads
 
--- src/window.rt:73:9
 window-at-requires : tie.Need-window-at-requires
 window-at-requires c κs = search needs
 
--- src/window.rt:74:11
 new-requires : tie.Need-new-requires
 new-requires c κs = search needs
 
--- src/window.rt:75:35
 enum-told : tie.Need-enum-told
 enum-told c = search needs
 
--- src/window.rt:76:24
 enum-known-window : tie.Need-enum-known-window
 enum-known-window c = search needs
 
@@ -38,27 +34,22 @@ fits c v e =
     let f = fitting _ _ _ e in
     (sym (ap (windowFits _) read) ∙ f .0, f .1 ∙ read)
 
--- src/window.rt:78:17
 returns : tie.Need-returns
 returns c =
     let x = c .before .before .before .before in
     first-window _ _ _ (fits x _ (sym (ap toldWindow (c .before .before .window .given .1)) ∙ x .new .ensures) .0) (c .if1 .taken)
 
--- src/window.rt:80:47
 sub-window-at : tie.Need-sub-window-at
 sub-window-at c = search needs
 
--- src/window.rt:80:17
 window-at-requires-2 : tie.Need-window-at-requires-2
 window-at-requires-2 c κs = search needs
 
--- src/window.rt:69:1
 returns-2 : tie.Need-returns-2
 returns-2 c =
     let x = c .before .before in
     misfit _ _ _ (sym (ap (windowFits _) (x .before .window-at .ensures)) ∙ unfitting _ _ _ _ (sym (ap toldWindow (c .enum-told .given .1)) ∙ x .new .ensures))
 
--- src/window.rt:69:1
 returns-3 : tie.Need-returns-3
 returns-3 c =
     let x = c .before .before .before .before .before .before .before in

@@ -5,19 +5,15 @@ use Rattle.groups.proofs.RecordLaws.{lent-alike, lent-within}
 use Rattle.groups.proofs.bound.bound.Statement.{statement}
 use Rattle.groups.proofs.bound.bound.Tie as tie
 
--- src/bound.rt:26:30
 gathered-requires : tie.Need-gathered-requires
 gathered-requires c κs = search needs
 
--- src/bound.rt:26:49
 count-requires : tie.Need-count-requires
 count-requires c κs = search needs
 
--- src/bound.rt:26:5
 bound-of-requires : tie.Need-bound-of-requires
 bound-of-requires c κs = lent-within _ _ (c .count .ensures)
 
--- src/bound.rt:23:1
 returns : tie.Need-returns
 returns c =
     let lent = lent-alike _ _ _ (c .before .before .gathered .ensures) (c .before .count .ensures) in

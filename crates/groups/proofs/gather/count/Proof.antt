@@ -3,27 +3,21 @@ use borrow.Author.Needs.{needs}
 use Rattle.groups.proofs.gather.count.Statement.{statement}
 use Rattle.groups.proofs.gather.count.Tie as tie
 
--- src/gather.rt:15:16
 add-over : tie.Need-add-over
 add-over c = search needs
 
--- src/gather.rt:16:11
 check-task-list-requires : tie.Need-check-task-list-requires
 check-task-list-requires c κs = search needs
 
--- src/gather.rt:17:26
 enum-told : tie.Need-enum-told
 enum-told c = search needs
 
--- src/gather.rt:18:28
 enum-told-2 : tie.Need-enum-told-2
 enum-told-2 c = search needs
 
--- src/gather.rt:11:1
 returns : tie.Need-returns
 returns c = rw (sym (c .before .before .check-task-list .ensures), c .enum-told .given .1)
 
--- src/gather.rt:11:1
 returns-2 : tie.Need-returns-2
 returns-2 c = rw (sym (c .before .before .check-task-list .ensures), c .enum-told2 .given .1)
 

@@ -6,27 +6,21 @@ use borrow.Author.Needs.{needs}
 use Rattle.host.proofs.answer.amount_answer.Statement.{statement}
 use Rattle.host.proofs.answer.amount_answer.Tie as tie
 
--- src/answer.rt:74:20
 enum-known-a : tie.Need-enum-known-a
 enum-known-a c = search needs
 
--- src/answer.rt:74:26
 one-requires : tie.Need-one-requires
 one-requires c κs = search needs
 
--- src/answer.rt:75:25
 enum-known-a-2 : tie.Need-enum-known-a-2
 enum-known-a-2 c = search needs
 
--- src/answer.rt:75:31
 refused-requires : tie.Need-refused-requires
 refused-requires c κs = search needs
 
--- src/answer.rt:70:1
 returns : tie.Need-returns
 returns c = c .one .ensures ∙ sym (ap (λ (x : Amount). cAmount (toldAmount x)) (c .before .before .a .given .1))
 
--- src/answer.rt:70:1
 returns-2 : tie.Need-returns-2
 returns-2 c = c .refused .ensures ∙ sym (ap (λ (x : Amount). cAmount (toldAmount x)) (c .before .before .a2 .given .1))
 

@@ -4,19 +4,15 @@ use borrow.Author.Needs.{needs}
 use Rattle.host.proofs.answer.refused.Statement.{statement}
 use Rattle.host.proofs.answer.refused.Tie as tie
 
--- src/answer.rt:65:9
 number-requires : tie.Need-number-requires
 number-requires c κs = search needs
 
--- src/answer.rt:66:9
 place-requires : tie.Need-place-requires
 place-requires c κs = search needs
 
--- src/answer.rt:67:5
 two-requires : tie.Need-two-requires
 two-requires c κs = search needs
 
--- src/answer.rt:62:1
 returns : tie.Need-returns
 returns c = c .two .ensures ∙ same-refusal (c .before .before .number .ensures) (c .before .place .ensures)
 

@@ -6,43 +6,33 @@ use borrow.Author.Needs.{needs}
 use Rattle.host.proofs.bound.bound_answer.Statement.{statement}
 use Rattle.host.proofs.bound.bound_answer.Tie as tie
 
--- src/bound.rt:16:19
 enum-known-b : tie.Need-enum-known-b
 enum-known-b c = search needs
 
--- src/bound.rt:16:44
 cast-one : tie.Need-cast-one
 cast-one c = search needs
 
--- src/bound.rt:16:25
 one-requires : tie.Need-one-requires
 one-requires c κs = search needs
 
--- src/bound.rt:17:27
 enum-told : tie.Need-enum-told
 enum-told c = search needs
 
--- src/bound.rt:17:27
 one-requires-2 : tie.Need-one-requires-2
 one-requires-2 c κs = search needs
 
--- src/bound.rt:18:24
 enum-known-b-2 : tie.Need-enum-known-b-2
 enum-known-b-2 c = search needs
 
--- src/bound.rt:18:30
 refused-requires : tie.Need-refused-requires
 refused-requires c κs = search needs
 
--- src/bound.rt:12:1
 returns : tie.Need-returns
 returns c = c .one .ensures ∙ sym (ap (λ (x : Bound). cBound (toldBound x)) (c .before .before .b .given .1))
 
--- src/bound.rt:12:1
 returns-2 : tie.Need-returns-2
 returns-2 c = c .one2 .ensures ∙ sym (ap (λ (x : Bound). cBound (toldBound x)) (c .before .enum-told .given .1))
 
--- src/bound.rt:12:1
 returns-3 : tie.Need-returns-3
 returns-3 c = c .refused .ensures ∙ sym (ap (λ (x : Bound). cBound (toldBound x)) (c .before .before .b2 .given .1))
 

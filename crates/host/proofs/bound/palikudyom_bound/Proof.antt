@@ -4,15 +4,12 @@ use borrow.Author.Needs.{needs}
 use Rattle.host.proofs.bound.palikudyom_bound.Statement.{statement}
 use Rattle.host.proofs.bound.palikudyom_bound.Tie as tie
 
--- src/bound.rt:27:18
 bound-requires : tie.Need-bound-requires
 bound-requires c κs = search needs
 
--- src/bound.rt:27:5
 bound-answer-requires : tie.Need-bound-answer-requires
 bound-answer-requires c κs = search needs
 
--- src/bound.rt:23:1
 returns : tie.Need-returns
 returns c = c .bound-answer .ensures ∙ ap cBound (c .before .bound .ensures)
 

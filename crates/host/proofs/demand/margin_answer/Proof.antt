@@ -8,29 +8,23 @@ use borrow.Author.Needs.{needs}
 use Rattle.host.proofs.demand.margin_answer.Statement.{statement}
 use Rattle.host.proofs.demand.margin_answer.Tie as tie
 
--- src/demand.rt:29:20
 enum-known-m : tie.Need-enum-known-m
 enum-known-m c = search needs
 
--- src/demand.rt:29:26
 signed-answer-requires : tie.Need-signed-answer-requires
 signed-answer-requires c κs = search needs
 
--- src/demand.rt:30:25
 enum-known-m-2 : tie.Need-enum-known-m-2
 enum-known-m-2 c = search needs
 
--- src/demand.rt:30:31
 refused-requires : tie.Need-refused-requires
 refused-requires c κs = search needs
 
--- src/demand.rt:25:1
 returns : tie.Need-returns
 returns c =
     let z = c .before .before .m .given .0 .0 in
     c .signed-answer .ensures ∙ ap signed (toZ-ofZ w64 z (record { sfits = c .before .known-told .given .0 .1 })) ∙ sym (ap (λ (x : Margin). cMargin (toldMargin x)) (c .before .before .m .given .1))
 
--- src/demand.rt:25:1
 returns-2 : tie.Need-returns-2
 returns-2 c = c .refused .ensures ∙ sym (ap (λ (x : Margin). cMargin (toldMargin x)) (c .before .before .m2 .given .1))
 

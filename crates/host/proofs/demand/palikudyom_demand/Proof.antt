@@ -4,15 +4,12 @@ use borrow.Author.Needs.{needs}
 use Rattle.host.proofs.demand.palikudyom_demand.Statement.{statement}
 use Rattle.host.proofs.demand.palikudyom_demand.Tie as tie
 
--- src/demand.rt:39:19
 demand-requires : tie.Need-demand-requires
 demand-requires c κs = search needs
 
--- src/demand.rt:39:5
 amount-answer-requires : tie.Need-amount-answer-requires
 amount-answer-requires c κs = search needs
 
--- src/demand.rt:35:1
 returns : tie.Need-returns
 returns c = c .amount-answer .ensures ∙ ap cAmount (c .before .demand .ensures)
 

@@ -4,15 +4,12 @@ use borrow.Author.Needs.{needs}
 use Rattle.host.proofs.demand.palikudyom_margin.Statement.{statement}
 use Rattle.host.proofs.demand.palikudyom_margin.Tie as tie
 
--- src/demand.rt:52:19
 margin-requires : tie.Need-margin-requires
 margin-requires c κs = search needs
 
--- src/demand.rt:52:5
 margin-answer-requires : tie.Need-margin-answer-requires
 margin-answer-requires c κs = search needs
 
--- src/demand.rt:43:1
 returns : tie.Need-returns
 returns c = c .margin-answer .ensures ∙ ap cMargin (c .before .margin .ensures)
 

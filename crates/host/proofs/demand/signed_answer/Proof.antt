@@ -8,19 +8,15 @@ use borrow.Author.Needs.{needs}
 use Rattle.host.proofs.demand.signed_answer.Statement.{statement}
 use Rattle.host.proofs.demand.signed_answer.Tie as tie
 
--- src/demand.rt:19:28
 magnitude-requires : tie.Need-magnitude-requires
 magnitude-requires c κs = search needs
 
--- src/demand.rt:19:9
 one-requires : tie.Need-one-requires
 one-requires c κs = search needs
 
--- src/demand.rt:21:29
 magnitude-requires-2 : tie.Need-magnitude-requires-2
 magnitude-requires-2 c κs = search needs
 
--- src/demand.rt:21:9
 one-requires-2 : tie.Need-one-requires-2
 one-requires-2 c κs = search needs
 
@@ -28,13 +24,11 @@ one-requires-2 c κs = search needs
 kept : (c : tie.Start) → toZ w64 (ofZ w64 (c .args .m)) ≡ c .args .m
 kept c = toZ-ofZ w64 (c .args .m) (c .fits .m)
 
--- src/demand.rt:15:1
 returns : tie.Need-returns
 returns c =
     let m = c .before .before .before .args .m in
     c .one .ensures ∙ ap below (c .before .magnitude .ensures) ∙ sym (signed-below (toZ w64 (ofZ w64 m)) (c .before .before .if1 .taken)) ∙ ap signed (kept (c .before .before .before))
 
--- src/demand.rt:15:1
 returns-2 : tie.Need-returns-2
 returns-2 c =
     let m = c .before .before .before .args .m in

@@ -10,23 +10,18 @@ use borrow.Author.Needs.{needs}
 use Rattle.host.proofs.file.palikudyom_line.Statement.{statement}
 use Rattle.host.proofs.file.palikudyom_line.Tie as tie
 
--- src/file.rt:27:24
 check-plan-requires : tie.Need-check-plan-requires
 check-plan-requires c κs = search needs
 
--- src/file.rt:27:19
 line-requires : tie.Need-line-requires
 line-requires c κs = search needs
 
--- src/file.rt:27:5
 amount-answer-requires : tie.Need-amount-answer-requires
 amount-answer-requires c κs = search needs
 
--- src/file.rt:22:1
 same-length : tie.Need-same-length
 same-length c = search needs
 
--- src/file.rt:22:1
 returns : tie.Need-returns
 returns c =
     let start = c .before .before .before .before .before .before .before .before in

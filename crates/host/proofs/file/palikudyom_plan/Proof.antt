@@ -4,15 +4,12 @@ use borrow.Author.Needs.{needs}
 use Rattle.host.proofs.file.palikudyom_plan.Statement.{statement}
 use Rattle.host.proofs.file.palikudyom_plan.Tie as tie
 
--- src/file.rt:18:20
 check-plan-requires : tie.Need-check-plan-requires
 check-plan-requires c κs = search needs
 
--- src/file.rt:18:5
 verdict-answer-requires : tie.Need-verdict-answer-requires
 verdict-answer-requires c κs = search needs
 
--- src/file.rt:14:1
 returns : tie.Need-returns
 returns c = c .verdict-answer .ensures ∙ ap cVerdict (c .before .check-plan .ensures)
 

@@ -4,19 +4,15 @@ use borrow.Author.Needs.{needs}
 use Rattle.host.proofs.file.palikudyom_write_plan.Statement.{statement}
 use Rattle.host.proofs.file.palikudyom_write_plan.Tie as tie
 
--- src/file.rt:41:19
 write-plan-requires : tie.Need-write-plan-requires
 write-plan-requires c κs = search needs
 
--- src/file.rt:41:5
 amount-answer-requires : tie.Need-amount-answer-requires
 amount-answer-requires c κs = search needs
 
--- src/file.rt:31:1
 same-length : tie.Need-same-length
 same-length c = search needs
 
--- src/file.rt:31:1
 returns : tie.Need-returns
 returns c = (c .amount-answer .ensures ∙ ap cAmount (c .before .before .before .write-plan .ensures .0), c .before .before .before .write-plan .ensures .1)
 

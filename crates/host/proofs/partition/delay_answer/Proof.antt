@@ -6,31 +6,24 @@ use borrow.Author.Needs.{needs}
 use Rattle.host.proofs.partition.delay_answer.Statement.{statement}
 use Rattle.host.proofs.partition.delay_answer.Tie as tie
 
--- src/partition.rt:20:21
 enum-known-d : tie.Need-enum-known-d
 enum-known-d c = search needs
 
--- src/partition.rt:20:69
 cast-two : tie.Need-cast-two
 cast-two c = search needs
 
--- src/partition.rt:20:43
 two-requires : tie.Need-two-requires
 two-requires c κs = search needs
 
--- src/partition.rt:21:24
 enum-known-d-2 : tie.Need-enum-known-d-2
 enum-known-d-2 c = search needs
 
--- src/partition.rt:21:30
 refused-requires : tie.Need-refused-requires
 refused-requires c κs = search needs
 
--- src/partition.rt:16:1
 returns : tie.Need-returns
 returns c = c .two .ensures ∙ sym (ap (λ (x : Delay). cDelay (toldDelay x)) (c .before .before .d .given .1))
 
--- src/partition.rt:16:1
 returns-2 : tie.Need-returns-2
 returns-2 c = c .refused .ensures ∙ sym (ap (λ (x : Delay). cDelay (toldDelay x)) (c .before .before .d2 .given .1))
 

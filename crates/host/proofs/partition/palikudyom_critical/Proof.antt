@@ -4,19 +4,15 @@ use borrow.Author.Needs.{needs}
 use Rattle.host.proofs.partition.palikudyom_critical.Statement.{statement}
 use Rattle.host.proofs.partition.palikudyom_critical.Tie as tie
 
--- src/partition.rt:31:19
 critical-requires : tie.Need-critical-requires
 critical-requires c κs = search needs
 
--- src/partition.rt:31:5
 amount-answer-requires : tie.Need-amount-answer-requires
 amount-answer-requires c κs = search needs
 
--- src/partition.rt:26:1
 same-length : tie.Need-same-length
 same-length c = search needs
 
--- src/partition.rt:26:1
 returns : tie.Need-returns
 returns c = (c .amount-answer .ensures ∙ ap cAmount (c .before .before .before .critical .ensures .0), c .before .before .before .critical .ensures .1)
 

@@ -4,15 +4,12 @@ use borrow.Author.Needs.{needs}
 use Rattle.host.proofs.partition.palikudyom_delay.Statement.{statement}
 use Rattle.host.proofs.partition.palikudyom_delay.Tie as tie
 
--- src/partition.rt:39:18
 delay-requires : tie.Need-delay-requires
 delay-requires c κs = search needs
 
--- src/partition.rt:39:5
 delay-answer-requires : tie.Need-delay-answer-requires
 delay-answer-requires c κs = search needs
 
--- src/partition.rt:35:1
 returns : tie.Need-returns
 returns c = c .delay-answer .ensures ∙ ap cDelay (c .before .delay .ensures)
 

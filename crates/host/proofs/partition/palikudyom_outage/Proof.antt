@@ -4,15 +4,12 @@ use borrow.Author.Needs.{needs}
 use Rattle.host.proofs.partition.palikudyom_outage.Statement.{statement}
 use Rattle.host.proofs.partition.palikudyom_outage.Tie as tie
 
--- src/partition.rt:47:19
 outage-requires : tie.Need-outage-requires
 outage-requires c κs = search needs
 
--- src/partition.rt:47:5
 amount-answer-requires : tie.Need-amount-answer-requires
 amount-answer-requires c κs = search needs
 
--- src/partition.rt:43:1
 returns : tie.Need-returns
 returns c = c .amount-answer .ensures ∙ ap cAmount (c .before .outage .ensures)
 

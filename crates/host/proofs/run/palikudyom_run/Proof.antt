@@ -4,19 +4,15 @@ use borrow.Author.Needs.{needs}
 use Rattle.host.proofs.run.palikudyom_run.Statement.{statement}
 use Rattle.host.proofs.run.palikudyom_run.Tie as tie
 
--- src/run.rt:46:16
 run-requires : tie.Need-run-requires
 run-requires c κs = search needs
 
--- src/run.rt:46:5
 ran-answer-requires : tie.Need-ran-answer-requires
 ran-answer-requires c κs = search needs
 
--- src/run.rt:34:1
 same-length : tie.Need-same-length
 same-length c = search needs
 
--- src/run.rt:34:1
 returns : tie.Need-returns
 returns c = (c .ran-answer .ensures ∙ ap cRan (c .before .before .before .run .ensures .0), c .before .before .before .run .ensures .1)
 

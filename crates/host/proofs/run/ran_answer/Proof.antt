@@ -6,51 +6,39 @@ use borrow.Author.Needs.{needs}
 use Rattle.host.proofs.run.ran_answer.Statement.{statement}
 use Rattle.host.proofs.run.ran_answer.Tie as tie
 
--- src/run.rt:17:20
 enum-known-r : tie.Need-enum-known-r
 enum-known-r c = search needs
 
--- src/run.rt:17:50
 cast-one : tie.Need-cast-one
 cast-one c = search needs
 
--- src/run.rt:17:33
 one-requires : tie.Need-one-requires
 one-requires c κs = search needs
 
--- src/run.rt:19:13
 enum-known-r-2 : tie.Need-enum-known-r-2
 enum-known-r-2 c = search needs
 
--- src/run.rt:24:16
 cast-t9 : tie.Need-cast-t9
 cast-t9 c = search needs
 
--- src/run.rt:25:16
 cast-t10 : tie.Need-cast-t10
 cast-t10 c = search needs
 
--- src/run.rt:26:16
 cast-t11 : tie.Need-cast-t11
 cast-t11 c = search needs
 
--- src/run.rt:29:22
 enum-known-r-3 : tie.Need-enum-known-r-3
 enum-known-r-3 c = search needs
 
--- src/run.rt:29:28
 refused-requires : tie.Need-refused-requires
 refused-requires c κs = search needs
 
--- src/run.rt:13:1
 returns : tie.Need-returns
 returns c = c .one .ensures ∙ sym (ap (λ (x : Ran). cRan (toldRan x)) (c .before .before .r .given .1))
 
--- src/run.rt:13:1
 returns-2 : tie.Need-returns-2
 returns-2 c = sym (ap (λ (x : Ran). cRan (toldRan x)) (c .before .r2 .given .1))
 
--- src/run.rt:13:1
 returns-3 : tie.Need-returns-3
 returns-3 c = c .refused .ensures ∙ sym (ap (λ (x : Ran). cRan (toldRan x)) (c .before .before .r3 .given .1))
 

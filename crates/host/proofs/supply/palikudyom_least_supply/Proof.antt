@@ -4,15 +4,12 @@ use borrow.Author.Needs.{needs}
 use Rattle.host.proofs.supply.palikudyom_least_supply.Statement.{statement}
 use Rattle.host.proofs.supply.palikudyom_least_supply.Tie as tie
 
--- src/supply.rt:14:19
 least-supply-requires : tie.Need-least-supply-requires
 least-supply-requires c κs = search needs
 
--- src/supply.rt:14:5
 amount-answer-requires : tie.Need-amount-answer-requires
 amount-answer-requires c κs = search needs
 
--- src/supply.rt:10:1
 returns : tie.Need-returns
 returns c = c .amount-answer .ensures ∙ ap cAmount (c .before .least-supply .ensures)
 

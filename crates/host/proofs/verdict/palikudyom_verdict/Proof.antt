@@ -4,15 +4,12 @@ use borrow.Author.Needs.{needs}
 use Rattle.host.proofs.verdict.palikudyom_verdict.Statement.{statement}
 use Rattle.host.proofs.verdict.palikudyom_verdict.Tie as tie
 
--- src/verdict.rt:38:20
 verdict-requires : tie.Need-verdict-requires
 verdict-requires c κs = search needs
 
--- src/verdict.rt:38:5
 verdict-answer-requires : tie.Need-verdict-answer-requires
 verdict-answer-requires c κs = search needs
 
--- src/verdict.rt:34:1
 returns : tie.Need-returns
 returns c = c .verdict-answer .ensures ∙ ap cVerdict (c .before .verdict .ensures)
 

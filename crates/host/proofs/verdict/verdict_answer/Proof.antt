@@ -6,51 +6,39 @@ use borrow.Author.Needs.{needs}
 use Rattle.host.proofs.verdict.verdict_answer.Statement.{statement}
 use Rattle.host.proofs.verdict.verdict_answer.Tie as tie
 
--- src/verdict.rt:16:26
 enum-known-v : tie.Need-enum-known-v
 enum-known-v c = search needs
 
--- src/verdict.rt:16:56
 cast-one : tie.Need-cast-one
 cast-one c = search needs
 
--- src/verdict.rt:16:37
 one-requires : tie.Need-one-requires
 one-requires c κs = search needs
 
--- src/verdict.rt:18:13
 enum-known-v-2 : tie.Need-enum-known-v-2
 enum-known-v-2 c = search needs
 
--- src/verdict.rt:24:16
 cast-t10 : tie.Need-cast-t10
 cast-t10 c = search needs
 
--- src/verdict.rt:25:16
 cast-t11 : tie.Need-cast-t11
 cast-t11 c = search needs
 
--- src/verdict.rt:27:16
 cast-t12 : tie.Need-cast-t12
 cast-t12 c = search needs
 
--- src/verdict.rt:29:26
 enum-known-v-3 : tie.Need-enum-known-v-3
 enum-known-v-3 c = search needs
 
--- src/verdict.rt:29:32
 refused-requires : tie.Need-refused-requires
 refused-requires c κs = search needs
 
--- src/verdict.rt:12:1
 returns : tie.Need-returns
 returns c = c .one .ensures ∙ sym (ap (λ (x : Verdict). cVerdict (toldVerdict x)) (c .before .before .v .given .1))
 
--- src/verdict.rt:12:1
 returns-2 : tie.Need-returns-2
 returns-2 c = sym (ap (λ (x : Verdict). cVerdict (toldVerdict x)) (c .before .v2 .given .1))
 
--- src/verdict.rt:12:1
 returns-3 : tie.Need-returns-3
 returns-3 c = c .refused .ensures ∙ sym (ap (λ (x : Verdict). cVerdict (toldVerdict x)) (c .before .before .v3 .given .1))
 

@@ -11,34 +11,27 @@ use Rattle.machine.proofs.check.check_job_list.Lts as lts
 use Rattle.checker.proofs.list.bad_count.Reads as bad-count-reads
 use Rattle.machine.proofs.check.Run.new.Reads as new-reads
 
--- src/check.rt:52:8
 bad-count-requires : tie.Need-bad-count-requires
 bad-count-requires c κs = search needs
 
--- src/check.rt:53:9
 returns : tie.Need-returns
 returns c = bad-list _ _ (sym (c .before .bad-count .ensures) ∙ c .if1 .taken)
 
--- src/check.rt:55:11
 new-requires : tie.Need-new-requires
 new-requires c κs = search needs
 
--- src/check.rt:56:27
 enum-told : tie.Need-enum-told
 enum-told c = search needs
 
--- src/check.rt:57:26
 enum-known-r : tie.Need-enum-known-r
 enum-known-r c = search needs
 
--- src/check.rt:49:1
 returns-2 : tie.Need-returns-2
 unfolding runTicksAnswer
 returns-2 c =
     let x = c .before .before in
     none-of _ _ _ (sym (ap toldRun (c .enum-told .given .1)) ∙ x .new .ensures) ∙ good-list _ _ (sym (x .before .before .bad-count .ensures) ∙ x .before .if1 .left)
 
--- src/check.rt:49:1
 returns-3 : tie.Need-returns-3
 unfolding runTicksAnswer
 returns-3 c =

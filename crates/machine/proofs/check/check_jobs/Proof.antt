@@ -29,7 +29,6 @@ Inv-loop tasks n jobs m free₀ j₀ free j =
 abbrev μ-loop : tie.MeasureT-loop
 μ-loop tasks n jobs m free₀ j₀ free j = length (jobsOf jobs) - j
 
--- src/check.rt:119:5
 loop-holds : tie.Need-loop-holds Inv-loop μ-loop
 loop-holds c = (omega arith, free-first _ _, λ k l. absurd (omega arith))
 
@@ -37,11 +36,9 @@ loop-holds c = (omega arith, free-first _ _, λ k l. absurd (omega arith))
 readable : (c : tie.In-loop Inv-loop μ-loop) → (3 * c .before .loop .j + 2 < length (c .before .before .before .before .args .jobs .now)) × (c .before .loop .j < mostJobs)
 readable c = let a = c .before .before .before .before in omega (arith, pieces-length _ 3 job (a .args .jobs .now), a .pre .1)
 
--- src/check.rt:120:13
 job-legal-requires : tie.Need-job-legal-requires Inv-loop μ-loop
 job-legal-requires c κs = let r = readable c in (r .0, r .1, c .before .before .before .before .pre .0 .few, c .before .loop .inv .1)
 
--- src/check.rt:122:13
 returns : tie.Need-returns Inv-loop μ-loop
 returns c =
     let a = c .before .before .before .before .before .before in
@@ -58,25 +55,20 @@ rule : (c : tie.Else1 Inv-loop μ-loop) → let a = c .before .before .before .b
     JobRule (tasksOf (a .tasks .now)) (a .n) (jobsOf (a .jobs .now)) (c .before .before .before .loop .j)
 rule c = job-rule _ _ _ _ (good c)
 
--- src/check.rt:124:13
 release-of-requires : tie.Need-release-of-requires Inv-loop μ-loop
 release-of-requires c κs = readable (c .before .before)
 
--- src/check.rt:125:17
 task-of-requires : tie.Need-task-of-requires Inv-loop μ-loop
 task-of-requires c κs = readable (c .before .before .before)
 
--- src/check.rt:125:17
 cast-x : tie.Need-cast-x Inv-loop μ-loop
 cast-x c = search needs
 
--- src/check.rt:126:23
 period-of-requires : tie.Need-period-of-requires Inv-loop μ-loop
 period-of-requires c κs =
     let a = c .before .before .before .before .before .before .before .before in
     omega (arith, pieces-length _ 3 task (a .args .tasks .now), a .pre .0 .few, rule (c .before .before) .known, c .task-of .ensures)
 
--- src/check.rt:126:19
 add-free : tie.Need-add-free Inv-loop μ-loop
 add-free c =
     let a = c .before .before .before .before .before .before .before .before .before in
@@ -85,25 +77,20 @@ add-free c =
     let e = ap (λ (y : ℕ). (taskAt (tasksOf (a .args .tasks .now)) y) .T) (c .before .task-of .ensures) in
     omega (arith, g .inside, a .pre .2, x .period-most, c .before .before .release-of .ensures, c .period-of .ensures, e)
 
--- src/check.rt:126:9
 mul-free : tie.Need-mul-free Inv-loop μ-loop
 mul-free c = search needs
 
--- src/check.rt:126:9
 array-write-free : tie.Need-array-write-free Inv-loop μ-loop
 array-write-free c =
     let a = c .before .before .before .before .before .before .before .before .before in
     omega (arith, a .pre .0 .few, rule (c .before .before .before) .known, c .before .task-of .ensures)
 
--- src/check.rt:127:9
 add-j : tie.Need-add-j Inv-loop μ-loop
 add-j c = search needs
 
--- src/check.rt:119:5
 loop-less : tie.Need-loop-less Inv-loop μ-loop
 loop-less c = let a = c .before .before .before .before .before .before .before .before .before in omega (arith, pieces-length _ 3 job (a .args .jobs .now))
 
--- src/check.rt:119:5
 loop-again : tie.Need-loop-again Inv-loop μ-loop
 loop-again c =
     let a = c .before .before .before .before .before .before .before .before .before in
@@ -114,7 +101,6 @@ loop-again c =
       λ k h. below-suc (λ k. kept _ _ _ k ≡ true) (l .j) (l .inv .2) (good g) k (omega arith),
     )
 
--- src/check.rt:112:1
 returns-2 : tie.Need-returns-2 Inv-loop μ-loop
 returns-2 c = let a = c .before .before .before .before in jobs-fine _ _ _ (λ k h. c .before .loop .inv .2 k (omega (arith, pieces-length _ 3 job (a .args .jobs .now))))
 

@@ -8,30 +8,24 @@ use Rattle.machine.proofs.check.in_order.Lts as lts
 use Rattle.machine.proofs.job.release_of.Reads as release-of-reads
 use Rattle.machine.proofs.job.task_of.Reads as task-of-reads
 
--- src/check.rt:68:9
 returns : tie.Need-returns
 returns c = let a = c .before .before .args in order-first (jobsOf (a .jobs .now)) (a .j) (c .if1 .taken)
 
--- src/check.rt:70:30
 sub-release-of : tie.Need-sub-release-of
 sub-release-of c = search needs
 
--- src/check.rt:70:9
 release-of-requires : tie.Need-release-of-requires
 release-of-requires c κs = search needs
 
--- src/check.rt:71:9
 release-of-requires-2 : tie.Need-release-of-requires-2
 release-of-requires-2 c κs = search needs
 
--- src/check.rt:73:9
 returns-2 : tie.Need-returns-2
 returns-2 c =
     let x = c .before .before in
     let a = x .before .before .before .args in
     order-later (jobsOf (a .jobs .now)) (a .j) (x .before .if1 .left) _ _ (x .release-of .ensures) (c .before .release-of2 .ensures) (c .if2 .taken)
 
--- src/check.rt:76:9
 returns-3 : tie.Need-returns-3
 returns-3 c =
     let x = c .before .before .before in
@@ -39,19 +33,15 @@ returns-3 c =
     order-back (jobsOf (a .jobs .now)) (a .j) (x .before .if1 .left) _ _ (x .release-of .ensures) (c .before .before .release-of2 .ensures)
     (c .before .if2 .left) (c .if3 .taken)
 
--- src/check.rt:78:27
 sub-task-of : tie.Need-sub-task-of
 sub-task-of c = search needs
 
--- src/check.rt:78:9
 task-of-requires : tie.Need-task-of-requires
 task-of-requires c κs = search needs
 
--- src/check.rt:79:9
 task-of-requires-2 : tie.Need-task-of-requires-2
 task-of-requires-2 c κs = search needs
 
--- src/check.rt:63:1
 returns-4 : tie.Need-returns-4
 returns-4 c =
     let x = c .before .before .before .before .before in

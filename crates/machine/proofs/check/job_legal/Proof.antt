@@ -20,19 +20,15 @@ use Rattle.machine.proofs.job.release_of.Reads as release-of-reads
 use Rattle.machine.proofs.job.task_of.Reads as task-of-reads
 use Rattle.machine.proofs.job.work_of.Reads as work-of-reads
 
--- src/check.rt:89:9
 release-of-requires : tie.Need-release-of-requires
 release-of-requires c κs = search needs
 
--- src/check.rt:90:9
 task-of-requires : tie.Need-task-of-requires
 task-of-requires c κs = search needs
 
--- src/check.rt:91:9
 work-of-requires : tie.Need-work-of-requires
 work-of-requires c κs = search needs
 
--- src/check.rt:92:9
 in-order-requires : tie.Need-in-order-requires
 in-order-requires c κs = search needs
 
@@ -55,52 +51,42 @@ most c = omega (arith, c .before .most-of .ensures, c .if4 .left)
 low : (c : tie.Else5) → c .before .before .before .before .before .before .before .before .task-of .result < mostTasks
 low c = omega (arith, known (c .before .before .before .before), c .before .before .before .before .before .before .before .before .before .before .before .before .pre .2)
 
--- src/check.rt:93:9
 returns : tie.Need-returns
 returns c = bad-order _ _ _ _ (sym (not-true _ (c .if1 .taken)) ∙ c .before .in-order .ensures)
 
--- src/check.rt:95:13
 cast-x : tie.Need-cast-x
 cast-x c = search needs
 
--- src/check.rt:97:9
 returns-2 : tie.Need-returns-2
 returns-2 c =
     let a = c .before .before .before .before .before .before .before .before in
     bad-task _ _ _ _ (parts (c .before .before .before)) (ordered (c .before)) (omega (arith, pieces-length _ 3 task (a .args .tasks .now), c .if2 .taken))
 
--- src/check.rt:100:9
 returns-3 : tie.Need-returns-3
 returns-3 c = bad-none _ _ _ _ (parts (c .before .before .before .before)) (ordered (c .before .before)) (known (c .before)) (c .if3 .taken)
 
--- src/check.rt:102:8
 most-of-requires : tie.Need-most-of-requires
 most-of-requires c κs =
     let a = c .before .before .before .before .before .before .before .before .before in
     omega (arith, known (c .before), pieces-length _ 3 task (a .args .tasks .now), a .pre .2)
 
--- src/check.rt:103:9
 returns-4 : tie.Need-returns-4
 returns-4 c =
     let x = c .before .before in
     bad-most _ _ _ _ (parts (x .before .before .before .before)) (ordered (x .before .before)) (known (x .before)) (x .if3 .left)
     (omega (arith, c .before .most-of .ensures, c .if4 .taken))
 
--- src/check.rt:106:9
 returns-5 : tie.Need-returns-5
 returns-5 c =
     let x = c .before .before .before in
     bad-late _ _ _ _ (parts (x .before .before .before .before)) (ordered (x .before .before)) (known (x .before)) (x .if3 .left) (most (c .before)) (c .if5 .taken)
 
--- src/check.rt:108:5
 mul-result : tie.Need-mul-result
 mul-result c = search needs
 
--- src/check.rt:108:5
 array-read-result : tie.Need-array-read-result
 array-read-result c = low c
 
--- src/check.rt:84:1
 returns-6 : tie.Need-returns-6
 returns-6 c =
     let x = c .before .before .before in

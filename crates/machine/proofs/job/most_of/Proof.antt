@@ -6,19 +6,15 @@ use Rattle.machine.proofs.job.most_of.Tie as tie
 use Rattle.machine.proofs.job.most_of.Reads as reads
 use Rattle.machine.proofs.job.most_of.Lts as lts
 
--- src/job.rt:37:11
 mul-result : tie.Need-mul-result
 mul-result c = search needs
 
--- src/job.rt:37:5
 mul-result-2 : tie.Need-mul-result-2
 mul-result-2 c = search needs
 
--- src/job.rt:37:5
 shared-slice-read-result : tie.Need-shared-slice-read-result
 shared-slice-read-result c = search needs
 
--- src/job.rt:33:1
 returns : tie.Need-returns
 returns c = most-at _ _ (omega arith)
 

@@ -39,39 +39,30 @@ due c =
       due-is (a .args .tasks .now) (a .args .jobs .now) (a .pre .0) (a .pre .1) _ (a .pre .2) _ i _ r _ d,
     )
 
--- src/job.rt:60:9
 release-of-requires : tie.Need-release-of-requires
 release-of-requires c κs = job-there (c .before .before)
 
--- src/job.rt:61:9
 task-of-requires : tie.Need-task-of-requires
 task-of-requires c κs = job-there (c .before .before .before)
 
--- src/job.rt:62:9
 work-of-requires : tie.Need-work-of-requires
 work-of-requires c κs = job-there (c .before .before .before .before)
 
--- src/job.rt:63:30
 cast-within-of : tie.Need-cast-within-of
 cast-within-of c = search needs
 
--- src/job.rt:63:9
 within-of-requires : tie.Need-within-of-requires
 within-of-requires c κs = task-there (c .before)
 
--- src/job.rt:64:17
 add-put : tie.Need-add-put
 add-put c = record { fits = due c .0 }
 
--- src/job.rt:64:24
 cast-put : tie.Need-cast-put
 cast-put c = search needs
 
--- src/job.rt:64:5
 put-requires : tie.Need-put-requires
 put-requires c κs = (task-there (c .before .before) .1, job-there (c .before .before .before .before .before .before) .1)
 
--- src/job.rt:55:1
 returns : tie.Need-returns
 returns c =
     let a = c .before .before .before .before .before .before .before .args in

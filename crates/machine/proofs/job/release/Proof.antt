@@ -21,7 +21,6 @@ Inv-loop tasks jobs k m t₀ t = (t .next ≤ length (jobsOf jobs)) × (releaseA
 abbrev μ-loop : tie.MeasureT-loop
 μ-loop tasks jobs k m t₀ t = length (jobsOf jobs) - t .next
 
--- src/job.rt:74:5
 loop-holds : tie.Need-loop-holds Inv-loop μ-loop
 loop-holds c = (c .before .before .pre .2, refl)
 
@@ -29,13 +28,11 @@ loop-holds c = (c .before .before .pre .2, refl)
 more : (c : tie.Then1 Inv-loop μ-loop) → c .before .before .loop .t .next < length (jobsOf (c .before .before .before .before .before .args .jobs .now))
 more c = let a = c .before .before .before .before .before in omega (arith, pieces-length _ 3 job (a .args .jobs .now), c .if1 .taken)
 
--- src/job.rt:75:12
 release-of-requires : tie.Need-release-of-requires Inv-loop μ-loop
 release-of-requires c κs =
     let a = c .before .before .before .before .before in
     read-job (a .args .tasks .now) (a .args .jobs .now) (a .pre .0) (a .pre .1) (c .before .before .loop .t .next) (more c)
 
--- src/job.rt:76:13
 returns : tie.Need-returns Inv-loop μ-loop
 returns c =
     let a = c .before .before .before .before .before .before .before .args in
@@ -43,15 +40,12 @@ returns c =
     release-no (tasksOf (a .tasks .now)) (jobsOf (a .jobs .now)) (l .t) (a .k) (more (c .before .before))
     (λ e. c .if2 .taken (c .before .release-of .ensures ∙ e)) ∙ sym (l .inv .1)
 
--- src/job.rt:78:9
 next-job-requires : tie.Need-next-job-requires Inv-loop μ-loop
 next-job-requires c κs = let a = c .before .before .before .before .before .before .before in (a .pre .0, a .pre .1, more (c .before .before))
 
--- src/job.rt:74:5
 loop-less : tie.Need-loop-less Inv-loop μ-loop
 loop-less c = omega (arith, more (c .before .before .before), ap (λ (x : RunState). x .next) (c .next-job .ensures))
 
--- src/job.rt:74:5
 loop-again : tie.Need-loop-again Inv-loop μ-loop
 loop-again c =
     let a = c .before .before .before .before .before .before .before .before .args in
@@ -64,7 +58,6 @@ loop-again c =
           ∙ ap (releaseAt ts js (a .k)) (sym (c .next-job .ensures)),
     )
 
--- src/job.rt:68:1
 returns-2 : tie.Need-returns-2 Inv-loop μ-loop
 returns-2 c =
     let a = c .before .before .before .before .before .args in

@@ -6,23 +6,18 @@ use Rattle.machine.proofs.job.task_of.Tie as tie
 use Rattle.machine.proofs.job.task_of.Reads as reads
 use Rattle.machine.proofs.job.task_of.Lts as lts
 
--- src/job.rt:22:10
 mul-result : tie.Need-mul-result
 mul-result c = search needs
 
--- src/job.rt:22:10
 add-result : tie.Need-add-result
 add-result c = search needs
 
--- src/job.rt:22:5
 mul-result-2 : tie.Need-mul-result-2
 mul-result-2 c = search needs
 
--- src/job.rt:22:5
 shared-slice-read-result : tie.Need-shared-slice-read-result
 shared-slice-read-result c = search needs
 
--- src/job.rt:18:1
 returns : tie.Need-returns
 returns c = of-at _ _ (omega arith)
 

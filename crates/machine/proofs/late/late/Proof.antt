@@ -17,48 +17,37 @@ Inv-loop t pending due job best₀ i₀ best i = (i ≤ mostTasks) × (best ≡ 
 abbrev μ-loop : tie.MeasureT-loop
 μ-loop t pending due job best₀ i₀ best i = mostTasks - i
 
--- src/late.rt:32:5
 loop-holds : tie.Need-loop-holds Inv-loop μ-loop
 unfolding lateTo
 loop-holds c = (omega arith, refl)
 
--- src/late.rt:33:17
 cast-x : tie.Need-cast-x Inv-loop μ-loop
 cast-x c = search needs
 
--- src/late.rt:34:31
 mul-lower : tie.Need-mul-lower Inv-loop μ-loop
 mul-lower c = search needs
 
--- src/late.rt:34:31
 array-read-lower : tie.Need-array-read-lower Inv-loop μ-loop
 array-read-lower c = search needs
 
--- src/late.rt:34:39
 mul-lower-2 : tie.Need-mul-lower-2 Inv-loop μ-loop
 mul-lower-2 c = search needs
 
--- src/late.rt:34:39
 array-read-lower-2 : tie.Need-array-read-lower-2 Inv-loop μ-loop
 array-read-lower-2 c = search needs
 
--- src/late.rt:34:9
 lower-requires : tie.Need-lower-requires Inv-loop μ-loop
 lower-requires c κs = search needs
 
--- src/late.rt:35:9
 add-i : tie.Need-add-i Inv-loop μ-loop
 add-i c = search needs
 
--- src/late.rt:32:5
 loop-less : tie.Need-loop-less Inv-loop μ-loop
 loop-less c = search needs
 
--- src/late.rt:32:5
 loop-again : tie.Need-loop-again Inv-loop μ-loop
 loop-again c = (omega arith, c .lower .ensures ∙ ap (lowerIn _ _ _ _ _) (c .before .before .loop .inv .1) ∙ sym (late-next (seen _ _ _) _ _))
 
--- src/late.rt:24:1
 returns : tie.Need-returns Inv-loop μ-loop
 returns c = let e : c .before .loop .i ≡ mostTasks = omega arith in c .before .loop .inv .1 ∙ ap (lateTo (seen _ _ _) _) e ∙ late-seen _ _ _
 

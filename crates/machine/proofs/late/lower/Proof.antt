@@ -5,23 +5,18 @@ use Rattle.machine.proofs.late.lower.Tie as tie
 use Rattle.machine.proofs.late.lower.Reads as reads
 use Rattle.machine.proofs.late.lower.Lts as lts
 
--- src/late.rt:11:9
 shr-if1 : tie.Need-shr-if1
 shr-if1 c = search needs
 
--- src/late.rt:12:9
 returns : tie.Need-returns
 returns c = lower-out _ _ _ _ _ _ (c .if1 .taken)
 
--- src/late.rt:15:9
 returns-2 : tie.Need-returns-2
 returns-2 c = lower-due _ _ _ _ _ _ (c .before .if1 .left) (c .if2 .taken)
 
--- src/late.rt:18:9
 returns-3 : tie.Need-returns-3
 returns-3 c = lower-keep _ _ _ _ _ _ (c .before .before .if1 .left) (c .before .if2 .left) (c .if3 .taken)
 
--- src/late.rt:7:1
 returns-4 : tie.Need-returns-4
 returns-4 c = lower-take _ _ _ _ _ _ (c .before .before .if1 .left) (c .before .if2 .left) (c .if3 .left)
 

@@ -6,33 +6,26 @@ use Rattle.machine.proofs.pending.better.Tie as tie
 use Rattle.machine.proofs.pending.better.Reads as reads
 use Rattle.machine.proofs.pending.better.Lts as lts
 
--- src/pending.rt:62:12
 mul-if2 : tie.Need-mul-if2
 mul-if2 c = search needs
 
--- src/pending.rt:62:12
 shared-slice-read-if2 : tie.Need-shared-slice-read-if2
 shared-slice-read-if2 c = search needs
 
--- src/pending.rt:62:21
 mul-if2-2 : tie.Need-mul-if2-2
 mul-if2-2 c = search needs
 
--- src/pending.rt:62:21
 shared-slice-read-if2-2 : tie.Need-shared-slice-read-if2-2
 shared-slice-read-if2-2 c = search needs
 
--- src/pending.rt:55:1
 returns : tie.Need-returns
 unfolding betterOf
 returns c = simp (lt-ltb _ _ (c .before .before .before .if1 .taken), lt-ltb _ _ (c .if2 .taken))
 
--- src/pending.rt:55:1
 returns-2 : tie.Need-returns-2
 unfolding betterOf
 returns-2 c = simp (lt-ltb _ _ (c .before .before .before .if1 .taken), le-ltb _ _ (c .if2 .left))
 
--- src/pending.rt:55:1
 returns-3 : tie.Need-returns-3
 unfolding betterOf
 returns-3 c = simp (le-ltb _ _ (c .if1 .left))

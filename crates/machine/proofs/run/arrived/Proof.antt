@@ -8,15 +8,12 @@ use Rattle.machine.proofs.run.arrived.Lts as lts
 use Rattle.machine.proofs.job.release.Reads as release-reads
 use Rattle.machine.proofs.state.RunState.counted.Reads as counted-reads
 
--- src/run.rt:59:9
 release-requires : tie.Need-release-requires
 release-requires c κs = search needs
 
--- src/run.rt:60:5
 counted-requires : tie.Need-counted-requires
 counted-requires c κs = search needs
 
--- src/run.rt:55:1
 returns : tie.Need-returns
 unfolding arrivedOf
 returns c = c .counted .ensures ∙ ap countedOf (c .before .release .ensures)

@@ -29,31 +29,24 @@ list-fine c = sym (c .before .before .check-job-list .ensures) ∙ ap faultOf (c
 jobs-fine : (c : tie.After-enum-told3) → let a = c .before .before .before .before .before .before .before .before .before .before .before .before .args in jobFault (a .tasks .now) (a .n) (a .jobs .now) ≡ fine
 jobs-fine c = sym (c .before .before .check-jobs .ensures) ∙ ap faultOf (c .enum-told3 .given .1)
 
--- src/run.rt:144:11
 check-group-requires : tie.Need-check-group-requires
 check-group-requires c κs = search needs
 
--- src/run.rt:145:22
 enum-known-r : tie.Need-enum-known-r
 enum-known-r c = search needs
 
--- src/run.rt:146:32
 enum-told : tie.Need-enum-told
 enum-told c = search needs
 
--- src/run.rt:146:32
 check-job-list-requires : tie.Need-check-job-list-requires
 check-job-list-requires c κs = search needs
 
--- src/run.rt:147:26
 enum-known-r-2 : tie.Need-enum-known-r-2
 enum-known-r-2 c = search needs
 
--- src/run.rt:148:36
 enum-told-2 : tie.Need-enum-told-2
 enum-told-2 c = search needs
 
--- src/run.rt:148:36
 check-jobs-requires : tie.Need-check-jobs-requires
 check-jobs-requires c κs =
     let a = c .before .before .before .before .before .before .before .before .before .args in
@@ -61,15 +54,12 @@ check-jobs-requires c κs =
     let l = job-list-legal (a .n) (a .jobs .now) (list-fine c) in
     (tasks-of (a .tasks .now) (checked-legal _ _ _ g .1), l .1, l .2)
 
--- src/run.rt:149:30
 enum-known-r-3 : tie.Need-enum-known-r-3
 enum-known-r-3 c = search needs
 
--- src/run.rt:151:34
 enum-told-3 : tie.Need-enum-told-3
 enum-told-3 c = search needs
 
--- src/run.rt:154:25
 returns : tie.Need-returns
 returns c =
     let a = c .before .before .before .before .before .before .before .before .before .before .before .before .before .args in
@@ -78,21 +68,17 @@ returns c =
     in-turn _ _ _ _ _ _ fine fine fine _ (sym (group-fine (d .before .before .before .before .before .before))) (sym (list-fine (d .before .before .before))) (sym (jobs-fine d))
     (ap (fault 8) (sym e) ∙ no-room _ _ (omega (arith, e, c .if1 .taken)))
 
--- src/run.rt:134:1
 returns-2 : tie.Need-returns-2
 returns-2 c = in-turn _ _ _ _ _ _ _ _ _ _ (sym (ap faultOf (c .before .r .given .1)) ∙ c .before .before .before .check-group .ensures) refl refl refl
 
--- src/run.rt:134:1
 returns-3 : tie.Need-returns-3
 returns-3 c =
     in-turn _ _ _ _ _ _ fine _ _ _ (sym (group-fine (c .before .before .before .before))) (sym (ap faultOf (c .before .r2 .given .1)) ∙ c .before .before .before .check-job-list .ensures) refl refl
 
--- src/run.rt:134:1
 returns-4 : tie.Need-returns-4
 returns-4 c =
     in-turn _ _ _ _ _ _ fine fine _ _ (sym (group-fine (c .before .before .before .before .before .before .before))) (sym (list-fine (c .before .before .before .before))) (sym (ap faultOf (c .before .r3 .given .1)) ∙ c .before .before .before .check-jobs .ensures) refl
 
--- src/run.rt:134:1
 returns-5 : tie.Need-returns-5
 returns-5 c =
     let a = c .before .before .before .before .before .before .before .before .before .before .before .before .before .args in

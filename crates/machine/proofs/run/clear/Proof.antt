@@ -15,35 +15,27 @@ Inv-loop counts₀ m i₀ counts i = (i ≤ m) × Kept zeros i counts₀ counts
 abbrev μ-loop : tie.MeasureT-loop
 μ-loop counts₀ m i₀ counts i = m - i
 
--- src/run.rt:76:5
 loop-holds : tie.Need-loop-holds Inv-loop μ-loop
 loop-holds c = (omega arith, kept-start _ _)
 
--- src/run.rt:77:9
 mul-counts : tie.Need-mul-counts Inv-loop μ-loop
 mul-counts c = search needs
 
--- src/run.rt:77:9
 slice-write-counts : tie.Need-slice-write-counts Inv-loop μ-loop
 slice-write-counts c = omega (arith, c .before .loop .inv .1 .same)
 
--- src/run.rt:78:9
 add-i : tie.Need-add-i Inv-loop μ-loop
 add-i c = search needs
 
--- src/run.rt:76:5
 loop-less : tie.Need-loop-less Inv-loop μ-loop
 loop-less c = search needs
 
--- src/run.rt:76:5
 loop-again : tie.Need-loop-again Inv-loop μ-loop
 loop-again c = (omega arith, kept-more zeros _ _ _ (omega arith) (c .before .loop .inv .1))
 
--- src/run.rt:71:1
 same-length : tie.Need-same-length Inv-loop μ-loop
 same-length c = c .before .loop .inv .1 .same
 
--- src/run.rt:71:1
 returns : tie.Need-returns Inv-loop μ-loop
 returns c =
     let e : c .before .loop .i ≡ c .before .before .args .m = omega arith in

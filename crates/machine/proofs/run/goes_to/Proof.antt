@@ -6,16 +6,13 @@ use Rattle.machine.proofs.run.goes_to.Reads as reads
 use Rattle.machine.proofs.run.goes_to.Lts as lts
 use Rattle.machine.proofs.state.RunState.chosen.Reads as chosen-reads
 
--- src/run.rt:67:13
 chosen-requires : tie.Need-chosen-requires
 chosen-requires c κs = search needs
 
--- src/run.rt:64:1
 returns : tie.Need-returns
 unfolding goesToOf
 returns c = rw (c .before .if1 .taken) (c .chosen .ensures)
 
--- src/run.rt:64:1
 returns-2 : tie.Need-returns-2
 unfolding goesToOf
 returns-2 c = rw (c .if1 .left)

@@ -8,23 +8,18 @@ use Rattle.machine.proofs.run.is_on.Reads as reads
 use Rattle.machine.proofs.run.is_on.Lts as lts
 use Rattle.checker.proofs.supply.supplied.Reads as supplied-reads
 
--- src/run.rt:48:11
 supplied-requires : tie.Need-supplied-requires
 supplied-requires c κs = search needs
 
--- src/run.rt:49:22
 enum-known-on : tie.Need-enum-known-on
 enum-known-on c = search needs
 
--- src/run.rt:50:33
 enum-told : tie.Need-enum-told
 enum-told c = search needs
 
--- src/run.rt:44:1
 returns : tie.Need-returns
 returns c = answered-is _ _ (c .before .before .before .before .before .pre) _ _ (sym (ap toldSupplied (c .before .on .given .1)) ∙ c .before .before .before .supplied .ensures)
 
--- src/run.rt:44:1
 returns-2 : tie.Need-returns-2
 returns-2 c = absurd (not-refused _ _ (c .before .before .before .before .pre) _ _ _ (sym (ap toldSupplied (c .enum-told .given .1)) ∙ c .before .before .supplied .ensures))
 

@@ -7,31 +7,24 @@ use Rattle.machine.proofs.run.note.Reads as reads
 use Rattle.machine.proofs.run.note.Lts as lts
 use Rattle.machine.proofs.job.release_of.Reads as release-of-reads
 
--- src/run.rt:88:9
 returns : tie.Need-returns
 returns c = noted-none _ _ _ _ (c .if1 .taken)
 
--- src/run.rt:91:21
 release-of-requires : tie.Need-release-of-requires
 release-of-requires c κs = let h = c .before .before .before .pre (c .if1 .left) in (h .known, c .if1 .left)
 
--- src/run.rt:91:17
 sub-counts : tie.Need-sub-counts
 sub-counts c = let h = c .before .before .before .before .pre (c .before .if1 .left) in omega (arith, h .past, c .release-of .ensures)
 
--- src/run.rt:91:5
 mul-counts : tie.Need-mul-counts
 mul-counts c = search needs
 
--- src/run.rt:91:5
 slice-write-counts : tie.Need-slice-write-counts
 slice-write-counts c = c .before .before .before .before .pre (c .before .if1 .left) .room
 
--- src/run.rt:83:1
 same-length : tie.Need-same-length
 same-length c = search needs
 
--- src/run.rt:83:1
 returns-2 : tie.Need-returns-2
 returns-2 c = noted-one _ _ _ _ _ (c .before .if1 .left) (c .release-of .ensures)
 

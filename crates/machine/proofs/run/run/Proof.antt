@@ -18,31 +18,24 @@ run-fine : (c : tie.After-enum-told) → let a = c .before .before .before .befo
     runFault (boardOf (a .board)) (a .windows .now) (a .tasks .now) (a .n) (a .jobs .now) (length (a .counts .now)) ≡ fine
 run-fine c = sym (c .before .before .check-run .ensures) ∙ ap faultOf (c .enum-told .given .1)
 
--- src/run.rt:184:11
 check-run-requires : tie.Need-check-run-requires
 check-run-requires c κs = search needs
 
--- src/run.rt:185:22
 enum-known-r : tie.Need-enum-known-r
 enum-known-r c = search needs
 
--- src/run.rt:185:28
 refuse-requires : tie.Need-refuse-requires
 refuse-requires c κs = search needs
 
--- src/run.rt:186:68
 enum-told : tie.Need-enum-told
 enum-told c = search needs
 
--- src/run.rt:186:26
 run-legal-requires : tie.Need-run-legal-requires
 run-legal-requires c κs = legal-run _ _ _ _ _ _ (run-fine (c .before))
 
--- src/run.rt:173:1
 same-length : tie.Need-same-length
 same-length c = search needs
 
--- src/run.rt:173:1
 returns : tie.Need-returns
 unfolding runAnswer runOut
 returns c =
@@ -50,11 +43,9 @@ returns c =
     let x = c .before .before .refuse .ensures in
     (x .0 ∙ refused-by _ _ e, x .1 ∙ kept-by _ _ _ e)
 
--- src/run.rt:173:1
 same-length-2 : tie.Need-same-length-2
 same-length-2 c = search needs
 
--- src/run.rt:173:1
 returns-2 : tie.Need-returns-2
 unfolding runAnswer runOut
 returns-2 c =

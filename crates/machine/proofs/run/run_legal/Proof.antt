@@ -48,73 +48,57 @@ tick-is : (c : tie.After-advance Inv-loop μ-loop) → let a = c .before .before
 tick-is c =
     ticked _ _ _ _ _ _ _ _ _ (c .before .before .before .is-on .ensures) (c .before .before .arrived .ensures) (c .before .goes-to .ensures) (c .advance .ensures)
 
--- src/run.rt:111:5
 clear-requires : tie.Need-clear-requires Inv-loop μ-loop
 clear-requires c κs = let a = c .before .before .before .before .before .args in omega (arith, pieces-length _ 3 job (a .jobs .now), c .before .before .before .before .before .pre .4)
 
--- src/run.rt:112:9
 new-requires : tie.Need-new-requires Inv-loop μ-loop
 new-requires c κs = search needs
 
--- src/run.rt:114:5
 loop-holds : tie.Need-loop-holds Inv-loop μ-loop
 loop-holds c = let q = begun c in (omega arith, rw (c .new .ensures) (going-first _ _ _ (q .0) (q .1) _ _ (q .2) (q .3)))
 
--- src/run.rt:115:13
 is-on-requires : tie.Need-is-on-requires Inv-loop μ-loop
 is-on-requires c κs = search needs
 
--- src/run.rt:116:13
 arrived-requires : tie.Need-arrived-requires Inv-loop μ-loop
 arrived-requires c κs = let q = begun (c .before .before .before) in (q .0, q .1, c .before .before .loop .inv .1 .at .split .bound)
 
--- src/run.rt:117:13
 goes-to-requires : tie.Need-goes-to-requires Inv-loop μ-loop
 goes-to-requires c κs = search needs
 
--- src/run.rt:118:9
 advance-requires : tie.Need-advance-requires Inv-loop μ-loop
 advance-requires c κs = search needs
 
--- src/run.rt:119:9
 add-k : tie.Need-add-k Inv-loop μ-loop
 add-k c = omega (arith, c .before .before .before .before .loop-test .taken, c .before .before .before .before .before .before .before .before .before .before .before .before .before .before .before .pre .3)
 
--- src/run.rt:120:9
 note-requires : tie.Need-note-requires Inv-loop μ-loop
 note-requires c κs = let q = begun (c .before .before .before .before .before .before .before) in can-note _ _ _ (q .0) (q .1) _ _ (q .2) (q .3) _ _ _ (c .before .before .before .before .before .before .loop .inv .1) _ (tick-is (c .before)) _ refl
 
--- src/run.rt:121:13
 late-requires : tie.Need-late-requires Inv-loop μ-loop
 late-requires c κs = search needs
 
--- src/run.rt:123:13
 same-length : tie.Need-same-length Inv-loop μ-loop
 same-length c =
     let q = begun (c .before .before .before .before .before .before .before .before .before .before .before .before) in
     noted-length _ _ _ (q .0) (q .1) _ _ (q .2) (q .3) _ _ _ (c .before .before .before .before .before .before .before .before .before .before .before .loop .inv .1) _ (tick-is (c .before .before .before .before .before .before)) _ (c .before .before .before .before .note .ensures) _ (c .before .late .ensures)
 
--- src/run.rt:123:13
 returns : tie.Need-returns Inv-loop μ-loop
 returns c =
     let q = begun (c .before .before .before .before .before .before .before .before .before .before .before .before) in
     run-missed _ _ _ (q .0) (q .1) _ _ (q .2) (q .3) _ _ _ (c .before .before .before .before .before .before .before .before .before .before .before .loop .inv .1) _ (tick-is (c .before .before .before .before .before .before)) _ (c .before .before .before .before .note .ensures) _ (c .before .late .ensures) _ (omega arith) (c .if1 .taken)
 
--- src/run.rt:114:5
 loop-less : tie.Need-loop-less Inv-loop μ-loop
 loop-less c = search needs
 
--- src/run.rt:114:5
 loop-again : tie.Need-loop-again Inv-loop μ-loop
 loop-again c =
     let q = begun (c .before .before .before .before .before .before .before .before .before .before .before .before) in
     (omega arith, going-next _ _ _ (q .0) (q .1) _ _ (q .2) (q .3) _ _ _ (c .before .before .before .before .before .before .before .before .before .before .before .loop .inv .1) _ (tick-is (c .before .before .before .before .before .before)) _ (c .before .before .before .before .note .ensures) _ (c .before .late .ensures) (c .if1 .left))
 
--- src/run.rt:95:1
 same-length-2 : tie.Need-same-length-2 Inv-loop μ-loop
 same-length-2 c = let q = begun (c .before .before) in going-length _ _ _ (q .0) (q .1) _ _ (q .2) (q .3) _ _ _ (c .before .loop .inv .1)
 
--- src/run.rt:95:1
 returns-2 : tie.Need-returns-2 Inv-loop μ-loop
 returns-2 c =
     let q = begun (c .before .before) in

@@ -10,31 +10,24 @@ use Rattle.plan.proofs.check.check_windows_from.Reads as check-windows-
 use Rattle.plan.proofs.check.nine.Reads as nine-reads
 use Rattle.plan.proofs.number.read_number.Reads as read-number-reads
 
--- src/check.rt:79:11
 read-number-requires : tie.Need-read-number-requires
 read-number-requires c κs = search needs
 
--- src/check.rt:80:21
 enum-known-offset : tie.Need-enum-known-offset
 enum-known-offset c = search needs
 
--- src/check.rt:80:32
 nine-requires : tie.Need-nine-requires
 nine-requires c κs = search needs
 
--- src/check.rt:81:22
 enum-known-value : tie.Need-enum-known-value
 enum-known-value c = search needs
 
--- src/check.rt:81:39
 check-windows-from-requires : tie.Need-check-windows-from-requires
 check-windows-from-requires c κs = search needs
 
--- src/check.rt:76:1
 returns : tie.Need-returns
 returns c = c .nine .ensures ∙ frame-bad _ _ (sym (c .before .before .before .before .read-number .ensures) ∙ ap toldNumber (c .before .before .offset .given .1))
 
--- src/check.rt:76:1
 returns-2 : tie.Need-returns-2
 returns-2 c = c .check-windows-from .ensures ∙ frame-good _ _ _ (sym (c .before .before .before .before .read-number .ensures) ∙ ap toldNumber (c .before .before .value .given .1))
 

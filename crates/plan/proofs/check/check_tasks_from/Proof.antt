@@ -39,89 +39,69 @@ end-at c =
     let e = into-end _ (c .before .before .before .before .read-numbers .ensures) (c .before .end .given .1) in
     numbers-good _ _ 3 taskCountFault _ _ _ (count-at (c .before .before .before .before .before .before .before)) (task-count-fine _ (omega arith)) _ _ e
 
--- src/check.rt:29:11
 read-number-requires : tie.Need-read-number-requires
 read-number-requires c κs = search needs
 
--- src/check.rt:30:21
 enum-known-offset : tie.Need-enum-known-offset
 enum-known-offset c = search needs
 
--- src/check.rt:30:32
 nine-requires : tie.Need-nine-requires
 nine-requires c κs = search needs
 
--- src/check.rt:31:22
 enum-known-value : tie.Need-enum-known-value
 enum-known-value c = search needs
 
--- src/check.rt:32:25
 cast-count : tie.Need-cast-count
 cast-count c = search needs
 
--- src/check.rt:34:17
 returns : tie.Need-returns
 unfolding tasksFrom
 returns c = count-refused _ _ 3 taskCountFault _ _ _ (count-at (c .before)) 4 0 (task-count-wrong _ (omega arith))
 
--- src/check.rt:36:27
 mul-numbers : tie.Need-mul-numbers
 mul-numbers c = search needs
 
--- src/check.rt:38:54
 slice-aggregate-read-numbers : tie.Need-slice-aggregate-read-numbers
 slice-aggregate-read-numbers c = search needs
 
--- src/check.rt:38:19
 read-numbers-requires : tie.Need-read-numbers-requires
 read-numbers-requires c κs = search needs
 
--- src/check.rt:39:30
 enum-known-offset-2 : tie.Need-enum-known-offset-2
 enum-known-offset-2 c = search needs
 
--- src/check.rt:39:41
 nine-requires-2 : tie.Need-nine-requires-2
 nine-requires-2 c κs = search needs
 
--- src/check.rt:40:31
 enum-known-end : tie.Need-enum-known-end
 enum-known-end c = search needs
 
--- src/check.rt:42:25
 nine-requires-3 : tie.Need-nine-requires-3
 nine-requires-3 c κs = search needs
 
--- src/check.rt:42:25
 returns-2 : tie.Need-returns-2
 returns-2 c = c .nine3 .ensures ∙ bytes-left _ _ _ (c .before .if2 .taken) ∙ end-at (c .before .before)
 
--- src/check.rt:44:55
 array-share-prefix-tasks : tie.Need-array-share-prefix-tasks
 array-share-prefix-tasks c = search needs
 
--- src/check.rt:44:55
 slice-aggregate-verdict : tie.Need-slice-aggregate-verdict
 slice-aggregate-verdict c = sym (length-take-le _ _ (search needs))
 
--- src/check.rt:44:21
 verdict-requires : tie.Need-verdict-requires
 verdict-requires c κs = search needs
 
--- src/check.rt:26:1
 returns-3 : tie.Need-returns-3
 unfolding tasksFrom
 returns-3 c =
     c .nine .ensures ∙ count-bad _ _ 3 taskCountFault _ _ (sym (c .before .before .before .before .read-number .ensures) ∙ ap toldNumber (c .before .before .offset .given .1))
 
--- src/check.rt:26:1
 returns-4 : tie.Need-returns-4
 unfolding tasksFrom
 returns-4 c =
     let e = into-bad _ (c .before .before .before .before .before .read-numbers .ensures) (c .before .before .offset2 .given .1) in
     c .nine2 .ensures ∙ numbers-bad _ _ 3 taskCountFault _ _ _ (count-at (c .before .before .before .before .before .before .before .before)) (task-count-fine _ (omega arith)) _ e
 
--- src/check.rt:26:1
 returns-5 : tie.Need-returns-5
 returns-5 c = c .verdict .ensures ∙ no-bytes-left _ _ _ (c .before .before .if2 .left) ∙ end-at (c .before .before .before)
 

@@ -22,81 +22,63 @@ count-at : (c : tie.After-known-told2) →
     readNumber (a .bytes .now) (a .at) ≡ read (v .0 .0) (v .0 .1 .0)
 count-at c = sym (c .before .before .before .read-number .ensures) ∙ ap toldNumber (c .before .value .given .1)
 
--- src/check.rt:55:11
 read-number-requires : tie.Need-read-number-requires
 read-number-requires c κs = search needs
 
--- src/check.rt:56:21
 enum-known-offset : tie.Need-enum-known-offset
 enum-known-offset c = search needs
 
--- src/check.rt:56:32
 nine-requires : tie.Need-nine-requires
 nine-requires c κs = search needs
 
--- src/check.rt:57:22
 enum-known-value : tie.Need-enum-known-value
 enum-known-value c = search needs
 
--- src/check.rt:58:25
 cast-count : tie.Need-cast-count
 cast-count c = search needs
 
--- src/check.rt:60:17
 returns : tie.Need-returns
 unfolding windowsFrom
 returns c =
     count-refused _ _ 2 windowCountFault _ _ _ (count-at (c .before)) 1 0 (window-count-wrong _ (λ h. omega arith))
 
--- src/check.rt:63:17
 returns-2 : tie.Need-returns-2
 unfolding windowsFrom
 returns-2 c =
     count-refused _ _ 2 windowCountFault _ _ _ (count-at (c .before .before)) 1 0 (window-count-wrong _ (λ h. omega arith))
 
--- src/check.rt:65:27
 mul-numbers : tie.Need-mul-numbers
 mul-numbers c = search needs
 
--- src/check.rt:67:54
 slice-aggregate-read-numbers : tie.Need-slice-aggregate-read-numbers
 slice-aggregate-read-numbers c = search needs
 
--- src/check.rt:67:19
 read-numbers-requires : tie.Need-read-numbers-requires
 read-numbers-requires c κs = search needs
 
--- src/check.rt:68:30
 enum-known-offset-2 : tie.Need-enum-known-offset-2
 enum-known-offset-2 c = search needs
 
--- src/check.rt:68:41
 nine-requires-2 : tie.Need-nine-requires-2
 nine-requires-2 c κs = search needs
 
--- src/check.rt:69:31
 enum-known-after : tie.Need-enum-known-after
 enum-known-after c = search needs
 
--- src/check.rt:69:67
 array-share-prefix-windows : tie.Need-array-share-prefix-windows
 array-share-prefix-windows c = search needs
 
--- src/check.rt:69:67
 slice-aggregate-check-tasks-from : tie.Need-slice-aggregate-check-tasks-from
 slice-aggregate-check-tasks-from c = sym (length-take-le _ _ (search needs))
 
--- src/check.rt:69:41
 check-tasks-from-requires : tie.Need-check-tasks-from-requires
 check-tasks-from-requires c κs = search needs
 
--- src/check.rt:52:1
 returns-3 : tie.Need-returns-3
 unfolding windowsFrom
 returns-3 c =
     c .nine .ensures ∙ count-bad _ _ 2 windowCountFault _ _ (sym (c .before .before .before .before .read-number .ensures) ∙ ap toldNumber (c .before .before .offset .given .1))
 
--- src/check.rt:52:1
 returns-4 : tie.Need-returns-4
 unfolding windowsFrom
 returns-4 c =
@@ -104,7 +86,6 @@ returns-4 c =
     let e = into-bad _ (c .before .before .before .before .before .read-numbers .ensures) (c .before .before .offset2 .given .1) in
     c .nine2 .ensures ∙ numbers-bad _ _ 2 windowCountFault _ _ _ (count-at (d .before .before)) (window-count-fine _ (omega arith) (omega arith)) _ e
 
--- src/check.rt:52:1
 returns-5 : tie.Need-returns-5
 unfolding windowsFrom
 returns-5 c =

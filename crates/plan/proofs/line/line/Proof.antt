@@ -11,31 +11,24 @@ use Rattle.plan.proofs.line.line.Lts as lts
 use Rattle.plan.proofs.line.put_line.Reads as put-line-reads
 use Rattle.plan.proofs.text.deliver.Reads as deliver-reads
 
--- src/line.rt:113:24
 slice-aggregate-put-line : tie.Need-slice-aggregate-put-line
 slice-aggregate-put-line c = search needs
 
--- src/line.rt:113:9
 put-line-requires : tie.Need-put-line-requires
 put-line-requires c κs = search needs
 
--- src/line.rt:114:13
 array-share-prefix-text : tie.Need-array-share-prefix-text
 array-share-prefix-text c = search needs
 
--- src/line.rt:114:13
 slice-aggregate-deliver : tie.Need-slice-aggregate-deliver
 slice-aggregate-deliver c = let p = c .before .before .put-line .ensures in sym (length-take-le _ _ (omega (arith, put-length (p .0), p .1)))
 
--- src/line.rt:114:5
 deliver-requires : tie.Need-deliver-requires
 deliver-requires c κs = search needs
 
--- src/line.rt:108:1
 same-length : tie.Need-same-length
 same-length c = search needs
 
--- src/line.rt:108:1
 returns : tie.Need-returns
 unfolding lineAnswer lineOut
 returns c =

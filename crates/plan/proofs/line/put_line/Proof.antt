@@ -7,51 +7,39 @@ use Rattle.plan.proofs.line.put_meets.Reads as put-meets-reads
 use Rattle.plan.proofs.line.put_miss.Reads as put-miss-reads
 use Rattle.plan.proofs.line.put_refused.Reads as put-refused-reads
 
--- src/line.rt:106:26
 enum-known-verdict : tie.Need-enum-known-verdict
 enum-known-verdict c = search needs
 
--- src/line.rt:106:37
 put-meets-requires : tie.Need-put-meets-requires
 put-meets-requires c κs = search needs
 
--- src/line.rt:107:25
 enum-known-verdict-2 : tie.Need-enum-known-verdict-2
 enum-known-verdict-2 c = search needs
 
--- src/line.rt:107:60
 put-miss-requires : tie.Need-put-miss-requires
 put-miss-requires c κs = search needs
 
--- src/line.rt:108:26
 enum-known-verdict-3 : tie.Need-enum-known-verdict-3
 enum-known-verdict-3 c = search needs
 
--- src/line.rt:108:38
 put-refused-requires : tie.Need-put-refused-requires
 put-refused-requires c κs = search needs
 
--- src/line.rt:100:1
 same-length : tie.Need-same-length
 same-length c = search needs
 
--- src/line.rt:100:1
 returns : tie.Need-returns
 returns c = rw (c .before .before .before .before .before .verdict .given .1) (c .before .before .put-meets .ensures)
 
--- src/line.rt:100:1
 same-length-2 : tie.Need-same-length-2
 same-length-2 c = search needs
 
--- src/line.rt:100:1
 returns-2 : tie.Need-returns-2
 returns-2 c = rw (c .before .before .before .before .before .verdict2 .given .1) (c .before .before .put-miss .ensures)
 
--- src/line.rt:100:1
 same-length-3 : tie.Need-same-length-3
 same-length-3 c = search needs
 
--- src/line.rt:100:1
 returns-3 : tie.Need-returns-3
 returns-3 c = rw (c .before .before .before .before .before .verdict3 .given .1) (c .before .before .put-refused .ensures)
 

@@ -8,27 +8,21 @@ use Rattle.plan.proofs.line.put_meets.Lts as lts
 use Rattle.plan.proofs.line.put_part.Reads as put-part-reads
 use Rattle.plan.proofs.text.put.Reads as put-reads
 
--- src/line.rt:67:32
 slice-aggregate-put-part : tie.Need-slice-aggregate-put-part
 slice-aggregate-put-part c = search needs
 
--- src/line.rt:67:9
 put-part-requires : tie.Need-put-part-requires
 put-part-requires c κs = search needs
 
--- src/line.rt:68:19
 slice-aggregate-put : tie.Need-slice-aggregate-put
 slice-aggregate-put c = search needs
 
--- src/line.rt:68:5
 put-requires : tie.Need-put-requires
 put-requires c κs = search needs
 
--- src/line.rt:62:1
 same-length : tie.Need-same-length
 same-length c = search needs
 
--- src/line.rt:62:1
 returns : tie.Need-returns
 unfolding line
 returns c = (both (c .before .before .before .before .before .before .before .put-part .ensures .0) (c .before .before .put .ensures), search needs)

@@ -8,51 +8,39 @@ use Rattle.plan.proofs.line.put_miss.Lts as lts
 use Rattle.plan.proofs.line.put_part.Reads as put-part-reads
 use Rattle.plan.proofs.text.put.Reads as put-reads
 
--- src/line.rt:81:30
 slice-aggregate-put-part : tie.Need-slice-aggregate-put-part
 slice-aggregate-put-part c = search needs
 
--- src/line.rt:81:9
 put-part-requires : tie.Need-put-part-requires
 put-part-requires c κs = search needs
 
--- src/line.rt:82:30
 slice-aggregate-put-part-2 : tie.Need-slice-aggregate-put-part-2
 slice-aggregate-put-part-2 c = search needs
 
--- src/line.rt:82:9
 put-part-requires-2 : tie.Need-put-part-requires-2
 put-part-requires-2 c κs = search needs
 
--- src/line.rt:83:30
 slice-aggregate-put-part-3 : tie.Need-slice-aggregate-put-part-3
 slice-aggregate-put-part-3 c = search needs
 
--- src/line.rt:83:9
 put-part-requires-3 : tie.Need-put-part-requires-3
 put-part-requires-3 c κs = search needs
 
--- src/line.rt:84:32
 slice-aggregate-put-part-4 : tie.Need-slice-aggregate-put-part-4
 slice-aggregate-put-part-4 c = search needs
 
--- src/line.rt:84:9
 put-part-requires-4 : tie.Need-put-part-requires-4
 put-part-requires-4 c κs = search needs
 
--- src/line.rt:85:19
 slice-aggregate-put : tie.Need-slice-aggregate-put
 slice-aggregate-put c = search needs
 
--- src/line.rt:85:5
 put-requires : tie.Need-put-requires
 put-requires c κs = search needs
 
--- src/line.rt:76:1
 same-length : tie.Need-same-length
 same-length c = search needs
 
--- src/line.rt:76:1
 returns : tie.Need-returns
 unfolding line
 returns c =

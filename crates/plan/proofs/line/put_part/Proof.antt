@@ -9,19 +9,15 @@ use Rattle.plan.proofs.line.put_part.Lts as lts
 use Rattle.plan.proofs.text.put.Reads as put-reads
 use Rattle.plan.proofs.text.put_decimal.Reads as put-decimal-reads
 
--- src/line.rt:58:9
 put-requires : tie.Need-put-requires
 put-requires c κs = search needs
 
--- src/line.rt:59:5
 put-decimal-requires : tie.Need-put-decimal-requires
 put-decimal-requires c κs = let p = c .before .before .before .put .ensures in omega (arith, p .end, put-length p, decimal-short 19 (c .before .before .before .before .before .before .before .args .n) (omega arith))
 
--- src/line.rt:53:1
 same-length : tie.Need-same-length
 same-length c = search needs
 
--- src/line.rt:53:1
 returns : tie.Need-returns
 returns c =
     let p = c .before .before .before .before .before .before .put .ensures in

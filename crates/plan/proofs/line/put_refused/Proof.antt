@@ -11,43 +11,33 @@ use Rattle.checker.proofs.answer.Refusal.place.Reads as place-reads
 use Rattle.plan.proofs.line.put_part.Reads as put-part-reads
 use Rattle.plan.proofs.text.put.Reads as put-reads
 
--- src/line.rt:88:9
 number-requires : tie.Need-number-requires
 number-requires c κs = search needs
 
--- src/line.rt:89:9
 place-requires : tie.Need-place-requires
 place-requires c κs = search needs
 
--- src/line.rt:90:30
 slice-aggregate-put-part : tie.Need-slice-aggregate-put-part
 slice-aggregate-put-part c = search needs
 
--- src/line.rt:90:9
 put-part-requires : tie.Need-put-part-requires
 put-part-requires c κs = search needs
 
--- src/line.rt:91:32
 slice-aggregate-put-part-2 : tie.Need-slice-aggregate-put-part-2
 slice-aggregate-put-part-2 c = search needs
 
--- src/line.rt:91:9
 put-part-requires-2 : tie.Need-put-part-requires-2
 put-part-requires-2 c κs = search needs
 
--- src/line.rt:92:19
 slice-aggregate-put : tie.Need-slice-aggregate-put
 slice-aggregate-put c = search needs
 
--- src/line.rt:92:5
 put-requires : tie.Need-put-requires
 put-requires c κs = search needs
 
--- src/line.rt:83:1
 same-length : tie.Need-same-length
 same-length c = search needs
 
--- src/line.rt:83:1
 returns : tie.Need-returns
 unfolding line
 returns c = (

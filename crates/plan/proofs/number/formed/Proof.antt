@@ -9,23 +9,18 @@ use Rattle.plan.proofs.number.formed.Tie as tie
 use Rattle.plan.proofs.number.formed.Reads as reads
 use Rattle.plan.proofs.number.formed.Lts as lts
 
--- src/number.rt:30:9
 returns : tie.Need-returns
 returns c = number-ill-formed _ _ (λ w. omega (arith, well-formed _ w .0))
 
--- src/number.rt:33:9
 returns-2 : tie.Need-returns-2
 returns-2 c = number-ill-formed _ _ (λ w. omega (arith, well-formed _ w .1 (omega arith), eqb-true (c .before .before .before .args .last) 0 (c .if3 .taken)))
 
--- src/number.rt:36:16
 cast-t8 : tie.Need-cast-t8
 cast-t8 c = search needs
 
--- src/number.rt:37:15
 add-t9 : tie.Need-add-t9
 add-t9 c = search needs
 
--- src/number.rt:25:1
 returns-3 : tie.Need-returns-3
 returns-3 c =
     let last = c .before .before .args .last in

@@ -32,77 +32,61 @@ grows c =
     let byte = c .before .shared-slice-known2 .given (a .at + l .size) in
     grown (l .value) (l .weight) (l .size) (getD (a .bytes .now) (a .at + l .size) 0 - 128) (search needs) (l .inv .2) (l .inv .3) (omega (arith, byte))
 
--- src/number.rt:45:9
 returns : tie.Need-returns Inv-loop μ-loop
 returns c = number-missing _ _ (c .if1 .taken)
 
--- src/number.rt:50:5
 loop-holds : tie.Need-loop-holds Inv-loop μ-loop
 loop-holds c = (search needs, search needs, refl, search needs, sym (rw (add-zero (c .before .before .args .at)) (after-none _)))
 
--- src/number.rt:51:20
 add-next : tie.Need-add-next Inv-loop μ-loop
 add-next c = search needs
 
--- src/number.rt:53:13
 returns-2 : tie.Need-returns-2 Inv-loop μ-loop
 returns-2 c =
     let l = c .before .before .loop in
     unfinished _ _ (l .value) (l .weight) (l .size) (search needs) (l .inv .2) (l .inv .4) (c .if2 .taken)
 
--- src/number.rt:55:20
 shared-slice-read-byte : tie.Need-shared-slice-read-byte Inv-loop μ-loop
 shared-slice-read-byte c = search needs
 
--- src/number.rt:55:20
 cast-byte : tie.Need-cast-byte Inv-loop μ-loop
 cast-byte c = let byte = c .shared-slice-known2 .given (c .before .before .before .before .before .before .args .at + c .before .before .before .loop .size) in omega arith
 
--- src/number.rt:56:9
 add-size : tie.Need-add-size Inv-loop μ-loop
 add-size c = search needs
 
--- src/number.rt:58:39
 mul-formed : tie.Need-mul-formed Inv-loop μ-loop
 mul-formed c =
     let l = c .before .before .before .before .loop in
     let b = getD (c .before .before .before .before .before .before .before .args .bytes .now) (c .before .before .before .before .before .before .before .args .at + l .size) 0 in
     omega (arith, grown (l .value) (l .weight) (l .size) b (search needs) (l .inv .2) (l .inv .3) (omega (arith, c .if3 .taken)))
 
--- src/number.rt:58:31
 add-formed : tie.Need-add-formed Inv-loop μ-loop
 add-formed c =
     let l = c .before .before .before .before .loop in
     let b = getD (c .before .before .before .before .before .before .before .args .bytes .now) (c .before .before .before .before .before .before .before .args .at + l .size) 0 in
     omega (arith, grown (l .value) (l .weight) (l .size) b (search needs) (l .inv .2) (l .inv .3) (omega (arith, c .if3 .taken)))
 
--- src/number.rt:58:13
 formed-requires : tie.Need-formed-requires Inv-loop μ-loop
 formed-requires c κs = search needs
 
--- src/number.rt:58:13
 returns-3 : tie.Need-returns-3 Inv-loop μ-loop
 returns-3 c =
     let l = c .before .before .before .before .before .loop in
     c .formed .ensures ∙ ends _ _ (l .value) (l .weight) (l .size) (search needs) (l .inv .2) (l .inv .4) (search needs) (c .before .if3 .taken)
 
--- src/number.rt:60:18
 mul-value : tie.Need-mul-value Inv-loop μ-loop
 mul-value c = omega (arith, grows c)
 
--- src/number.rt:60:9
 add-value : tie.Need-add-value Inv-loop μ-loop
 add-value c = omega (arith, grows c)
 
--- src/number.rt:61:9
 mul-weight : tie.Need-mul-weight Inv-loop μ-loop
 mul-weight c = omega (arith, grows c)
 
--- src/number.rt:50:5
 loop-less : tie.Need-loop-less Inv-loop μ-loop
 loop-less c = search needs
 
--- src/number.rt:50:5
 loop-again : tie.Need-loop-again Inv-loop μ-loop
 loop-again c =
     let l = c .before .before .before .before .loop in (
@@ -113,7 +97,6 @@ loop-again c =
       goes-on _ _ (l .value) (l .weight) (l .size) (search needs) (l .inv .2) (l .inv .4) (search needs) (c .if3 .left),
     )
 
--- src/number.rt:41:1
 returns-4 : tie.Need-returns-4 Inv-loop μ-loop
 returns-4 c =
     let l = c .before .loop in

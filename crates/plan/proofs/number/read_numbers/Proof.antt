@@ -18,62 +18,49 @@ Inv-loop bytes at n out₀ next₀ i₀ out next i = (i ≤ n) × (length out �
 abbrev μ-loop : tie.MeasureT-loop
 μ-loop bytes at n out₀ next₀ i₀ out next i = n - i
 
--- src/number.rt:79:5
 loop-holds : tie.Need-loop-holds Inv-loop μ-loop
 unfolding readNumbers
 loop-holds c = (search needs, refl, refl)
 
--- src/number.rt:80:15
 read-number-requires : tie.Need-read-number-requires Inv-loop μ-loop
 read-number-requires c κs = search needs
 
--- src/number.rt:81:26
 enum-known-value : tie.Need-enum-known-value Inv-loop μ-loop
 enum-known-value c = search needs
 
--- src/number.rt:82:17
 mul-out : tie.Need-mul-out Inv-loop μ-loop
 mul-out c = search needs
 
--- src/number.rt:82:17
 slice-write-out : tie.Need-slice-write-out Inv-loop μ-loop
 slice-write-out c = search needs
 
--- src/number.rt:85:25
 enum-known-offset : tie.Need-enum-known-offset Inv-loop μ-loop
 enum-known-offset c = search needs
 
--- src/number.rt:86:17
 same-length : tie.Need-same-length Inv-loop μ-loop
 same-length c = search needs
 
--- src/number.rt:86:17
 returns : tie.Need-returns Inv-loop μ-loop
 returns c =
     let l = c .before .before .before .before .before .loop in
     let e = sym (c .before .before .before .read-number .ensures) ∙ ap toldNumber (c .before .offset .given .1) in
     stops _ _ (l .i) (l .next) _ (l .inv .2) _ _ e (search needs)
 
--- src/number.rt:89:9
 add-i : tie.Need-add-i Inv-loop μ-loop
 add-i c = search needs
 
--- src/number.rt:79:5
 loop-less : tie.Need-loop-less Inv-loop μ-loop
 loop-less c = search needs
 
--- src/number.rt:79:5
 loop-again : tie.Need-loop-again Inv-loop μ-loop
 loop-again c =
     let l = c .before .before .before .before .before .loop in
     let e = sym (c .before .before .before .read-number .ensures) ∙ ap toldNumber (c .before .value .given .1) in
     (search needs, search needs, stores-more _ _ (l .i) (l .next) (l .out) (l .inv .2) (search needs) _ _ e)
 
--- src/number.rt:73:1
 same-length-2 : tie.Need-same-length-2 Inv-loop μ-loop
 same-length-2 c = search needs
 
--- src/number.rt:73:1
 returns-2 : tie.Need-returns-2 Inv-loop μ-loop
 returns-2 c =
     let l = c .before .loop in

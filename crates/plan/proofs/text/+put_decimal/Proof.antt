@@ -30,57 +30,44 @@ room t c =
     let h = decimal-longer (c .before .before .before .before .before .before .args .n) (omega arith) in
     omega (arith, h, c .before .before .put-decimal .ensures .end, c .before .before .before .before .before .before .pre .1)
 
--- src/text.rt:33:26
 put-decimal-cast-out : (t : ℕ) → put-decimal-lts.Need-cast-out (put-decimal-below t, put-decimal.Post) (put-decimal-at t) put-decimal.Post
 put-decimal-cast-out t c = search needs
 
--- src/text.rt:33:19
 put-decimal-add-out : (t : ℕ) → put-decimal-lts.Need-add-out (put-decimal-below t, put-decimal.Post) (put-decimal-at t) put-decimal.Post
 put-decimal-add-out t c = search needs
 
--- src/text.rt:33:9
 put-decimal-slice-write-out : (t : ℕ) → put-decimal-lts.Need-slice-write-out (put-decimal-below t, put-decimal.Post) (put-decimal-at t) put-decimal.Post
 put-decimal-slice-write-out t c = omega (arith, ap length (decimal-one (c .before .before .args .n) (omega arith)))
 
--- src/text.rt:34:16
 put-decimal-add-result : (t : ℕ) → put-decimal-lts.Need-add-result (put-decimal-below t, put-decimal.Post) (put-decimal-at t) put-decimal.Post
 put-decimal-add-result t c = search needs
 
--- src/text.rt:34:9
 put-decimal-same-length : (t : ℕ) → put-decimal-lts.Need-same-length (put-decimal-below t, put-decimal.Post) (put-decimal-at t) put-decimal.Post
 put-decimal-same-length t c = search needs
 
--- src/text.rt:34:9
 put-decimal-returns : (t : ℕ) → put-decimal-lts.Need-returns (put-decimal-below t, put-decimal.Post) (put-decimal-at t) put-decimal.Post
 put-decimal-returns t c = rw (decimal-one (c .before .before .args .n) (omega arith)) (put-one _ _ _)
 
--- src/text.rt:36:9
 put-decimal-put-decimal-requires : (t : ℕ) → put-decimal-lts.Need-put-decimal-requires (put-decimal-below t, put-decimal.Post) (put-decimal-at t) put-decimal.Post
 put-decimal-put-decimal-requires t c κs =
     let h = decimal-longer (c .before .before .before .args .n) (omega arith) in
     (omega (arith, c .before .before .before .pre .0), omega arith)
 
--- src/text.rt:37:24
 put-decimal-cast-out-2 : (t : ℕ) → put-decimal-lts.Need-cast-out-2 (put-decimal-below t, put-decimal.Post) (put-decimal-at t) put-decimal.Post
 put-decimal-cast-out-2 t c = search needs
 
--- src/text.rt:37:17
 put-decimal-add-out-2 : (t : ℕ) → put-decimal-lts.Need-add-out-2 (put-decimal-below t, put-decimal.Post) (put-decimal-at t) put-decimal.Post
 put-decimal-add-out-2 t c = search needs
 
--- src/text.rt:37:5
 put-decimal-slice-write-out-2 : (t : ℕ) → put-decimal-lts.Need-slice-write-out-2 (put-decimal-below t, put-decimal.Post) (put-decimal-at t) put-decimal.Post
 put-decimal-slice-write-out-2 t c = omega (arith, room t c, put-length (c .before .before .put-decimal .ensures))
 
--- src/text.rt:38:5
 put-decimal-add-result-2 : (t : ℕ) → put-decimal-lts.Need-add-result-2 (put-decimal-below t, put-decimal.Post) (put-decimal-at t) put-decimal.Post
 put-decimal-add-result-2 t c = let h = room t c in omega arith
 
--- src/text.rt:28:1
 put-decimal-same-length-2 : (t : ℕ) → put-decimal-lts.Need-same-length-2 (put-decimal-below t, put-decimal.Post) (put-decimal-at t) put-decimal.Post
 put-decimal-same-length-2 t c = search needs
 
--- src/text.rt:28:1
 put-decimal-returns-2 : (t : ℕ) → put-decimal-lts.Need-returns-2 (put-decimal-below t, put-decimal.Post) (put-decimal-at t) put-decimal.Post
 put-decimal-returns-2 t c =
     rw (decimal-more (c .before .before .before .before .before .before .args .n) (omega arith))

@@ -12,22 +12,18 @@ use Rattle.plan.proofs.text.deliver.Reads as reads
 use Rattle.plan.proofs.text.deliver.Lts as lts
 use Rattle.plan.proofs.text.put.Reads as put-reads
 
--- src/text.rt:47:9
 returns : tie.Need-returns
 unfolding roomFault
 returns c =
     let a = c .before .before .before .args in
     rw (lt-ltb (length (a .out .now)) (length (a .text .now)) (omega arith)) (refl, refl)
 
--- src/text.rt:49:9
 put-requires : tie.Need-put-requires
 put-requires c κs = search needs
 
--- src/text.rt:42:1
 same-length : tie.Need-same-length
 same-length c = search needs
 
--- src/text.rt:42:1
 returns-2 : tie.Need-returns-2
 unfolding roomFault
 returns-2 c =

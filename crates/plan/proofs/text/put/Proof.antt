@@ -22,39 +22,30 @@ room c =
     let l = c .before .before .loop in
     omega (arith, l .inv .1 .end, length-take-le (l .i) (c .before .before .before .args .text .now) (l .inv .0))
 
--- src/text.rt:19:5
 loop-holds : tie.Need-loop-holds Inv-loop μ-loop
 loop-holds c = (omega arith, put-none _ _)
 
--- src/text.rt:20:21
 shared-slice-read-out : tie.Need-shared-slice-read-out Inv-loop μ-loop
 shared-slice-read-out c = search needs
 
--- src/text.rt:20:9
 slice-write-out : tie.Need-slice-write-out Inv-loop μ-loop
 slice-write-out c = omega (arith, room c, put-length (c .before .before .loop .inv .1))
 
--- src/text.rt:21:9
 add-next : tie.Need-add-next Inv-loop μ-loop
 add-next c = let h = room c in omega arith
 
--- src/text.rt:22:9
 add-i : tie.Need-add-i Inv-loop μ-loop
 add-i c = search needs
 
--- src/text.rt:19:5
 loop-less : tie.Need-loop-less Inv-loop μ-loop
 loop-less c = search needs
 
--- src/text.rt:19:5
 loop-again : tie.Need-loop-again Inv-loop μ-loop
 loop-again c = (omega arith, put-more _ _ (c .before .loop-test .taken) (c .before .before .loop .inv .1))
 
--- src/text.rt:13:1
 same-length : tie.Need-same-length Inv-loop μ-loop
 same-length c = put-length (c .before .loop .inv .1)
 
--- src/text.rt:13:1
 returns : tie.Need-returns Inv-loop μ-loop
 returns c = rw (take-all (c .before .loop .i) (c .before .before .args .text .now) (c .loop-test .left)) at (c .before .loop .inv .1)
 

@@ -24,7 +24,6 @@ abbrev put-number-below : ℕ → In 1 put-number-kinds.ps
 put-number-below t =
     and 1 put-number-kinds.ps (falls 1 put-number-kinds.ps _<_ μ-put-number t) put-number.Pre
 
--- src/write.rt:26:19
 put-number-cast-out :
     (t : ℕ) →
     put-number-lts.Need-cast-out
@@ -33,19 +32,15 @@ put-number-cast-out :
     put-number.Post
 put-number-cast-out t c = search needs
 
--- src/write.rt:26:9
 put-number-slice-write-out : (t : ℕ) → put-number-lts.Need-slice-write-out (put-number-below t, put-number.Post) (put-number-at t) put-number.Post
 put-number-slice-write-out t c = omega (arith, ap length (number-one (c .before .before .args .n) (omega arith)))
 
--- src/write.rt:27:16
 put-number-add-result : (t : ℕ) → put-number-lts.Need-add-result (put-number-below t, put-number.Post) (put-number-at t) put-number.Post
 put-number-add-result t c = search needs
 
--- src/write.rt:27:9
 put-number-same-length : (t : ℕ) → put-number-lts.Need-same-length (put-number-below t, put-number.Post) (put-number-at t) put-number.Post
 put-number-same-length t c = search needs
 
--- src/write.rt:27:9
 put-number-returns :
     (t : ℕ) →
     put-number-lts.Need-returns
@@ -54,7 +49,6 @@ put-number-returns :
     put-number.Post
 put-number-returns t c = rw (number-one (c .before .before .args .n) (omega arith)) (put-one _ _ _)
 
--- src/write.rt:29:16
 put-number-add-out :
     (t : ℕ) →
     put-number-lts.Need-add-out
@@ -63,29 +57,23 @@ put-number-add-out :
     put-number.Post
 put-number-add-out t c = search needs
 
--- src/write.rt:29:15
 put-number-cast-out-2 : (t : ℕ) → put-number-lts.Need-cast-out-2 (put-number-below t, put-number.Post) (put-number-at t) put-number.Post
 put-number-cast-out-2 t c = search needs
 
--- src/write.rt:29:5
 put-number-slice-write-out-2 : (t : ℕ) → put-number-lts.Need-slice-write-out-2 (put-number-below t, put-number.Post) (put-number-at t) put-number.Post
 put-number-slice-write-out-2 t c = omega (arith, number-longer (c .before .before .args .n) (omega arith))
 
--- src/write.rt:30:21
 put-number-add-put-number : (t : ℕ) → put-number-lts.Need-add-put-number (put-number-below t, put-number.Post) (put-number-at t) put-number.Post
 put-number-add-put-number t c = search needs
 
--- src/write.rt:30:5
 put-number-put-number-requires : (t : ℕ) → put-number-lts.Need-put-number-requires (put-number-below t, put-number.Post) (put-number-at t) put-number.Post
 put-number-put-number-requires t c κs =
     let h = number-longer (c .before .before .before .args .n) (omega arith) in
     (omega (arith, c .before .before .before .pre .0), simp length-set (omega arith))
 
--- src/write.rt:21:1
 put-number-same-length-2 : (t : ℕ) → put-number-lts.Need-same-length-2 (put-number-below t, put-number.Post) (put-number-at t) put-number.Post
 put-number-same-length-2 t c = c .before .before .put-number .kept .0 ∙ length-set (c .before .before .before .before .before .before .args .out .now) (c .before .before .before .before .before .before .args .at) _
 
--- src/write.rt:21:1
 put-number-returns-2 : (t : ℕ) → put-number-lts.Need-returns-2 (put-number-below t, put-number.Post) (put-number-at t) put-number.Post
 put-number-returns-2 t c = rw (number-more (c .before .before .before .before .before .before .args .n) (omega arith)) (both (put-one _ _ _) (c .before .before .put-number .ensures))
 

@@ -9,19 +9,15 @@ use Rattle.plan.proofs.write.put_counted.Lts as lts
 use Rattle.plan.proofs.write.put_number.Reads as put-number-reads
 use Rattle.plan.proofs.write.put_numbers.Reads as put-numbers-reads
 
--- src/write.rt:53:9
 put-number-requires : tie.Need-put-number-requires
 put-number-requires c κs = omega (arith, number-short 0 (c .before .before .before .args .count) (omega arith))
 
--- src/write.rt:54:5
 put-numbers-requires : tie.Need-put-numbers-requires
 put-numbers-requires c κs = let p = c .before .before .before .put-number .ensures in omega (arith, p .end, put-length p, number-short 0 (c .before .before .before .before .before .before .before .args .count) (omega arith))
 
--- src/write.rt:48:1
 same-length : tie.Need-same-length
 same-length c = search needs
 
--- src/write.rt:48:1
 returns : tie.Need-returns
 returns c =
     let p = c .before .before .before .before .before .before .put-number .ensures in

@@ -25,32 +25,25 @@ abbrev μ-loop : tie.MeasureT-loop
 short : (c : tie.After-shared-slice-known2 Inv-loop μ-loop) → length (numberBytes (getD (c .before .before .before .before .before .before .args .list .now) (c .before .before .before .loop .i) 0)) ≤ 5
 short c = let h = c .shared-slice-known2 .given (c .before .before .before .loop .i) in number-short 4 _ (omega arith)
 
--- src/write.rt:40:5
 loop-holds : tie.Need-loop-holds Inv-loop μ-loop
 unfolding numbersBytes
 loop-holds c = (omega arith, put-none _ _, omega arith)
 
--- src/write.rt:41:38
 mul-put-number : tie.Need-mul-put-number Inv-loop μ-loop
 mul-put-number c = search needs
 
--- src/write.rt:41:38
 shared-slice-read-put-number : tie.Need-shared-slice-read-put-number Inv-loop μ-loop
 shared-slice-read-put-number c = search needs
 
--- src/write.rt:41:9
 put-number-requires : tie.Need-put-number-requires Inv-loop μ-loop
 put-number-requires c κs = let l = c .before .before .before .loop in omega (arith, l .inv .2, put-length (l .inv .1), short c)
 
--- src/write.rt:42:9
 add-i : tie.Need-add-i Inv-loop μ-loop
 add-i c = search needs
 
--- src/write.rt:40:5
 loop-less : tie.Need-loop-less Inv-loop μ-loop
 loop-less c = search needs
 
--- src/write.rt:40:5
 loop-again : tie.Need-loop-again Inv-loop μ-loop
 loop-again c =
     let l = c .before .before .before .before .before .before .loop in
@@ -60,11 +53,9 @@ loop-again c =
       omega (arith, l .inv .2, q .end, short (c .before .before .before)),
     )
 
--- src/write.rt:33:1
 same-length : tie.Need-same-length Inv-loop μ-loop
 same-length c = put-length (c .before .loop .inv .1)
 
--- src/write.rt:33:1
 returns : tie.Need-returns Inv-loop μ-loop
 returns c =
     let l = c .before .loop in

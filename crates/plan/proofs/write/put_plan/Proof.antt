@@ -12,34 +12,27 @@ use Rattle.plan.proofs.write.put_plan.Lts as lts
 use Rattle.plan.proofs.write.put_counted.Reads as put-counted-reads
 use Rattle.plan.proofs.write.put_number.Reads as put-number-reads
 
--- src/write.rt:62:9
 put-number-requires : tie.Need-put-number-requires
 put-number-requires c κs = omega (arith, number-short 4 (c .before .before .before .before .args .frame) (omega arith))
 
--- src/write.rt:63:33
 cast-put-counted : tie.Need-cast-put-counted
 cast-put-counted c = search needs
 
--- src/write.rt:63:9
 put-counted-requires : tie.Need-put-counted-requires
 put-counted-requires c κs = let p = c .before .before .before .put-number .ensures in omega (arith, p .end, put-length p, number-short 4 (c .before .before .before .before .before .before .before .before .args .frame) (omega arith))
 
--- src/write.rt:64:25
 cast-put-counted-2 : tie.Need-cast-put-counted-2
 cast-put-counted-2 c = search needs
 
--- src/write.rt:64:5
 put-counted-requires-2 : tie.Need-put-counted-requires-2
 put-counted-requires-2 c κs =
     let p = c .before .before .before .before .before .before .before .put-number .ensures in
     let q = c .before .before .before .put-counted .ensures in
     omega (arith, p .end, put-length p, q .1, put-length (q .0), number-short 4 (c .before .before .before .before .before .before .before .before .before .before .before .before .args .frame) (omega arith))
 
--- src/write.rt:57:1
 same-length : tie.Need-same-length
 same-length c = search needs
 
--- src/write.rt:57:1
 returns : tie.Need-returns
 unfolding planBytes
 returns c =

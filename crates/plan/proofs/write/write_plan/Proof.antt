@@ -30,58 +30,45 @@ checked c = rw (sym (c .before .before .check-window-list .ensures), sym (c .bef
 fine-at : (c : tie.After-enum-told) → listsFault (planAt (c .before .before)) ≡ fine
 fine-at c = sym (checked (c .before .before)) ∙ ap faultOf (c .enum-told .given .1)
 
--- src/write.rt:72:9
 check-window-list-requires : tie.Need-check-window-list-requires
 check-window-list-requires c κs = search needs
 
--- src/write.rt:73:9
 check-task-list-requires : tie.Need-check-task-list-requires
 check-task-list-requires c κs = search needs
 
--- src/write.rt:74:11
 or-else-requires : tie.Need-or-else-requires
 or-else-requires c κs = search needs
 
--- src/write.rt:75:22
 enum-known-r : tie.Need-enum-known-r
 enum-known-r c = search needs
 
--- src/write.rt:77:17
 enum-told : tie.Need-enum-told
 enum-told c = search needs
 
--- src/write.rt:78:32
 slice-aggregate-put-plan : tie.Need-slice-aggregate-put-plan
 slice-aggregate-put-plan c = search needs
 
--- src/write.rt:78:17
 put-plan-requires : tie.Need-put-plan-requires
 put-plan-requires c κs = let h = lists-short (planAt (c .before .before .before)) (fine-at (c .before)) in (h .0, h .1, omega arith)
 
--- src/write.rt:79:21
 array-share-prefix-text : tie.Need-array-share-prefix-text
 array-share-prefix-text c = search needs
 
--- src/write.rt:79:21
 slice-aggregate-deliver : tie.Need-slice-aggregate-deliver
 slice-aggregate-deliver c = let p = c .before .before .put-plan .ensures in sym (length-take-le _ _ (omega (arith, put-length (p .0), p .1)))
 
--- src/write.rt:79:13
 deliver-requires : tie.Need-deliver-requires
 deliver-requires c κs = search needs
 
--- src/write.rt:68:1
 returns : tie.Need-returns
 unfolding writeAnswer writeOut
 returns c =
     let e = lists-bad (planAt (c .before .before .before)) (length (c .before .before .before .before .before .before .before .before .before .args .out .now)) (sym (checked (c .before .before .before)) ∙ ap faultOf (c .before .r .given .1)) in
     (refused-by _ _ e, kept-by _ _ _ e)
 
--- src/write.rt:68:1
 same-length : tie.Need-same-length
 same-length c = search needs
 
--- src/write.rt:68:1
 returns-2 : tie.Need-returns-2
 unfolding writeAnswer writeOut
 returns-2 c =

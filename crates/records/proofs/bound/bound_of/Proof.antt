@@ -3,19 +3,15 @@ use borrow.Author.Needs.{needs}
 use Rattle.records.proofs.bound.bound_of.Statement.{statement}
 use Rattle.records.proofs.bound.bound_of.Tie as tie
 
--- src/bound.rt:20:43
 array-share-prefix-numbers : tie.Need-array-share-prefix-numbers
 array-share-prefix-numbers c = let start = c .before .before in front-within (start .args .flat) _ (start .good .1 .1 .0) (start .pre)
 
--- src/bound.rt:20:43
 slice-aggregate-bound : tie.Need-slice-aggregate-bound
 slice-aggregate-bound c = let start = c .before .before .before in front-length (start .args .flat) _ (start .good .1 .1 .0) (start .pre)
 
--- src/bound.rt:20:5
 bound-requires : tie.Need-bound-requires
 bound-requires c κs = search needs
 
--- src/bound.rt:14:1
 returns : tie.Need-returns
 returns c = search needs
 

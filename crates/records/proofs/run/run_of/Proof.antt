@@ -3,23 +3,18 @@ use borrow.Author.Needs.{needs}
 use Rattle.records.proofs.run.run_of.Statement.{statement}
 use Rattle.records.proofs.run.run_of.Tie as tie
 
--- src/run.rt:29:39
 array-share-prefix-numbers : tie.Need-array-share-prefix-numbers
 array-share-prefix-numbers c = let start = c .before .before .before .before in front-within (start .args .flat) _ (start .good .1 .1 .0) (start .pre)
 
--- src/run.rt:29:39
 slice-aggregate-run : tie.Need-slice-aggregate-run
 slice-aggregate-run c = let start = c .before .before .before .before .before in front-length (start .args .flat) _ (start .good .1 .1 .0) (start .pre)
 
--- src/run.rt:29:5
 run-requires : tie.Need-run-requires
 run-requires c κs = search needs
 
--- src/run.rt:15:1
 same-length : tie.Need-same-length
 same-length c = search needs
 
--- src/run.rt:15:1
 returns : tie.Need-returns
 returns c = search needs
 

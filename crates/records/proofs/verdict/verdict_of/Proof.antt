@@ -3,19 +3,15 @@ use borrow.Author.Needs.{needs}
 use Rattle.records.proofs.verdict.verdict_of.Statement.{statement}
 use Rattle.records.proofs.verdict.verdict_of.Tie as tie
 
--- src/verdict.rt:20:47
 array-share-prefix-numbers : tie.Need-array-share-prefix-numbers
 array-share-prefix-numbers c = let start = c .before .before in front-within (start .args .flat) _ (start .good .1 .1 .0) (start .pre)
 
--- src/verdict.rt:20:47
 slice-aggregate-verdict : tie.Need-slice-aggregate-verdict
 slice-aggregate-verdict c = let start = c .before .before .before in front-length (start .args .flat) _ (start .good .1 .1 .0) (start .pre)
 
--- src/verdict.rt:20:5
 verdict-requires : tie.Need-verdict-requires
 verdict-requires c κs = search needs
 
--- src/verdict.rt:14:1
 returns : tie.Need-returns
 returns c = search needs
 

@@ -7,19 +7,15 @@ use Rattle.checker.proofs.answer.Checked.or_else.Tie as tie
 use Rattle.checker.proofs.answer.Checked.or_else.Reads as reads
 use Rattle.checker.proofs.answer.Checked.or_else.Lts as lts
 
--- src/answer.rt:30:30
 enum-told : tie.Need-enum-told
 enum-told c = search needs
 
--- src/answer.rt:31:26
 enum-known-self : tie.Need-enum-known-self
 enum-known-self c = search needs
 
--- src/answer.rt:26:5
 returns : tie.Need-returns
 returns c = search needs
 
--- src/answer.rt:26:5
 returns-2 : tie.Need-returns-2
 returns-2 c = sym (or-fault _ _ (ap faultOf (c .before .self .given .1)))
 

@@ -5,17 +5,14 @@ use Rattle.checker.proofs.board.Board.new.Tie as tie
 use Rattle.checker.proofs.board.Board.new.Reads as reads
 use Rattle.checker.proofs.board.Board.new.Lts as lts
 
--- src/board.rt:25:13
 returns : tie.Need-returns
 unfolding boardAnswer frameFault
 returns c = rw (eq-eqb _ _ (c .if1 .taken))
 
--- src/board.rt:28:13
 returns-2 : tie.Need-returns-2
 unfolding boardAnswer frameFault
 returns-2 c = rw (ne-eqb _ _ (c .before .if1 .left), lt-ltb _ _ (c .if2 .taken))
 
--- src/board.rt:21:5
 returns-3 : tie.Need-returns-3
 unfolding boardAnswer frameFault
 returns-3 c = rw (ne-eqb _ _ (c .before .if1 .left), le-ltb _ _ (c .if2 .left))

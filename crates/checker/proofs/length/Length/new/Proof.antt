@@ -5,12 +5,10 @@ use Rattle.checker.proofs.length.Length.new.Tie as tie
 use Rattle.checker.proofs.length.Length.new.Reads as reads
 use Rattle.checker.proofs.length.Length.new.Lts as lts
 
--- src/length.rt:25:13
 returns : tie.Need-returns
 unfolding lengthAnswer lengthFault
 returns c = rw (lt-ltb _ _ (c .if1 .taken))
 
--- src/length.rt:21:5
 returns-2 : tie.Need-returns-2
 unfolding lengthAnswer lengthFault
 returns-2 c = rw (le-ltb _ _ (c .if1 .left))

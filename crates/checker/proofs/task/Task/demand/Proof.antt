@@ -9,31 +9,24 @@ use Rattle.checker.proofs.task.Task.demand.Tie as tie
 use Rattle.checker.proofs.task.Task.demand.Reads as reads
 use Rattle.checker.proofs.task.Task.demand.Lts as lts
 
--- src/task.rt:66:13
 returns : tie.Need-returns
 returns c = demand-short (taskOf (c .before .args .self)) _ (c .if1 .taken)
 
--- src/task.rt:68:21
 div-jobs : tie.Need-div-jobs
 div-jobs c = c .before .pre
 
--- src/task.rt:68:20
 cast-jobs : tie.Need-cast-jobs
 cast-jobs c = let a = c .before .args in omega (arith, div-le-self (a .length - a .self .deadline) (a .self .period))
 
--- src/task.rt:68:20
 add-jobs : tie.Need-add-jobs
 add-jobs c = let a = c .before .args in omega (arith, div-le-self (a .length - a .self .deadline) (a .self .period))
 
--- src/task.rt:69:16
 cast-result : tie.Need-cast-result
 cast-result c = search needs
 
--- src/task.rt:69:9
 mul-result : tie.Need-mul-result
 mul-result c = let a = c .before .args in omega (arith, work-most (a .length - a .self .deadline) (a .self .period) (a .self .work) (omega arith) (omega arith))
 
--- src/task.rt:58:5
 returns-2 : tie.Need-returns-2
 returns-2 c = demand-long (taskOf (c .before .args .self)) _ (c .if1 .left)
 

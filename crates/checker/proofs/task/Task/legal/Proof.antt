@@ -12,15 +12,12 @@ use Rattle.checker.proofs.task.Task.legal.Reads as reads
 use Rattle.checker.proofs.task.Task.legal.Lts as lts
 use Rattle.checker.proofs.task.in_range.Reads as in-range-reads
 
--- src/task.rt:54:9
 in-range-requires : tie.Need-in-range-requires
 in-range-requires c κs = search needs
 
--- src/task.rt:54:32
 in-range-requires-2 : tie.Need-in-range-requires-2
 in-range-requires-2 c κs = search needs
 
--- src/task.rt:54:52
 in-range-requires-3 : tie.Need-in-range-requires-3
 in-range-requires-3 c κs = search needs
 
@@ -50,13 +47,11 @@ after-three c =
     (λ w. w .1 ∙ e ∙ and-no (two x) (taskNumber (x .deadline)) (sym e ∙ w .0 .left))
     (c .if2 .came)
 
--- src/task.rt:49:5
 returns : tie.Need-returns
 unfolding taskLegal
 returns c = let x = c .before .before .before .before .args .self in
     and-yes (all x) (leb (x .deadline) (x .period)) (sym (after-three (c .before)) ∙ c .if3 .taken)
 
--- src/task.rt:49:5
 returns-2 : tie.Need-returns-2
 unfolding taskLegal
 returns-2 c = let x = c .before .before .before .before .args .self in

@@ -7,15 +7,12 @@ use Rattle.checker.proofs.task.Task.new.Reads as reads
 use Rattle.checker.proofs.task.Task.new.Lts as lts
 use Rattle.checker.proofs.task.Task.legal.Reads as legal-reads
 
--- src/task.rt:42:12
 legal-requires : tie.Need-legal-requires
 legal-requires c κs = search needs
 
--- src/task.rt:43:13
 returns : tie.Need-returns
 returns c = task-taken _ (sym (c .before .legal .ensures) ∙ c .if1 .taken)
 
--- src/task.rt:34:5
 returns-2 : tie.Need-returns-2
 returns-2 c = task-refused _ (sym (c .before .legal .ensures) ∙ c .if1 .left)
 

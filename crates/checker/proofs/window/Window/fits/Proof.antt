@@ -4,11 +4,9 @@ use Rattle.checker.proofs.window.Window.fits.Tie as tie
 use Rattle.checker.proofs.window.Window.fits.Reads as reads
 use Rattle.checker.proofs.window.Window.fits.Lts as lts
 
--- src/window.rt:38:5
 returns : tie.Need-returns
 returns c = rw (lt-ltb _ _ (c .if1 .taken))
 
--- src/window.rt:38:5
 returns-2 : tie.Need-returns-2
 returns-2 c = rw (le-ltb _ _ (c .if1 .left))
 

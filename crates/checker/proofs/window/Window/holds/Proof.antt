@@ -5,12 +5,10 @@ use Rattle.checker.proofs.window.Window.holds.Tie as tie
 use Rattle.checker.proofs.window.Window.holds.Reads as reads
 use Rattle.checker.proofs.window.Window.holds.Lts as lts
 
--- src/window.rt:52:9
 returns : tie.Need-returns
 unfolding inWindow
 returns c = rw (le-leb _ _ (c .if1 .taken))
 
--- src/window.rt:46:5
 returns-2 : tie.Need-returns-2
 unfolding inWindow
 returns-2 c = rw (lt-leb _ _ (c .if1 .left))

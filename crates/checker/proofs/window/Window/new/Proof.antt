@@ -8,15 +8,12 @@ use Rattle.checker.proofs.window.Window.new.Reads as reads
 use Rattle.checker.proofs.window.Window.new.Lts as lts
 use Rattle.checker.proofs.window.Window.fits.Reads as fits-reads
 
--- src/window.rt:31:12
 fits-requires : tie.Need-fits-requires
 fits-requires c κs = search needs
 
--- src/window.rt:32:13
 returns : tie.Need-returns
 returns c = window-alone _ _ true (sym (c .before .fits2 .ensures) ∙ c .if1 .taken)
 
--- src/window.rt:27:5
 returns-2 : tie.Need-returns-2
 returns-2 c = window-alone _ _ false (sym (c .before .fits2 .ensures) ∙ c .if1 .left)
 

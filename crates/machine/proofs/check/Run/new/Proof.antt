@@ -4,11 +4,9 @@ use Rattle.machine.proofs.check.Run.new.Tie as tie
 use Rattle.machine.proofs.check.Run.new.Reads as reads
 use Rattle.machine.proofs.check.Run.new.Lts as lts
 
--- src/check.rt:39:13
 returns : tie.Need-returns
 returns c = ticks-refused _ (c .if1 .taken)
 
--- src/check.rt:35:5
 returns-2 : tie.Need-returns-2
 returns-2 c = ticks-taken _ (c .if1 .left)
 

@@ -5,7 +5,6 @@ use Rattle.machine.proofs.pending.Pending.count.Tie as tie
 use Rattle.machine.proofs.pending.Pending.count.Reads as reads
 use Rattle.machine.proofs.pending.Pending.count.Lts as lts
 
--- src/pending.rt:32:5
 returns : tie.Need-returns
 returns c = ones-members 32 _ (omega arith)
 

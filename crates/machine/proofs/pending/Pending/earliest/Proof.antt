@@ -20,7 +20,6 @@ Inv-loop due rest₀ best₀ rest best = (rest < 2 ^ 32) × Seen rest₀ due res
 abbrev μ-loop : tie.MeasureT-loop
 μ-loop due rest₀ best₀ rest best = members rest
 
--- src/pending.rt:45:9
 loop-holds : tie.Need-loop-holds Inv-loop μ-loop
 loop-holds c = (omega arith, seen-none _ _)
 
@@ -29,20 +28,16 @@ low : (c : tie.In-loop Inv-loop μ-loop) →
     (trailingZeros 32 (c .before .loop .rest) < mostTasks) × Lowest (c .before .loop .rest) (trailingZeros 32 (c .before .loop .rest))
 low c = trailing-lowest 32 _ (c .before .loop .inv .0) (pos-of-ne-zero (c .loop-test .taken))
 
--- src/pending.rt:47:13
 better-requires : tie.Need-better-requires Inv-loop μ-loop
 better-requires c κs = (c .before .before .before .pre, low c .0)
 
--- src/pending.rt:48:36
 shl-rest : tie.Need-shl-rest Inv-loop μ-loop
 shl-rest c = low (c .before) .0
 
--- src/pending.rt:45:9
 loop-less : tie.Need-loop-less Inv-loop μ-loop
 unfolding removed
 loop-less c = rw (one-shl _ (low (c .before) .0)) (seen-fewer _ _ (low (c .before) .1) (low (c .before) .0))
 
--- src/pending.rt:45:9
 loop-again : tie.Need-loop-again Inv-loop μ-loop
 unfolding removed
 loop-again c =
@@ -50,7 +45,6 @@ loop-again c =
     rw (one-shl _ (low (c .before) .0), c .better .ensures)
     (xor-lt 32 _ _ (l .inv .0) (lt-of-le-of-lt (and-le-l (l .rest) _) (l .inv .0)), seen-more _ _ _ _ _ (low (c .before) .1) (low (c .before) .0) (l .inv .1))
 
--- src/pending.rt:39:5
 returns : tie.Need-returns Inv-loop μ-loop
 returns c = seen-all _ _ _ _ (c .loop-test .left) (c .before .loop .inv .1)
 

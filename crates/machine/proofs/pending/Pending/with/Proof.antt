@@ -6,11 +6,9 @@ use Rattle.machine.proofs.pending.Pending.with.Tie as tie
 use Rattle.machine.proofs.pending.Pending.with.Reads as reads
 use Rattle.machine.proofs.pending.Pending.with.Lts as lts
 
--- src/pending.rt:17:32
 shl-t3 : tie.Need-shl-t3
 shl-t3 c = search needs
 
--- src/pending.rt:12:5
 returns : tie.Need-returns
 unfolding added
 returns c = rw (one-shl (c .before .args .i) (c .before .pre))

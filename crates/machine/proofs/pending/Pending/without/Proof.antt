@@ -6,11 +6,9 @@ use Rattle.machine.proofs.pending.Pending.without.Tie as tie
 use Rattle.machine.proofs.pending.Pending.without.Reads as reads
 use Rattle.machine.proofs.pending.Pending.without.Lts as lts
 
--- src/pending.rt:27:29
 shl-t4 : tie.Need-shl-t4
 shl-t4 c = search needs
 
--- src/pending.rt:21:5
 returns : tie.Need-returns
 unfolding removed
 returns c = rw (one-shl (c .args .i) (c .pre))

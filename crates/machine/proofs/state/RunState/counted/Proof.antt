@@ -10,11 +10,9 @@ use Rattle.machine.proofs.state.RunState.counted.Reads as reads
 use Rattle.machine.proofs.state.RunState.counted.Lts as lts
 use Rattle.machine.proofs.pending.Pending.count.Reads as count-reads
 
--- src/state.rt:55:13
 count-requires : tie.Need-count-requires
 count-requires c κs = search needs
 
--- src/state.rt:59:13
 returns : tie.Need-returns
 unfolding countedOf
 returns c =
@@ -22,7 +20,6 @@ returns c =
     let q : max (s .backlog) (members (s .pending)) ≡ c .before .before .count .result = omega (arith, c .before .before .count .ensures, c .if1 .taken) in
     rw q
 
--- src/state.rt:51:5
 returns-2 : tie.Need-returns-2
 unfolding countedOf
 returns-2 c =

@@ -5,39 +5,30 @@ use Rattle.machine.proofs.state.RunState.put.Reads as reads
 use Rattle.machine.proofs.state.RunState.put.Lts as lts
 use Rattle.machine.proofs.pending.Pending.with.Reads as with-reads
 
--- src/state.rt:42:21
 with-requires : tie.Need-with-requires
 with-requires c κs = search needs
 
--- src/state.rt:43:18
 add-s : tie.Need-add-s
 add-s c = search needs
 
--- src/state.rt:44:9
 mul-s : tie.Need-mul-s
 mul-s c = search needs
 
--- src/state.rt:44:9
 element-write-s : tie.Need-element-write-s
 element-write-s c = search needs
 
--- src/state.rt:45:9
 mul-s-2 : tie.Need-mul-s-2
 mul-s-2 c = search needs
 
--- src/state.rt:45:9
 element-write-s-2 : tie.Need-element-write-s-2
 element-write-s-2 c = search needs
 
--- src/state.rt:46:9
 mul-s-3 : tie.Need-mul-s-3
 mul-s-3 c = search needs
 
--- src/state.rt:46:9
 element-write-s-3 : tie.Need-element-write-s-3
 element-write-s-3 c = search needs
 
--- src/state.rt:35:5
 returns : tie.Need-returns
 returns c = rw (c .before .with .ensures)
 

@@ -10,47 +10,36 @@ use Rattle.machine.proofs.state.RunState.step.Reads as reads
 use Rattle.machine.proofs.state.RunState.step.Lts as lts
 use Rattle.machine.proofs.pending.Pending.without.Reads as without-reads
 
--- src/state.rt:80:13
 returns : tie.Need-returns
 returns c = step-none _ _ (c .if1 .taken)
 
--- src/state.rt:83:19
 mul-had : tie.Need-mul-had
 mul-had c = search needs
 
--- src/state.rt:83:19
 element-copy-out-had : tie.Need-element-copy-out-had
 element-copy-out-had c = search needs
 
--- src/state.rt:85:13
 returns-2 : tie.Need-returns-2
 returns-2 c = step-empty _ _ (c .before .before .if1 .left) (c .if2 .taken)
 
--- src/state.rt:87:17
 sub-w : tie.Need-sub-w
 sub-w c = search needs
 
--- src/state.rt:88:9
 mul-s : tie.Need-mul-s
 mul-s c = search needs
 
--- src/state.rt:88:9
 element-write-s : tie.Need-element-write-s
 element-write-s c = search needs
 
--- src/state.rt:91:25
 without-requires : tie.Need-without-requires
 without-requires c κs = search needs
 
--- src/state.rt:92:22
 mul-s-2 : tie.Need-mul-s-2
 mul-s-2 c = search needs
 
--- src/state.rt:92:22
 element-copy-out-s : tie.Need-element-copy-out-s
 element-copy-out-s c = search needs
 
--- src/state.rt:74:5
 returns-3 : tie.Need-returns-3
 returns-3 c =
     let a = c .before .before .before .before .before .before .args in
@@ -60,7 +49,6 @@ returns-3 c =
       eq-eqb (getD (a .t1 .left) (a .i) 0 - 1) 0 (c .before .before .if3 .taken),
     )
 
--- src/state.rt:74:5
 returns-4 : tie.Need-returns-4
 returns-4 c =
     let a = c .before .before .before .before .args in
