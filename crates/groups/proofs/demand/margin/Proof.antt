@@ -5,19 +5,19 @@ use Rattle.groups.proofs.RecordLaws.{lent-alike, lent-within}
 use Rattle.groups.proofs.demand.margin.Statement.{statement}
 use Rattle.groups.proofs.demand.margin.Tie as tie
 
--- src/demand.rt:42:31
+-- src/demand.rt:47:15
 gathered-requires : tie.Need-gathered-requires
 gathered-requires c κs = search needs
 
--- src/demand.rt:42:50
+-- src/demand.rt:47:34
 count-requires : tie.Need-count-requires
 count-requires c κs = search needs
 
--- src/demand.rt:42:5
+-- src/demand.rt:47:5
 margin-of-requires : tie.Need-margin-of-requires
 margin-of-requires c κs = lent-within _ _ (c .count .ensures)
 
--- src/demand.rt:39:1
+-- src/demand.rt:44:1
 returns : tie.Need-returns
 returns c =
     let lent = lent-alike _ _ _ (c .before .before .gathered .ensures) (c .before .count .ensures) in

@@ -15,35 +15,35 @@ Inv-loop numbers tasks₀ n i₀ tasks i = (i ≤ n) × (length tasks ≡ enough
 abbrev μ-loop : tie.MeasureT-loop
 μ-loop numbers tasks₀ n i₀ tasks i = n - i
 
--- src/gather.rt:42:9
+-- src/gather.rt:56:9
 made-requires : tie.Need-made-requires Inv-loop μ-loop
 made-requires c κs = search needs
 
--- src/gather.rt:44:5
+-- src/gather.rt:58:5
 loop-holds : tie.Need-loop-holds Inv-loop μ-loop
 loop-holds c = search needs
 
--- src/gather.rt:45:20
+-- src/gather.rt:59:20
 record-at-requires : tie.Need-record-at-requires Inv-loop μ-loop
 record-at-requires c κs = search needs
 
--- src/gather.rt:45:9
+-- src/gather.rt:59:9
 mul-tasks : tie.Need-mul-tasks Inv-loop μ-loop
 mul-tasks c = search needs
 
--- src/gather.rt:45:9
+-- src/gather.rt:59:9
 array-set-from-tasks : tie.Need-array-set-from-tasks Inv-loop μ-loop
 array-set-from-tasks c = search needs
 
--- src/gather.rt:46:9
+-- src/gather.rt:60:9
 add-i : tie.Need-add-i Inv-loop μ-loop
 add-i c = search needs
 
--- src/gather.rt:44:5
+-- src/gather.rt:58:5
 loop-less : tie.Need-loop-less Inv-loop μ-loop
 loop-less c = search needs
 
--- src/gather.rt:44:5
+-- src/gather.rt:58:5
 loop-again : tie.Need-loop-again Inv-loop μ-loop
 loop-again c =
     let start = c .before .before in
@@ -52,7 +52,7 @@ loop-again c =
     let less = c .before .loop-test .taken in
     (omega arith, search needs, record-more (start .before .before .before .args .numbers .now) (l .tasks) (l .i) (c .record-at .result) (omega arith) (omega (arith, l .inv .1)) (c .record-at .ensures) (l .inv .2))
 
--- src/gather.rt:34:1
+-- src/gather.rt:48:1
 returns : tie.Need-returns Inv-loop μ-loop
 returns c =
     let start = c .before in

@@ -5,23 +5,23 @@ use Rattle.groups.proofs.RecordLaws.{lent-alike, lent-within}
 use Rattle.groups.proofs.run.run.Statement.{statement}
 use Rattle.groups.proofs.run.run.Tie as tie
 
--- src/run.rt:47:9
+-- src/run.rt:44:9
 gathered-requires : tie.Need-gathered-requires
 gathered-requires c κs = search needs
 
--- src/run.rt:48:9
+-- src/run.rt:45:9
 count-requires : tie.Need-count-requires
 count-requires c κs = search needs
 
--- src/run.rt:44:5
+-- src/run.rt:43:5
 run-of-requires : tie.Need-run-of-requires
 run-of-requires c κs = lent-within _ _ (c .before .count .ensures)
 
--- src/run.rt:33:1
+-- src/run.rt:32:1
 same-length : tie.Need-same-length
 same-length c = search needs
 
--- src/run.rt:33:1
+-- src/run.rt:32:1
 returns : tie.Need-returns
 returns c =
     let ran = c .before .before in

@@ -5,19 +5,19 @@ use Rattle.groups.proofs.RecordLaws.{lent-alike, lent-within}
 use Rattle.groups.proofs.verdict.verdict.Statement.{statement}
 use Rattle.groups.proofs.verdict.verdict.Tie as tie
 
--- src/verdict.rt:26:32
+-- src/verdict.rt:25:16
 gathered-requires : tie.Need-gathered-requires
 gathered-requires c κs = search needs
 
--- src/verdict.rt:26:51
+-- src/verdict.rt:25:35
 count-requires : tie.Need-count-requires
 count-requires c κs = search needs
 
--- src/verdict.rt:26:5
+-- src/verdict.rt:25:5
 verdict-of-requires : tie.Need-verdict-of-requires
 verdict-of-requires c κs = lent-within _ _ (c .count .ensures)
 
--- src/verdict.rt:23:1
+-- src/verdict.rt:22:1
 returns : tie.Need-returns
 returns c =
     let lent = lent-alike _ _ _ (c .before .before .gathered .ensures) (c .before .count .ensures) in

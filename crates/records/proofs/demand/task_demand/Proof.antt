@@ -8,27 +8,27 @@ use borrow.Author.Needs.{needs}
 use Rattle.records.proofs.demand.task_demand.Statement.{statement}
 use Rattle.records.proofs.demand.task_demand.Tie as tie
 
--- src/demand.rt:30:9
+-- src/demand.rt:35:9
 returns : tie.Need-returns
 returns c = demand-short (let a = c .before .args in task (a .work) (a .period) (a .deadline)) _ (c .if1 .taken)
 
--- src/demand.rt:32:17
+-- src/demand.rt:37:17
 div-jobs : tie.Need-div-jobs
 div-jobs c = search needs
 
--- src/demand.rt:32:16
+-- src/demand.rt:37:16
 cast-jobs : tie.Need-cast-jobs
 cast-jobs c = let a = c .before .args in omega (arith, div-le-self (a .length - a .deadline) (a .period))
 
--- src/demand.rt:32:16
+-- src/demand.rt:37:16
 add-jobs : tie.Need-add-jobs
 add-jobs c = let a = c .before .args in omega (arith, div-le-self (a .length - a .deadline) (a .period))
 
--- src/demand.rt:33:5
+-- src/demand.rt:38:5
 mul-result : tie.Need-mul-result
 mul-result c = let a = c .before .args in omega (arith, work-most (a .length - a .deadline) (a .period) (a .work) (omega arith) (omega arith))
 
--- src/demand.rt:25:1
+-- src/demand.rt:30:1
 returns-2 : tie.Need-returns-2
 returns-2 c = demand-long (let a = c .before .args in task (a .work) (a .period) (a .deadline)) _ (c .if1 .left)
 
