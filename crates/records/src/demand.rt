@@ -81,7 +81,7 @@ fn finish(sum: Amount, length: u32) -> Amount
     }
 }
 
-// The demand of a group at a length. Refusals 4 (only over a group's most tasks) 5 7.
+// The demand of a group at a length. Refusals 4 (only of too many records) 5 7.
 pub fn demand(tasks: &[Task], length: u32) -> Amount
     ensures { λ r. ⌜ toldAmount r ≡ demandAnswer (numbersOf (now (tasks .entry))) length ⌝ }
 {
@@ -105,7 +105,7 @@ fn margin_of(board: Board, windows: &[u32], flat: Flat, length: u32) -> Margin
     checker::demand::margin(board, windows, &numbers[..n], length)
 }
 
-// Least supply minus demand at a length. Refusals 1 2 3 4 (only over a group's most tasks) 5 7.
+// Least supply minus demand at a length. Refusals 1 2 3 4 (only of too many records) 5 7.
 pub fn margin(board: Board, windows: &[u32], tasks: &[Task], length: u32) -> Margin
     ensures { λ r. ⌜ toldMargin r ≡ marginAnswer (boardOf board) (now (windows .entry)) (numbersOf (now (tasks .entry))) length ⌝ }
 {

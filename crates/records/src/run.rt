@@ -29,7 +29,7 @@ fn run_of(
     machine::run::run(board, windows, &numbers[..most], n, jobs, counts)
 }
 
-// Runs a job list of a group on a table for n ticks: the answer, and one count for each job in the lent buffer. Refusals 1 2 3 4 (only over a group's most tasks) 5 10 11 8.
+// Runs a job list of a group on a table for n ticks: the answer, and one count for each job in the lent buffer. Refusals 1 2 3 4 (only of too many records) 5 10 11 8.
 pub fn run(
     board: Board,
     windows: &[u32],
