@@ -1,4 +1,4 @@
--- The size of a negative number, as the code finds it without leaving its range
+-- The magnitude of a negative number, as the code finds it without leaving its range
 use mathlib.Core.Path.{_≡_, refl, ap, _∙_}
 use mathlib.Core.Bool.{true, false, true≢false}
 use Prim.Native.Nat.{ℕ, zero, suc, _+_, _-_, _^_, _<_}
@@ -24,13 +24,13 @@ one-fits : (k : ℕ) → k < 2 ^ 63 → SFits w64 (negsuc k +ℤ pos 1)
 one-fits zero h = record { sfits = omega arith }
 one-fits (suc j) h = rw (up-one j) (record { sfits = omega arith })
 
--- of a negative m: m + 1 and 0 − (m + 1) are in range, and the latter is one less than the size
+-- of a negative m: m + 1 and 0 − (m + 1) are in range, and the latter is one less than the magnitude
 pub record Steps (m : ℤ) : Type 0 where
   pub one : SFits w64 (m +ℤ pos 1)
   pub less : ℕ
   pub is : pos 0 -ℤ toZ w64 (ofZ w64 (m +ℤ pos 1)) ≡ pos less
   pub small : less < 2 ^ 63
-  pub size : less + 1 ≡ natAbs m
+  pub magnitude : less + 1 ≡ natAbs m
 
 pub steps : (m : ℤ) → SFits w64 m → ltZ m (pos 0) ≡ true → Steps m
 steps (pos n) f e = absurd (omega (arith, ltb-true n 0 e))
@@ -41,14 +41,14 @@ steps (negsuc k) f e =
       less = k;
       is = rw (toZ-ofZ w64 (negsuc k +ℤ pos 1) (one-fits k h)) (below k);
       small = h;
-      size = omega arith;
+      magnitude = omega arith;
     }
 
 -- 0 − (m + 1) as the code reads it
 pub read : (m : ℤ) (s : Steps m) → toZ w64 (ofZ w64 (pos 0 -ℤ toZ w64 (ofZ w64 (m +ℤ pos 1)))) ≡ pos (s .less)
 read m s = rw (s .is) (toZ-ofZ w64 (pos (s .less)) (record { sfits = s .small }))
 
--- a number that is not negative is its size
+-- a number that is not negative is its magnitude
 pub not-negative : (m : ℤ) → SFits w64 m → ltZ m (pos 0) ≡ false → T (nonNeg m) × (natAbs m < 2 ^ 63)
 not-negative (pos n) f e = (tt, f .sfits)
 not-negative (negsuc k) f e = absurd (true≢false e)

@@ -1,5 +1,5 @@
 -- Tasks as the code reads, tests and counts them
-use mathlib.Core.Path.{_≡_}
+use mathlib.Core.Path.{_≡_, refl, sym, _∙_}
 use mathlib.Core.Bool.{Bool, true, false, _&&_}
 use mathlib.Core.List.{List}
 use Prim.Native.Nat.{ℕ, _+_, _-_, _*_, _/_, _≤_, _<_}
@@ -38,6 +38,24 @@ task-taken x e = rw e
 pub task-refused : (x : Task) → taskLegal x ≡ false → refused 5 0 ≡ taskAnswer x
 unfolding taskAnswer badTask firstBy
 task-refused x e = rw e
+
+-- an answer is not both given and refused
+given-refused : {y : Task} {n p : ℕ} → given y ≡ refused n p → ⊥
+given-refused e = let z : _≡_ {A = ℕ} 0 1 = cc in omega arith
+
+pub taken-legal : (x y : Task) → given y ≡ taskAnswer x → true ≡ taskLegal x
+taken-legal x y e = go (taskLegal x) refl
+  where
+    go : (z : Bool) → taskLegal x ≡ z → true ≡ taskLegal x
+    go true l = sym l
+    go false l = absurd (given-refused (e ∙ sym (task-refused x l)))
+
+pub refused-illegal : (x : Task) (n p : ℕ) → refused n p ≡ taskAnswer x → false ≡ taskLegal x
+refused-illegal x n p e = go (taskLegal x) refl
+  where
+    go : (z : Bool) → taskLegal x ≡ z → false ≡ taskLegal x
+    go true l = absurd (given-refused (task-taken x l ∙ sym e))
+    go false l = sym l
 
 -- ---- the demand of a task
 

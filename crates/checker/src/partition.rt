@@ -150,7 +150,7 @@ fn larger(a: u32, b: u32) -> u32
     if a < b { b } else { a }
 }
 
-// A run of n unsupplied ticks, and a tick more.
+// An outage of n ticks so far, one tick later: a supplied tick ends it.
 fn outage_on(n: u32, on: bool) -> u32
     requires { ⌜ n < 4294967295 ⌝ }
     ensures { λ r. ⌜ r ≡ cond on 0 (n + 1) ⌝ }
@@ -164,13 +164,13 @@ fn outage_of(board: Board, windows: &[u32]) -> u32
     ensures { λ r. ⌜ r ≡ outageBy (suppliedBy (boardOf board) (now (windows .entry))) (board .frame) ⌝ }
 {
     let frame = board.frame;
-    let mut run = 0;
+    let mut lasting = 0;
     let mut most = 0;
     let mut k = 0;
     while k < frame {
         let on = is_supplied(board, windows, k);
-        run = outage_on(run, on);
-        most = larger(most, run);
+        lasting = outage_on(lasting, on);
+        most = larger(most, lasting);
         k += 1;
     }
     most

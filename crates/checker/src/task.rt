@@ -6,7 +6,7 @@ use crate::window::check_table;
 ghost use mathlib.Core.Path.{_≡_};
 ghost use Prim.Native.Nat.{_+_, _*_, _<_, _≤_};
 ghost use lib.ListN.{length};
-ghost use Rattle.scope.specs.Tasks.{tasksOf, taskAt, taskNumber, taskLegal, taskDemand};
+ghost use Rattle.scope.specs.Tasks.{task, tasksOf, taskAt, taskNumber, taskLegal, taskDemand};
 ghost use Rattle.scope.specs.Answers.{taskListFault, taskFault, tableFault, groupFault, taskAnswer, _orElse_};
 ghost use Rattle.checker.specs.Told.{boardOf, taskOf, faultOf, toldTask};
 
@@ -75,6 +75,16 @@ fn in_range(x: u32) -> bool
     1 <= x && x <= Task::LARGEST
 }
 
+// Whether three numbers are a task's.
+pub fn is_task(work: u32, period: u32, deadline: u32) -> bool
+    ensures { λ r. ⌜ r ≡ taskLegal (task work period deadline) ⌝ }
+{
+    match Task::new(work, period, deadline) {
+        MadeTask::Is(_) => true,
+        MadeTask::Refused(_) => false,
+    }
+}
+
 // Task i of a list of threes.
 pub(crate) fn task_at(tasks: &[u32], i: usize) -> Task
     requires { ⌜ 3 * i + 2 < length (now tasks) ⌝ }
@@ -108,7 +118,7 @@ fn check_each_task(tasks: &[u32]) -> Checked
     let mut i = 0;
     while i < count {
         let task = task_at(tasks, i);
-        if !task.legal() {
+        if !is_task(task.work, task.period, task.deadline) {
             let place = i as u64;
             return Checked::Bad(Refusal::Task(place));
         }

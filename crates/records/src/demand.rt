@@ -5,26 +5,17 @@ use checker::answer::Margin;
 use checker::answer::Refusal;
 use checker::board::Board;
 use checker::length::Length;
-use checker::task::MadeTask;
+use checker::length::MadeLength;
 use checker::task::Task;
+use checker::task::is_task;
 ghost use mathlib.Core.Path.{_≡_};
 ghost use Prim.Native.Nat.{_≤_};
 ghost use lib.ListN.{take};
-ghost use Rattle.scope.specs.Tasks.{task, taskLegal, taskDemand};
+ghost use Rattle.scope.specs.Tasks.{task, taskDemand};
 ghost use Rattle.scope.specs.Answers.{demandAnswer, marginAnswer};
 ghost use Rattle.checker.specs.Told.{boardOf, toldAmount, toldMargin};
 ghost use Rattle.records.specs.Numbers.{numbersOf, enoughNumbers};
 ghost use Rattle.records.specs.Sums.{beginOf, addOf, finishOf, Roomy};
-
-// Whether a task keeps its rule.
-fn legal(work: u32, period: u32, deadline: u32) -> bool
-    ensures { λ r. ⌜ r ≡ taskLegal (task work period deadline) ⌝ }
-{
-    match Task::new(work, period, deadline) {
-        MadeTask::Is(_) => true,
-        MadeTask::Refused(_) => false,
-    }
-}
 
 // The demand of one task at a length.
 fn task_demand(work: u32, period: u32, deadline: u32, length: u32) -> u64
@@ -56,7 +47,7 @@ fn add(sum: Amount, i: usize, work: u32, period: u32, deadline: u32, length: u32
     match sum {
         Amount::Refused(r) => Amount::Refused(r),
         Amount::Of(n) => {
-            if legal(work, period, deadline) {
+            if is_task(work, period, deadline) {
                 let more = task_demand(work, period, deadline, length);
                 return Amount::Of(n + more);
             }
@@ -72,12 +63,10 @@ fn finish(sum: Amount, length: u32) -> Amount
 {
     match sum {
         Amount::Refused(r) => Amount::Refused(r),
-        Amount::Of(n) => {
-            if Length::LONGEST < length {
-                return Amount::Refused(Refusal::Asked);
-            }
-            Amount::Of(n)
-        }
+        Amount::Of(n) => match Length::new(length) {
+            MadeLength::Is(_) => Amount::Of(n),
+            MadeLength::Refused(r) => Amount::Refused(r),
+        },
     }
 }
 

@@ -136,12 +136,13 @@ table =
     ∷ (outageOf 8 (3 ∷ 5 ∷ []) gives amounts (given 3 ∷ []))
     ∷ (outageOf 8 (0 ∷ 2 ∷ []) gives amounts (given 6 ∷ []))
     ∷ (outageOf 8 (0 ∷ 8 ∷ []) gives amounts (given 0 ∷ []))
-    -- the four errors: supply counted from tick 0 passes (2,8,3), starts at window ends miss the least start at length 4
+    -- of the four errors, W5 and W9 show two: here supply counted from tick 0 passes the first, and starts at window ends miss the second's least start
     ∷ (verdictOf 8 X (2 ∷ 8 ∷ 3 ∷ []) gives aVerdict (given (miss 3 2 2 0)))
     ∷ (verdictOf 8 X (2 ∷ 4 ∷ 4 ∷ []) gives aVerdict (given (miss 4 1 2 1)))
     -- a bound counts jobs by the period, not by the deadline
     ∷ (boundsOf 1 (0 ∷ 1 ∷ []) (1 ∷ 4 ∷ 1 ∷ 2 ∷ 8 ∷ 8 ∷ []) (1 ∷ []) gives bounds (given (bound 3) ∷ []))
-    -- ties go to the lower task, a missed run names instant and lowest job, and what is unfinished has count 0
+    -- ties go to the lower task of a group that meets, a missed run names instant and lowest job, and what is unfinished has count 0
+    ∷ (verdictOf 8 X (1 ∷ 8 ∷ 6 ∷ 1 ∷ 8 ∷ 6 ∷ []) gives aVerdict (given (meets 8)))
     ∷ (runOf 8 X (1 ∷ 8 ∷ 6 ∷ 1 ∷ 8 ∷ 6 ∷ []) 10 (1 ∷ 0 ∷ 1 ∷ 1 ∷ 1 ∷ 1 ∷ []) (9 ∷ 9 ∷ [])
     gives aRun (given (record { outcome = met; backlog = 2 })) (1 ∷ 5 ∷ []))
     ∷ (runOf 8 X (1 ∷ 4 ∷ 4 ∷ 2 ∷ 8 ∷ 6 ∷ []) 10 (2 ∷ 0 ∷ 1 ∷ 2 ∷ 1 ∷ 2 ∷ []) (9 ∷ 9 ∷ [])
@@ -156,6 +157,8 @@ table =
     ∷ (windowAlone 8 2 2 gives aWindow (refused 3 0))
     ∷ (taskAlone 1000000 1000000 1000000 gives aTask (given (task 1000000 1000000 1000000)))
     ∷ (taskAlone 1000001 8 8 gives aTask (refused 5 0))
+    ∷ (taskAlone 1 1000001 1 gives aTask (refused 5 0))
+    ∷ (taskAlone 0 4 4 gives aTask (refused 5 0))
     ∷ (taskAlone 1 4 5 gives aTask (refused 5 0))
     ∷ (askedLengths (0 ∷ 1000000 ∷ 1000001 ∷ []) gives amounts (given 0 ∷ given 1000000 ∷ refused 7 0 ∷ []))
     ∷ (runTicks (0 ∷ 1100000 ∷ 1100001 ∷ []) gives amounts (given 0 ∷ given 1100000 ∷ refused 10 0 ∷ []))
@@ -168,7 +171,16 @@ table =
     ∷ (cycleOf 1 (1 ∷ 1001 ∷ 1 ∷ 1 ∷ 999 ∷ 1 ∷ []) gives faults (fine ∷ []))
     ∷ (cycleOf 101 (1 ∷ 9901 ∷ 1 ∷ []) gives faults (fault 6 0 ∷ []))
     ∷ (demandsOf (1 ∷ 4 ∷ 3 ∷ []) (2 ∷ 3 ∷ 1000000 ∷ 1000001 ∷ []) gives amounts (given 0 ∷ given 1 ∷ given 250000 ∷ refused 7 0 ∷ []))
-    -- the order of refusals, and that a refusal writes nothing
+    -- the order of refusals, each row with a fault of the next number or numbers too
+    ∷ (verdictOf 0 [] [] gives aVerdict (refused 1 0))
+    ∷ (verdictOf 0 (2 ∷ 2 ∷ []) [] gives aVerdict (refused 2 0))
+    ∷ (verdictOf 8 (2 ∷ 2 ∷ []) (1 ∷ []) gives aVerdict (refused 3 0))
+    ∷ (verdictOf 8 X (0 ∷ 4 ∷ 4 ∷ 1 ∷ []) gives aVerdict (refused 4 0))
+    ∷ (verdictOf 8 X (1 ∷ 999999 ∷ 999999 ∷ 0 ∷ 1 ∷ 1 ∷ []) gives aVerdict (refused 5 1))
+    ∷ (marginOf 8 X (0 ∷ 4 ∷ 4 ∷ []) 1000001 gives aMargin (refused 5 0))
+    ∷ (runOf 8 X (0 ∷ 4 ∷ 4 ∷ []) 10 (1 ∷ []) [] gives aRun (refused 5 0) [])
+    ∷ (runOf 8 X (1 ∷ 4 ∷ 4 ∷ []) 1100001 (2 ∷ 5 ∷ 1 ∷ []) [] gives aRun (refused 10 0) [])
+    -- and that a refusal writes nothing
     ∷ (criticalWindows 8 X (9 ∷ 9 ∷ 9 ∷ []) gives windows (refused 8 4) (9 ∷ 9 ∷ 9 ∷ []))
     ∷ (criticalWindows 8 (0 ∷ 2 ∷ 2 ∷ 4 ∷ []) [] gives windows (refused 3 1) [])
     ∷ (runOf 8 X (1 ∷ 4 ∷ 4 ∷ []) 10 (2 ∷ 0 ∷ 1 ∷ []) [] gives aRun (refused 8 1) [])
@@ -177,13 +189,15 @@ table =
     ∷ (writtenPlan (record { frame = 8; windows = []; tasks = 1 ∷ [] }) (9 ∷ []) gives bytesIn (refused 1 0) (9 ∷ []))
     ∷ (writtenPlan (record { frame = 300; windows = 0 ∷ 2 ∷ []; tasks = [] }) (9 ∷ 9 ∷ 9 ∷ 9 ∷ 9 ∷ 9 ∷ 9 ∷ []) gives bytesIn (given 6) (172 ∷ 2 ∷ 1 ∷ 0 ∷ 2 ∷ 0 ∷ 9 ∷ []))
     ∷ (lineInto (8 ∷ 1 ∷ 0 ∷ 2 ∷ 0 ∷ []) (9 ∷ 9 ∷ []) gives bytesIn (refused 8 14) (9 ∷ 9 ∷ []))
-    -- the other lines; bytes left over, a number cut short, one in too many bytes, and the two early answers
+    -- the other lines; bytes left over, a number cut short, one in too many bytes, one missing, the greatest number and one more, and the two early answers
     ∷ (lineOf (8 ∷ 2 ∷ 0 ∷ 2 ∷ 5 ∷ 7 ∷ 0 ∷ []) gives text (bytes "MEETS cycle 8\n"))
     ∷ (lineOf (8 ∷ 2 ∷ 0 ∷ 2 ∷ 2 ∷ 4 ∷ 0 ∷ []) gives text (bytes "REFUSED 3 at 1\n"))
     ∷ (lineOf (8 ∷ 1 ∷ 0 ∷ 2 ∷ 0 ∷ 7 ∷ []) gives text (bytes "REFUSED 9 at 5\n"))
     ∷ (lineOf (8 ∷ 1 ∷ 0 ∷ 130 ∷ []) gives text (bytes "REFUSED 9 at 3\n"))
     ∷ (lineOf (8 ∷ 1 ∷ 0 ∷ 130 ∷ 0 ∷ []) gives text (bytes "REFUSED 9 at 3\n"))
     ∷ (lineOf (8 ∷ 1 ∷ []) gives text (bytes "REFUSED 9 at 2\n"))
+    ∷ (lineOf (255 ∷ 255 ∷ 255 ∷ 255 ∷ 15 ∷ 1 ∷ 0 ∷ 2 ∷ 0 ∷ []) gives text (bytes "REFUSED 2 at 0\n"))
+    ∷ (lineOf (128 ∷ 128 ∷ 128 ∷ 128 ∷ 16 ∷ 1 ∷ 0 ∷ 2 ∷ 0 ∷ []) gives text (bytes "REFUSED 9 at 0\n"))
     ∷ (lineOf (0 ∷ 65 ∷ []) gives text (bytes "REFUSED 1 at 0\n"))
     ∷ (lineOf (0 ∷ 1 ∷ 0 ∷ 2 ∷ 33 ∷ []) gives text (bytes "REFUSED 4 at 0\n"))
     ∷ []
@@ -196,7 +210,7 @@ Hold (e ∷ rows) = (reply (e .question) ≡ e .expected) × Hold rows
 pub examples : Hold table
 unfolding reply table sum least greatest all firstBy listed keep piecesFrom pieces badCount written supply leastSupply leastStart inWindow covers supplied windowLegal badWindow rises within edge maximalRuns critical lag delay taskLegal badTask taskDemand demand margin gcdWithin gcd lcm cycle violates verdict asked suffices response jobLegal badJob pending tick workLeft late outcome backlogIn backlog countOf ran counts windowListFault frameFault windowFault taskListFault taskFault cycleFault lengthFault absentFault roomFault jobListFault jobFault tableFault groupFault leastSupplyAnswer criticalFault criticalAnswer criticalOut delayAnswer outageAnswer demandAnswer marginAnswer verdictAnswer boundAnswer runFault runAnswer runOut groups wellFormed readNumber readNumbers windowCountFault taskCountFault restFault tasksFrom windowsFrom planOf planAnswer numberBytesWithin numberBytes numbersBytes planBytes writeFault writeAnswer writeOut decimalWithin decimal line lineAnswer lineOut boardAnswer windowAnswer taskAnswer lengthAnswer runTicksAnswer outageBefore outage
 examples =
-    (refl, (refl, (refl, (refl, (refl, (refl, (refl, (refl, (refl, (refl, (refl, (refl, (refl, (refl, (refl, (refl, (refl, (refl, (refl, (refl, (refl, (refl, (refl, (refl, (refl, (refl, (refl, (refl, (refl, (refl, (refl, (refl, (refl, (refl, (refl, (refl, (refl, (refl, (refl, (refl, (refl, (refl, (refl, (refl, (refl, (refl, (refl, (refl, (refl, (refl, (refl, (refl, (refl, (refl, (refl, (refl, (refl, (refl, (refl, (refl, tt))))))))))))))))))))))))))))))))))))))))))))))))))))))))))))
+    (refl, (refl, (refl, (refl, (refl, (refl, (refl, (refl, (refl, (refl, (refl, (refl, (refl, (refl, (refl, (refl, (refl, (refl, (refl, (refl, (refl, (refl, (refl, (refl, (refl, (refl, (refl, (refl, (refl, (refl, (refl, (refl, (refl, (refl, (refl, (refl, (refl, (refl, (refl, (refl, (refl, (refl, (refl, (refl, (refl, (refl, (refl, (refl, (refl, (refl, (refl, (refl, (refl, (refl, (refl, (refl, (refl, (refl, (refl, (refl, (refl, (refl, (refl, (refl, (refl, (refl, (refl, (refl, (refl, (refl, (refl, (refl, (refl, tt)))))))))))))))))))))))))))))))))))))))))))))))))))))))))))))))))))))))))
 
 -- row i of a table that holds, counted from 0
 abbrev pub RowHolds : List Example → ℕ → Type 0

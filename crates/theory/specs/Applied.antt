@@ -1,20 +1,19 @@
 -- The theorems at marked examples: their premises are the rows of the table of examples, so none of them is empty
 use mathlib.Core.Path.{_≡_, refl, ap, _∙_}
-use mathlib.Core.Bool.{Bool}
 use mathlib.Core.Option.{some}
 use mathlib.Core.List.{List, [], _∷_, _++_}
 use Prim.Native.Nat.{ℕ, zero, suc, _-_, _*_, _≤_, _<_}
 use native.Mathlib.Omega.{arith}
 use lib.Dec.{ltb}
 use lib.ListN.{length, getD, take, replicate, length-append}
-use Rattle.scope.specs.Numbers.{piecesFrom, pieces, badCount, greatest, lexically}
+use Rattle.scope.specs.Numbers.{firstBy, piecesFrom, pieces, badCount, greatest, lexically}
 use Rattle.scope.specs.Ticks.{supply, leastSupply}
 use Rattle.scope.specs.Windows.{inWindow, covers, supplied}
 use Rattle.scope.specs.Tasks.{tasksOf, demand}
 use Rattle.scope.specs.Verdict.{Verdict.meets, Verdict.miss}
 use Rattle.scope.specs.Bound.{Bound.bound, asked}
 use Rattle.scope.specs.Jobs.{jobsOf, taskOf, deadline}
-use Rattle.scope.specs.Machine.{edf, workLeft}
+use Rattle.scope.specs.Machine.{edf, pending, tick, workLeft}
 use Rattle.scope.specs.Limits.{mostWindows, mostTasks, mostNumber}
 use Rattle.scope.specs.Plan.{Plan, planOf, planAnswer, numberBytesWithin, numberBytes, numbersBytes, planBytes}
 use Rattle.scope.specs.Run.{Outcome.met, outcome, countOf, counts}
@@ -93,16 +92,42 @@ w13-in-time =
     let m = edf-meets (on 8) X w7 8 w7-meets 10 (jobsOf w13) legal in
     (m .0, m .1 1 (omega arith) (omega arith) .1)
 
--- and so has every run of it under earliest deadline first; here one whose ties go to the higher task
-highest : List ℕ → List ℕ → ℕ → ℕ → Bool
-highest ts js a b = lexically (deadline (tasksOf ts) (jobsOf js) a) (deadline (tasksOf ts) (jobsOf js) b) (ltb (taskOf (jobsOf js) b) (taskOf (jobsOf js) a))
+-- two tasks alike, released together: the machine gives the first tick to the lower, and counts 1 and 5
+abbrev tied : List ℕ
+tied = 1 ∷ 8 ∷ 6 ∷ 1 ∷ 8 ∷ 6 ∷ []
 
-w13-other-ties : countOf (workLeft (supplied (on 8) X) (highest w7 w13) (jobsOf w13)) (jobsOf w13) 10 1 ≤ 7
-unfolding piecesFrom pieces highest
-w13-other-ties =
-    let legal = run-given (on 8) X w7 10 w13 3 (record { outcome = met; backlog = 2 }) w13-runs .jobs in
-    let run = machine-under (supplied (on 8) X) (highest w7 w13) (jobsOf w13) (deadline (tasksOf w7) (jobsOf w13)) (by-lexically _ _) in
-    edf-every (on 8) X w7 8 w7-meets 10 (jobsOf w13) legal _ run 1 (omega arith) (omega arith) .2
+abbrev tied-jobs : List ℕ
+tied-jobs = 1 ∷ 0 ∷ 1 ∷ 1 ∷ 1 ∷ 1 ∷ []
+
+tied-meets : verdictAnswer (on 8) X tied ≡ given (meets 8)
+unfolding reply table
+tied-meets = let e : aVerdict (verdictAnswer (on 8) X tied) ≡ aVerdict (given (meets 8)) = row table examples 22 in cc
+
+tied-runs : runAnswer (on 8) X tied 10 tied-jobs 2 ≡ given (record { outcome = met; backlog = 2 })
+unfolding reply table
+tied-runs =
+    let e : aRun (runAnswer (on 8) X tied 10 tied-jobs 2) (runOut (on 8) X tied 10 tied-jobs (9 ∷ 9 ∷ []))
+    ≡ aRun (given (record { outcome = met; backlog = 2 })) (1 ∷ 5 ∷ []) =
+    row table examples 23 in
+    cc
+
+-- a run under earliest deadline first whose ties go to the higher task is another run: its first job has count 5. By the theorem that is at most 6
+other-ties : ℕ → List ℕ
+other-ties =
+    let ts = tasksOf tied in
+    let js = jobsOf tied-jobs in
+    workLeft (supplied (on 8) X) (λ a b. lexically (deadline ts js a) (deadline ts js b) (ltb (taskOf js b) (taskOf js a))) js
+
+other-ties-differ : countOf other-ties (jobsOf tied-jobs) 10 0 ≡ 5
+unfolding firstBy piecesFrom pieces inWindow covers supplied pending tick workLeft countOf other-ties
+other-ties-differ = refl
+
+other-ties-in-time : countOf other-ties (jobsOf tied-jobs) 10 0 ≤ 6
+unfolding piecesFrom pieces other-ties
+other-ties-in-time =
+    let legal = run-given (on 8) X tied 10 tied-jobs 2 (record { outcome = met; backlog = 2 }) tied-runs .jobs in
+    let run = machine-under (supplied (on 8) X) _ (jobsOf tied-jobs) (deadline (tasksOf tied) (jobsOf tied-jobs)) (by-lexically _ _) in
+    edf-every (on 8) X tied 8 tied-meets 10 (jobsOf tied-jobs) legal _ run 0 (omega arith) (omega arith) .2
 
 -- W6 misses: from start 2, no way serves both jobs of task 0 and task 1 that are due by instant 8
 w6-starved : (w : Way) → Served (supplied (on 8) X) (tasksOf w6) w 2 6 → ⊥
@@ -125,7 +150,7 @@ w4-served (suc i) m l d = absurd (omega arith)
 x-kept : criticalOut (on 8) X (9 ∷ 9 ∷ 9 ∷ []) ≡ 9 ∷ 9 ∷ 9 ∷ []
 unfolding reply table
 x-kept =
-    let e : windows (criticalAnswer (on 8) X 3) (criticalOut (on 8) X (9 ∷ 9 ∷ 9 ∷ [])) ≡ windows (refused 8 4) (9 ∷ 9 ∷ 9 ∷ []) = row table examples 44 in
+    let e : windows (criticalAnswer (on 8) X 3) (criticalOut (on 8) X (9 ∷ 9 ∷ 9 ∷ [])) ≡ windows (refused 8 4) (9 ∷ 9 ∷ 9 ∷ []) = row table examples 55 in
     let short : criticalAnswer (on 8) X 3 ≡ refused 8 4 = cc in
     critical-kept 8 4 (on 8) X (9 ∷ 9 ∷ 9 ∷ []) short
 

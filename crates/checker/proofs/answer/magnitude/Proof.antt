@@ -33,7 +33,7 @@ cast-result-2 : tie.Need-cast-result-2
 cast-result-2 c = let p = not-negative _ (c .before .fits .m) (rw (kept (c .before)) at (c .if1 .left)) in rw (kept (c .before)) (p .0, omega (arith, p .1))
 
 returns : tie.Need-returns
-returns c = rw (kept (c .before), read _ (negative c)) (negative c .size)
+returns c = rw (kept (c .before), read _ (negative c)) (negative c .magnitude)
 
 returns-2 : tie.Need-returns-2
 returns-2 c = ap natAbs (kept (c .before))

@@ -17,13 +17,13 @@ use Rattle.checker.proofs.partition.outage_on.Reads as outage-on-reads
 use Rattle.checker.proofs.supply.is_supplied.Reads as is-supplied-reads
 
 abbrev Inv-loop : tie.InvT-loop
-Inv-loop board windows frame run₀ most₀ k₀ run most k =
+Inv-loop board windows frame lasting₀ most₀ k₀ lasting most k =
     (k ≤ frame)
-    × (run ≡ outageBefore (supplied (boardOf board) windows) k)
+    × (lasting ≡ outageBefore (supplied (boardOf board) windows) k)
     × (most ≡ greatest (outageBefore (supplied (boardOf board) windows)) (k + 1))
 
 abbrev μ-loop : tie.MeasureT-loop
-μ-loop board windows frame run₀ most₀ k₀ run most k = frame - k
+μ-loop board windows frame lasting₀ most₀ k₀ lasting most k = frame - k
 
 loop-holds : tie.Need-loop-holds Inv-loop μ-loop
 loop-holds c = (omega arith, sym (outage-none _), sym (longest-none _))

@@ -11,7 +11,7 @@ use Rattle.checker.proofs.task.check_each_task.Statement.{statement}
 use Rattle.checker.proofs.task.check_each_task.Tie as tie
 use Rattle.checker.proofs.task.check_each_task.Reads as reads
 use Rattle.checker.proofs.task.check_each_task.Lts as lts
-use Rattle.checker.proofs.task.Task.legal.Reads as legal-reads
+use Rattle.checker.proofs.task.is_task.Reads as is-task-reads
 use Rattle.checker.proofs.task.task_at.Reads as task-at-reads
 
 abbrev Inv-loop : tie.InvT-loop
@@ -26,12 +26,12 @@ loop-holds c = (omega arith, refl, λ k l. absurd (omega arith))
 task-at-requires : tie.Need-task-at-requires Inv-loop μ-loop
 task-at-requires c κs = omega arith
 
-legal-requires : tie.Need-legal-requires Inv-loop μ-loop
-legal-requires c κs = search needs
+is-task-requires : tie.Need-is-task-requires Inv-loop μ-loop
+is-task-requires c κs = search needs
 
 -- the code's test of task i
-tested : (c : tie.After-legal Inv-loop μ-loop) → kept (c .before .before .before .before .before .args .tasks .now) (c .before .before .before .loop .i) ≡ not (not (c .legal .result))
-tested c = ap taskLegal (sym (c .before .task-at .ensures)) ∙ sym (c .legal .ensures) ∙ sym (Bool·not-not (c .legal .result))
+tested : (c : tie.After-is-task Inv-loop μ-loop) → kept (c .before .before .before .before .before .args .tasks .now) (c .before .before .before .loop .i) ≡ not (not (c .is-task .result))
+tested c = ap taskLegal (sym (c .before .task-at .ensures)) ∙ sym (c .is-task .ensures) ∙ sym (Bool·not-not (c .is-task .result))
 
 returns : tie.Need-returns Inv-loop μ-loop
 returns c = let l = c .before .before .before .before .loop in
@@ -58,7 +58,7 @@ check-each-task-spec =
     μ-loop
     loop-holds
     task-at-requires
-    legal-requires
+    is-task-requires
     returns
     add-i
     loop-less

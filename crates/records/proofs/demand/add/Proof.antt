@@ -16,11 +16,11 @@ enum-known-sum c = search needs
 enum-known-sum-2 : tie.Need-enum-known-sum-2
 enum-known-sum-2 c = search needs
 
-legal-requires : tie.Need-legal-requires
-legal-requires c κs = search needs
+is-task-requires : tie.Need-is-task-requires
+is-task-requires c κs = search needs
 
 task-demand-requires : tie.Need-task-demand-requires
-task-demand-requires c κs = task-rule _ (sym (c .before .legal .ensures) ∙ c .if1 .taken) .0 .period
+task-demand-requires c κs = task-rule _ (sym (c .before .is-task .ensures) ∙ c .if1 .taken) .0 .period
 
 add-t13 : tie.Need-add-t13
 add-t13 c = let a = c .before .before .before .before .before .before .args in
@@ -28,12 +28,12 @@ add-t13 c = let a = c .before .before .before .before .before .before .args in
       arith,
       subst (λ s. Roomy (toldAmount s)) (c .before .before .before .before .sum2 .given .1) (c .before .before .before .before .before .before .pre),
       c .task-demand .ensures,
-      task-most (task (a .work) (a .period) (a .deadline)) (a .length) (sym (c .before .before .legal .ensures) ∙ c .before .if1 .taken) (omega arith),
+      task-most (task (a .work) (a .period) (a .deadline)) (a .length) (sym (c .before .before .is-task .ensures) ∙ c .before .if1 .taken) (omega arith),
     )
 
 returns : tie.Need-returns
 unfolding addOf
-returns c = rw (c .before .before .before .before .sum2 .given .1, sym (c .before .before .legal .ensures) ∙ c .before .if1 .taken, c .task-demand .ensures)
+returns c = rw (c .before .before .before .before .sum2 .given .1, sym (c .before .before .is-task .ensures) ∙ c .before .if1 .taken, c .task-demand .ensures)
 
 returns-2 : tie.Need-returns-2
 unfolding addOf
@@ -41,7 +41,7 @@ returns-2 c = rw (c .before .sum .given .1)
 
 returns-3 : tie.Need-returns-3
 unfolding addOf
-returns-3 c = rw (c .before .before .before .sum2 .given .1, sym (c .before .legal .ensures) ∙ c .if1 .left)
+returns-3 c = rw (c .before .before .before .sum2 .given .1, sym (c .before .is-task .ensures) ∙ c .if1 .left)
 
 pub add-spec : {M : Type 1} → statement M
 add-spec =
@@ -49,7 +49,7 @@ add-spec =
     (tie.spec
     enum-known-sum
     enum-known-sum-2
-    legal-requires
+    is-task-requires
     task-demand-requires
     add-t13
     returns

@@ -1,9 +1,9 @@
 use mathlib.Core.Path.{sym, ap, _∙_}
 use Rattle.checker.specs.Told.{toldTask}
-use Rattle.records.proofs.TaskLaws.{taken-legal, refused-illegal}
+use Rattle.checker.proofs.TaskLaws.{taken-legal, refused-illegal}
 use borrow.Author.Needs.{needs}
-use Rattle.records.proofs.demand.legal.Statement.{statement}
-use Rattle.records.proofs.demand.legal.Tie as tie
+use Rattle.checker.proofs.task.is_task.Statement.{statement}
+use Rattle.checker.proofs.task.is_task.Tie as tie
 
 new-requires : tie.Need-new-requires
 new-requires c κs = search needs
@@ -20,5 +20,5 @@ returns c = taken-legal _ _ (sym (ap toldTask (c .enum-told .given .1)) ∙ c .b
 returns-2 : tie.Need-returns-2
 returns-2 c = refused-illegal _ _ _ (sym (ap toldTask (c .enum-told2 .given .1)) ∙ c .before .before .new .ensures)
 
-pub legal-spec : {M : Type 1} → statement M
-legal-spec = tie.close (tie.spec new-requires enum-told enum-told-2 returns returns-2)
+pub is-task-spec : {M : Type 1} → statement M
+is-task-spec = tie.close (tie.spec new-requires enum-told enum-told-2 returns returns-2)
