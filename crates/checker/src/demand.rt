@@ -1,7 +1,6 @@
 use crate::answer::Amount;
 use crate::answer::Checked;
 use crate::answer::Margin;
-use crate::answer::Refusal;
 use crate::board::Board;
 use crate::length::check_length;
 use crate::supply::least_of;

@@ -1,6 +1,5 @@
 use crate::answer::Amount;
 use crate::answer::Checked;
-use crate::answer::Refusal;
 use crate::answer::Supplied;
 use crate::board::Board;
 use crate::length::check_length;

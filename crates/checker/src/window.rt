@@ -4,7 +4,7 @@ use crate::board::Board;
 use crate::board::check_frame;
 use crate::list::bad_count;
 ghost use mathlib.Core.Path.{_≡_};
-ghost use Prim.Native.Nat.{_+_, _*_, _<_, _≤_};
+ghost use Prim.Native.Nat.{_+_, _*_, _<_};
 ghost use lib.ListN.{length};
 ghost use Rattle.scope.specs.Windows.{windowsOf, windowAt, windowFits, inWindow, windowLegal};
 ghost use Rattle.scope.specs.Answers.{windowListFault, windowFault, tableFault, windowAnswer};

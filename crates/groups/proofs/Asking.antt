@@ -1,5 +1,5 @@
 -- The functions that lend their array to an entry that is asked for a number more, a length or the index of a task: over the entry, its answer and what is said of it.
---     Right, R         what an entry answers, and what is said of it: of a board, the windows' numbers, the group's, and the number
+--     R, Right         what an entry answers, and what is said of it: of a board, the windows' numbers, the group's, and the number
 --     fnEnded, fnSaid          the contract of such a function; the entry's is `records`'
 --     meets            the function meets its contract, where the entry does
 -- Assumes `Given`.

@@ -1,4 +1,4 @@
--- The demands, of what `verdict` and `run` answer. Every premise is what the two promise, and whether they refused
+-- The demands, of what `verdict` and `run` answer. The premises are what the two promise, whether they refused, and of a run that it is legal
 use Prim.Native.Nat.{ℕ, _≤_, _<_}
 use mathlib.Core.Path.{_≡_, sym, ap, _∙_}
 use mathlib.Core.Logic.{_↔_}

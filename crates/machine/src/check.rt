@@ -18,7 +18,7 @@ ghost use Rattle.checker.specs.Told.{faultOf};
 ghost use Rattle.machine.specs.Relation.{Tasks, FreeTable};
 ghost use Rattle.machine.specs.Told.{toldRun};
 
-// What a run is limited to.
+// The ticks of a run.
 pub struct Run {
     pub ticks: u32,
 }

@@ -12,7 +12,7 @@ use checker::board::Board;
 use checker::supply::supplied;
 use checker::task::check_group;
 ghost use mathlib.Core.Path.{_≡_};
-ghost use Prim.Native.Nat.{_+_, _*_, _<_, _≤_};
+ghost use Prim.Native.Nat.{_<_, _≤_};
 ghost use lib.ListN.{length};
 ghost use Rattle.scope.specs.Numbers.{written};
 ghost use Rattle.scope.specs.Limits.{mostTicks, mostJobs};

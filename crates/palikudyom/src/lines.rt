@@ -95,7 +95,7 @@ pub(crate) fn margin(m: Margin) {
     newline();
 }
 
-// The line of a verdict, as `plan` makes it; it is never longer than its most. Whether it was written.
+// The line of a verdict, as `plan` makes it; it is never longer than `MOST`. Whether it was written.
 pub(crate) fn verdict(v: Verdict) -> bool {
     let mut text = [0u8; MOST];
     match line(v, &mut text) {

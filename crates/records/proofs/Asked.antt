@@ -1,5 +1,5 @@
 -- The entries that are asked for a number more, a length or the index of a task: over the function over numbers, its answer and what is said of it.
---     Right, R         what such an entry answers, and what is said of it: of a board, the windows' numbers, the group's, and the number
+--     R, Right         what such an entry answers, and what is said of it: of a board, the windows' numbers, the group's, and the number
 --     entryEnded, entrySaid, calleeEnded, calleeSaid       the contract of such an entry and of the function over numbers
 --     meets            the entry meets its contract, where the function over numbers does, and says alike of groups that are alike
 -- Assumes `Given`.

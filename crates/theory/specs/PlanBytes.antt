@@ -1,12 +1,12 @@
 -- A plan's bytes and the plan they read to: each determines the other
 use mathlib.Core.Path.{_≡_, ap, _∙_, subst}
 use mathlib.Core.List.{List, [], _∷_, _++_, append-assoc, append-nil}
-use Prim.Native.Nat.{ℕ, _+_, _*_, _/_, _%_, _≤_, _<_}
+use Prim.Native.Nat.{ℕ, _+_, _*_, _/_, _≤_, _<_}
 use native.Mathlib.Omega.{arith}
 use lib.ListN.{length, drop, length-append}
 use lib.Seq.{drop-length}
-use borrow.Author.Tests.{lt-ltb, le-ltb, eq-eqb, ne-eqb}
-use Rattle.scope.specs.Limits.{mostWindows, mostTasks, mostNumber}
+use borrow.Author.Tests.{lt-ltb, le-ltb}
+use Rattle.scope.specs.Limits.{mostNumber}
 use Rattle.scope.specs.Answers.{Fault.fine, Answer.given, Answer.refused, windowListFault, taskListFault}
 use Rattle.scope.specs.Plan.{Plan, restFault, planOf, numberBytes, numbersBytes, planBytes}
 use Rattle.theory.specs.Answers.{window-list-legal, window-list-fine, task-list-legal, task-list-fine}

@@ -1,4 +1,4 @@
--- How sharp the theorems are: each premise is needed and each bound is met. What a stronger statement would claim is refuted by an example
+-- How sharp the theorems are: five stronger claims, each refuted by an example
 use mathlib.Core.Path.{_≡_, refl}
 use mathlib.Core.Bool.{Bool, true}
 use mathlib.Core.Option.{none, some}
