@@ -5,8 +5,8 @@ use Prim.Native.Nat.{ℕ, zero, suc, _+_, _-_, _*_, _≤_, _<_}
 use native.Mathlib.Omega.{arith}
 use native.Mathlib.Nat.{add-zero, add-assoc}
 use native.Mathlib.Decide.{decLt}
-use lib.ListN.{length, getD, take, drop, length-append, length-drop, List·getD-append}
-use lib.Seq.{take-suc, take-length, take-at, split-at, drop-drop, drop-append-seam, getD-at}
+use lib.ListN.{length, getD, take, drop, length-append, List·getD-append}
+use lib.Seq.{take-suc, take-length, split-at, drop-drop, drop-append-seam, getD-at}
 use Rattle.scope.specs.Limits.{mostNumber}
 use Rattle.scope.specs.Plan.{Read, Read.read, Read.bad, andRead, readNumber, readNumbers, numberBytes, numbersBytes}
 use Rattle.theory.specs.Writing.{numbers-append, numbers-more}
@@ -70,16 +70,6 @@ module _ (bytes : List ℕ) (at : ℕ) where
       refl
       (λ n l mid v next e q. rw (q, number-ahead bytes mid v next e u, numbers-more l v, append-assoc))
 
-  -- the bytes that were read are those that are written
-  pub numbers-bytes : UpTo 255 bytes → at ≤ length bytes → (n : ℕ) (l : List ℕ) (next : ℕ) → readNumbers bytes n at ≡ read l next →
-      take (next - at) (drop at bytes) ≡ numbersBytes l
-  numbers-bytes u h n l next e =
-      let s = numbers-next n l next e in
-      let a = numbers-ahead u n l next e in
-      let z : length (numbersBytes l) ≡ next - at =
-      omega (arith, s .1, s .3 h, length-drop at bytes, length-drop next bytes, ap length a, length-append (numbersBytes l) (drop next bytes)) in
-      rw a (take-at (numbersBytes l) (drop next bytes) (next - at) z)
-
 -- ---- writing
 
 -- x stands at an offset, and then y: y stands past x
@@ -106,12 +96,6 @@ module _ (bytes rest l : List ℕ) (at : ℕ) (u : UpTo mostNumber l) (e : drop 
 
   pub written-numbers : readNumbers bytes (length l) at ≡ read l (at + length (numbersBytes l))
   written-numbers = rw (take-length l) at (written-prefix (length l) (omega arith))
-
-pub read-written-numbers : (front rest l : List ℕ) → UpTo mostNumber l →
-    readNumbers (front ++ numbersBytes l ++ rest) (length l) (length front) ≡ read l (length front + length (numbersBytes l))
-read-written-numbers front rest l u =
-    rw (append-assoc front (numbersBytes l) rest)
-    (written-numbers (front ++ (numbersBytes l ++ rest)) rest l (length front) u (drop-append-seam front (numbersBytes l ++ rest)))
 
 -- ---- the first k bytes
 

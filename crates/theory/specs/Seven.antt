@@ -3,14 +3,14 @@ use mathlib.Core.Path.{_≡_, refl, sym, ap, _∙_}
 use mathlib.Core.Bool.{Bool, true, false, cond}
 use mathlib.Core.Logic.{_≢_}
 use mathlib.Core.Option.{Option, none, some}
-use mathlib.Core.List.{List, _++_, append-assoc}
+use mathlib.Core.List.{List, _++_}
 use Prim.Native.Nat.{ℕ, zero, suc, _+_, _-_, _*_, _/_, _%_, _≤_, _<_}
 use native.Mathlib.Omega.{arith}
 use native.Mathlib.Nat.{le-trans}
 use native.Mathlib.Decide.{decLt, decLe}
 use lib.Dec.{leb}
 use lib.ListN.{length, getD, take, drop, length-append, length-drop, length-take, take-append-drop}
-use lib.Seq.{take-all, take-add, drop-at, drop-drop, drop-append-seam, getD-drop, length-take-le}
+use lib.Seq.{take-all, take-add, drop-at, drop-drop, getD-drop, length-take-le}
 use borrow.Author.Tests.{lt-leb}
 use Rattle.scope.specs.Numbers.{greatest}
 use Rattle.scope.specs.Limits.{mostNumber}
@@ -156,12 +156,6 @@ written-number bytes rest at n h e =
     let s = groups-size _ _ (w .is) in
     let l : at < length bytes = omega (arith, s .0, length-drop at bytes, ap length e, length-append (numberBytes n) rest) in
     rw (lt-leb (length bytes) at l, e, w .is, written-formed n rest h)
-
-pub read-written : (front rest : List ℕ) (n : ℕ) → n ≤ mostNumber →
-    readNumber (front ++ numberBytes n ++ rest) (length front) ≡ read n (length front + length (numberBytes n))
-read-written front rest n h =
-    rw (append-assoc front (numberBytes n) rest)
-    (written-number (front ++ (numberBytes n ++ rest)) rest (length front) n h (drop-append-seam front (numberBytes n ++ rest)))
 
 -- ---- the first k bytes
 
