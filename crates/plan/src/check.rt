@@ -18,7 +18,7 @@ ghost use Rattle.checker.specs.Told.{toldVerdict};
 ghost use Rattle.plan.specs.Parts.{judged};
 
 // The bytes of the longest plan: P has at most five, the two counts have one each, and each number of a window or a task has at most five.
-pub const LONGEST: usize = 5 * (1 + 2 * Window::MOST + 3 * Task::MOST) + 2;
+pub const LONGEST: usize = Number::MOST_GROUPS * (1 + 2 * Window::MOST + 3 * Task::MOST) + 2;
 
 // What a plan file is read to. It has one byte more than the longest plan, so that a longer file answers as what is read of it (theory/Plan,
 // `first-answer`).

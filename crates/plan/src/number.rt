@@ -18,7 +18,7 @@ impl Number {
     pub const LARGEST: u64 = 4294967295;
 
     // So many groups hold it.
-    const MOST_GROUPS: usize = 5;
+    pub(crate) const MOST_GROUPS: usize = 5;
 }
 
 // The number of these groups at an offset: not too large, and in the fewest bytes.
