@@ -1,8 +1,9 @@
 -- Faults as the code meets them: one check after the other, then the value
 use mathlib.Core.Path.{_≡_, refl, sym, ap, _∙_}
-use mathlib.Core.Bool.{Bool, true, false, not}
+use mathlib.Core.Bool.{Bool, true, false, not, cond}
 use mathlib.Core.List.{List}
 use Prim.Native.Nat.{ℕ, _<_}
+use native.Mathlib.Omega.{arith}
 use Rattle.scope.specs.Numbers.{first}
 use Rattle.scope.specs.Answers.{Fault, Fault.fine, Fault.fault, Answer.given, Answer.refused, faultIf, faultAt, _orElse_, unless, unlessKept}
 use Rattle.theory.specs.Numbers.{some-first, none-first}
@@ -43,6 +44,23 @@ given-by f a e = rw e
 
 pub written-by : (f : Fault) (new old : List ℕ) → f ≡ fine → new ≡ unlessKept f new old
 written-by f new old e = rw e
+
+-- ---- a constructor answers the value, or refuses it: which of the two says whether the value keeps its rule
+
+module _ {A : Type 0} (t : Bool) (a : A) (n p : ℕ) where
+  pub keeps : (v : A) → given v ≡ cond t (given a) (refused n p) → (t ≡ true) × (v ≡ a)
+  keeps v e = go t e
+    where
+      go : (x : Bool) → given v ≡ cond x (given a) (refused n p) → (x ≡ true) × (v ≡ a)
+      go true q = (refl, cc)
+      go false q = let z : _≡_ {A = ℕ} 0 1 = cc in absurd (omega arith)
+
+  pub breaks : (m q : ℕ) → refused m q ≡ cond t (given a) (refused n p) → t ≡ false
+  breaks m q e = go t e
+    where
+      go : (x : Bool) → refused m q ≡ cond x (given a) (refused n p) → x ≡ false
+      go true f = let z : _≡_ {A = ℕ} 0 1 = cc in absurd (omega arith)
+      go false f = refl
 
 -- ---- the lowest index at which a rule breaks
 

@@ -1,6 +1,6 @@
 -- Tasks as the code reads, tests and counts them
 use mathlib.Core.Path.{_≡_, refl, sym, _∙_}
-use mathlib.Core.Bool.{Bool, true, false, _&&_}
+use mathlib.Core.Bool.{Bool, true, false, cond, _&&_}
 use mathlib.Core.List.{List}
 use Prim.Native.Nat.{ℕ, _+_, _-_, _*_, _/_, _≤_, _<_}
 use native.Mathlib.Omega.{arith}
@@ -14,7 +14,7 @@ use Rattle.scope.specs.Answers.{Fault.fine, Fault.fault, Answer.given, Answer.r
 use Rattle.theory.specs.Lists.{pieces-length, over-count}
 use Rattle.theory.specs.Answers.{LegalGroup}
 use Rattle.theory.specs.Tasks.{TaskRule}
-use Rattle.checker.proofs.FaultLaws.{breaks-at, breaks-nowhere}
+use Rattle.checker.proofs.FaultLaws.{keeps, breaks, breaks-at, breaks-nowhere}
 
 -- ---- a && b as the code makes it: b where a holds, else a
 
@@ -31,31 +31,17 @@ read-rule ts i x ok l e = rw e (ok .rules i (omega (arith, pieces-length _ 3 tas
 
 -- ---- one task alone
 
-pub task-taken : (x : Task) → taskLegal x ≡ true → given x ≡ taskAnswer x
+pub task-alone : (x : Task) (t : Bool) → taskLegal x ≡ t → cond t (given x) (refused 5 0) ≡ taskAnswer x
 unfolding taskAnswer badTask firstBy
-task-taken x e = rw e
+task-alone x true e = rw e
+task-alone x false e = rw e
 
-pub task-refused : (x : Task) → taskLegal x ≡ false → refused 5 0 ≡ taskAnswer x
-unfolding taskAnswer badTask firstBy
-task-refused x e = rw e
-
--- an answer is not both given and refused
-given-refused : {y : Task} {n p : ℕ} → given y ≡ refused n p → ⊥
-given-refused e = let z : _≡_ {A = ℕ} 0 1 = cc in omega arith
-
+-- and back
 pub taken-legal : (x y : Task) → given y ≡ taskAnswer x → true ≡ taskLegal x
-taken-legal x y e = go (taskLegal x) refl
-  where
-    go : (z : Bool) → taskLegal x ≡ z → true ≡ taskLegal x
-    go true l = sym l
-    go false l = absurd (given-refused (e ∙ sym (task-refused x l)))
+taken-legal x y e = sym (keeps (taskLegal x) x 5 0 y (e ∙ sym (task-alone x (taskLegal x) refl)) .0)
 
 pub refused-illegal : (x : Task) (n p : ℕ) → refused n p ≡ taskAnswer x → false ≡ taskLegal x
-refused-illegal x n p e = go (taskLegal x) refl
-  where
-    go : (z : Bool) → taskLegal x ≡ z → false ≡ taskLegal x
-    go true l = absurd (given-refused (task-taken x l ∙ sym e))
-    go false l = sym l
+refused-illegal x n p e = sym (breaks (taskLegal x) x 5 0 n p (e ∙ sym (task-alone x (taskLegal x) refl)))
 
 -- ---- the demand of a task
 

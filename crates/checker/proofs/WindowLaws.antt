@@ -4,7 +4,6 @@ use mathlib.Core.Bool.{Bool, true, false, not, cond, _&&_, _||_}
 use mathlib.Core.Option.{none, some}
 use mathlib.Core.List.{List}
 use Prim.Native.Nat.{ℕ, _-_}
-use native.Mathlib.Omega.{arith}
 use lib.Dec.{ltb, eqb}
 use lib.ListN.{length}
 use borrow.Author.Tests.{eq-eqb, ne-eqb}
@@ -12,6 +11,7 @@ use Rattle.scope.specs.Numbers.{firstBy, badCount}
 use Rattle.scope.specs.Limits.{mostWindows}
 use Rattle.scope.specs.Windows.{Board, Window, windowAt, windowFits, windowLegal, badWindow}
 use Rattle.scope.specs.Answers.{Answer.given, Answer.refused, faultIf, faultAt, unless, windowListFault, windowAnswer}
+use Rattle.checker.proofs.FaultLaws.{keeps, breaks}
 
 -- the list: how its numbers are counted, and whether there are any
 pub list-by : (ws : List ℕ) (t u : Bool) → badCount 2 mostWindows ws ≡ t → eqb (length ws) 0 ≡ u → faultIf (t || u) 1 0 ≡ windowListFault ws
@@ -42,17 +42,9 @@ window-alone b w t e =
     go true = refl
     go false = refl
 
--- and back: what its constructor answers says whether it fits
+-- and back
 pub fitting : (b : Board) (w v : Window) → given v ≡ windowAnswer b w → (windowFits b w ≡ true) × (v ≡ w)
-fitting b w v e = go (windowFits b w) refl
-  where
-    go : (t : Bool) → windowFits b w ≡ t → (windowFits b w ≡ true) × (v ≡ w)
-    go true h = let q : given v ≡ given w = e ∙ sym (window-alone b w true h) in (h, cc)
-    go false h = let q : given v ≡ refused 3 0 = e ∙ sym (window-alone b w false h) in let z : _≡_ {A = ℕ} 0 1 = cc in absurd (omega arith)
+fitting b w v e = keeps (windowFits b w) w 3 0 v (e ∙ sym (window-alone b w (windowFits b w) refl))
 
 pub unfitting : (b : Board) (w : Window) (n p : ℕ) → refused n p ≡ windowAnswer b w → windowFits b w ≡ false
-unfitting b w n p e = go (windowFits b w) refl
-  where
-    go : (t : Bool) → windowFits b w ≡ t → windowFits b w ≡ false
-    go true h = let q : given w ≡ refused n p = window-alone b w true h ∙ sym e in let z : _≡_ {A = ℕ} 0 1 = cc in absurd (omega arith)
-    go false h = h
+unfitting b w n p e = breaks (windowFits b w) w 3 0 n p (e ∙ sym (window-alone b w (windowFits b w) refl))

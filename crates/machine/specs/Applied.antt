@@ -7,10 +7,12 @@ use lib.ListN.{getD}
 use Rattle.scope.specs.Numbers.{piecesFrom, pieces}
 use Rattle.scope.specs.Windows.{supplied}
 use Rattle.scope.specs.Tasks.{tasksOf}
+use Rattle.scope.specs.Jobs.{jobsOf, deadline}
+use Rattle.scope.specs.Run.{countOf}
 use Rattle.scope.specs.Answers.{_orElse_, tableFault, groupFault, jobListFault, jobFault, roomFault, verdictAnswer, runFault, runAnswer, runOut}
-use Rattle.scope.specs.Demands.{Way, Served}
+use Rattle.scope.specs.Demands.{Under, Way, Served}
 use Rattle.scope.specs.Examples.{X}
-use Rattle.theory.specs.Answers.{orElse-fine, unless-given}
+use Rattle.theory.specs.Answers.{orElse-fine, unless-given, run-given}
 use Rattle.theory.specs.Applied.{w6, w7, w13, w6-misses, w7-meets, w13-runs}
 use Rattle.checker.specs.declared.board.Board.{Board}
 use Rattle.checker.specs.declared.answer.Verdict.{Verdict}
@@ -20,7 +22,7 @@ use Rattle.checker.specs.Determined.{verdict-determined}
 use Rattle.machine.specs.declared.run.Ran.{Ran}
 use Rattle.machine.specs.declared.run.Ran.the-variants.{Met}
 use Rattle.machine.specs.Told.{toldRan}
-use Rattle.machine.specs.Demands.{meets-runs, miss-starves}
+use Rattle.machine.specs.Demands.{meets-runs, meets-every, miss-starves}
 
 abbrev board : Board
 board = record { frame = 8 }
@@ -40,6 +42,14 @@ met-in-time v p r left told kept =
     let legal = orElse-fine (groupFault w7) (jobListFault 10 w13 orElse jobFault w7 10 w13 orElse roomFault 2 3) after-table .1 in
     let m = meets-runs board X w7 v p 8 (let-in v p) 10 w13 (9 ∷ 9 ∷ 9 ∷ []) left r told kept legal in
     (m .0, m .1 1 (omega arith) (omega arith) .1)
+
+-- and so is every run of W13 under earliest deadline first, of which the machine's is one
+every-in-time : (v : Verdict) → toldVerdict v ≡ verdictAnswer (boardOf board) X w7 → (left : ℕ → List ℕ) →
+    Under (supplied (boardOf board) X) (jobsOf w13) (deadline (tasksOf w7) (jobsOf w13)) left → countOf left (jobsOf w13) 10 1 ≤ 7
+unfolding piecesFrom pieces
+every-in-time v p left run =
+    let legal = run-given (boardOf board) X w7 10 w13 3 _ w13-runs .jobs in
+    meets-every board X w7 v p 8 (let-in v p) 10 (jobsOf w13) legal left run 1 (omega arith) (omega arith) .2
 
 -- W6 is turned away, and no way serves its full jobs from start 2
 turned-away : (v : Verdict) → toldVerdict v ≡ verdictAnswer (boardOf board) X w6 → (w : Way) → Served (supplied (boardOf board) X) (tasksOf w6) w 2 6 → ⊥

@@ -15,11 +15,12 @@ use Rattle.scope.specs.Bound.{Bound.bound, asked}
 use Rattle.scope.specs.Jobs.{jobsOf, taskOf, deadline}
 use Rattle.scope.specs.Machine.{edf, pending, tick, workLeft}
 use Rattle.scope.specs.Limits.{mostWindows, mostTasks, mostNumber}
-use Rattle.scope.specs.Plan.{Plan, planOf, planAnswer, numberBytesWithin, numberBytes, numbersBytes, planBytes}
+use Rattle.scope.specs.Plan.{Plan, planOf, planAnswer, numberBytesWithin, numberBytes, numbersBytes, planBytes, writeAnswer, writeOut}
+use Rattle.scope.specs.Line.{lineAnswer, lineOut}
 use Rattle.scope.specs.Run.{Outcome.met, outcome, countOf, counts}
 use Rattle.scope.specs.Answers.{Answer.given, Answer.refused, windowListFault, taskListFault, verdictAnswer, boundAnswer, runAnswer, runOut, criticalAnswer, criticalOut}
 use Rattle.scope.specs.Demands.{LeastMiss, Way, givenTo, Served}
-use Rattle.scope.specs.Examples.{Reply.windows, Reply.aVerdict, Reply.bounds, Reply.aRun, X, on, reply, table, examples, row}
+use Rattle.scope.specs.Examples.{Reply.windows, Reply.bytesIn, Reply.aVerdict, Reply.bounds, Reply.aRun, X, on, reply, table, examples, row}
 use Rattle.theory.specs.Numbers.{by-lexically}
 use Rattle.theory.specs.Answers.{run-given}
 use Rattle.theory.specs.Exact.{exact-meets, exact-miss}
@@ -27,7 +28,7 @@ use Rattle.theory.specs.Bound.{exact-bound}
 use Rattle.theory.specs.Machine.{machine-under}
 use Rattle.theory.specs.Edf.{edf-meets, edf-every}
 use Rattle.theory.specs.Starved.{starved}
-use Rattle.theory.specs.Refused.{critical-kept}
+use Rattle.theory.specs.Refused.{critical-kept, run-kept, write-kept, line-kept}
 use Rattle.theory.specs.Writing.{number-one, number-more}
 use Rattle.theory.specs.Seven.{UpTo, up-to-greatest}
 use Rattle.theory.specs.Plan.{mostPlanBytes, first-answer, longest-plan}
@@ -153,6 +154,32 @@ x-kept =
     let e : windows (criticalAnswer (on 8) X 3) (criticalOut (on 8) X (9 ∷ 9 ∷ 9 ∷ [])) ≡ windows (refused 8 4) (9 ∷ 9 ∷ 9 ∷ []) = row table examples 55 in
     let short : criticalAnswer (on 8) X 3 ≡ refused 8 4 = cc in
     critical-kept 8 4 (on 8) X (9 ∷ 9 ∷ 9 ∷ []) short
+
+-- a job list that is not in threes, a plan without windows, and a line with no room
+run-kept-at : runOut (on 8) X (1 ∷ 4 ∷ 4 ∷ []) 10 (2 ∷ 0 ∷ []) (9 ∷ []) ≡ 9 ∷ []
+unfolding reply table
+run-kept-at =
+    let e : aRun (runAnswer (on 8) X (1 ∷ 4 ∷ 4 ∷ []) 10 (2 ∷ 0 ∷ []) 1) (runOut (on 8) X (1 ∷ 4 ∷ 4 ∷ []) 10 (2 ∷ 0 ∷ []) (9 ∷ [])) ≡ aRun (refused 10 0) (9 ∷ []) = row table examples 59 in
+    let bad : runAnswer (on 8) X (1 ∷ 4 ∷ 4 ∷ []) 10 (2 ∷ 0 ∷ []) 1 ≡ refused 10 0 = cc in
+    run-kept 10 0 (on 8) X (1 ∷ 4 ∷ 4 ∷ []) 10 (2 ∷ 0 ∷ []) (9 ∷ []) bad
+
+abbrev no-windows : Plan
+no-windows = record { frame = 8; windows = []; tasks = 1 ∷ [] }
+
+write-kept-at : writeOut no-windows (9 ∷ []) ≡ 9 ∷ []
+unfolding reply table
+write-kept-at =
+    let e : bytesIn (writeAnswer no-windows 1) (writeOut no-windows (9 ∷ [])) ≡ bytesIn (refused 1 0) (9 ∷ []) = row table examples 60 in
+    let bad : writeAnswer no-windows 1 ≡ refused 1 0 = cc in
+    write-kept 1 0 no-windows (9 ∷ []) bad
+
+line-kept-at : lineOut (planAnswer (8 ∷ 1 ∷ 0 ∷ 2 ∷ 0 ∷ [])) (9 ∷ 9 ∷ []) ≡ 9 ∷ 9 ∷ []
+unfolding reply table
+line-kept-at =
+    let a = planAnswer (8 ∷ 1 ∷ 0 ∷ 2 ∷ 0 ∷ []) in
+    let e : bytesIn (lineAnswer a 2) (lineOut a (9 ∷ 9 ∷ [])) ≡ bytesIn (refused 8 14) (9 ∷ 9 ∷ []) = row table examples 62 in
+    let short : lineAnswer a 2 ≡ refused 8 14 = cc in
+    line-kept 8 14 a (9 ∷ 9 ∷ []) short
 
 -- ---- the plan file
 

@@ -1,5 +1,6 @@
 use mathlib.Core.Path.{sym, _∙_}
-use Rattle.checker.proofs.TaskLaws.{task-taken, task-refused}
+use mathlib.Core.Bool.{true, false}
+use Rattle.checker.proofs.TaskLaws.{task-alone}
 use borrow.Author.Needs.{needs}
 use Rattle.checker.proofs.task.Task.new.Statement.{statement}
 use Rattle.checker.proofs.task.Task.new.Tie as tie
@@ -11,10 +12,10 @@ legal-requires : tie.Need-legal-requires
 legal-requires c κs = search needs
 
 returns : tie.Need-returns
-returns c = task-taken _ (sym (c .before .legal .ensures) ∙ c .if1 .taken)
+returns c = task-alone _ true (sym (c .before .legal .ensures) ∙ c .if1 .taken)
 
 returns-2 : tie.Need-returns-2
-returns-2 c = task-refused _ (sym (c .before .legal .ensures) ∙ c .if1 .left)
+returns-2 c = task-alone _ false (sym (c .before .legal .ensures) ∙ c .if1 .left)
 
 pub new-spec : {M : Type 1} → statement M
 new-spec = tie.close (tie.spec legal-requires returns returns-2)
