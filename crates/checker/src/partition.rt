@@ -73,7 +73,7 @@ fn write_edges(board: Board, windows: &[u32], out: &mut [u32])
     }
 }
 
-// A refusal, to which the buffer is lent in vain: it stays as it was.
+// A refusal leaves the lent buffer as it was.
 fn refuse(r: Refusal, out: &mut [u32]) -> Amount
     ensures answer { λ a. ⌜ toldAmount a ≡ no r ⌝ }
     ensures buffer { λ _. ⌜ now (out .exit) ≡ now (out .entry) ⌝ }

@@ -161,7 +161,7 @@ fn check_run(
     }
 }
 
-// A refusal, to which the buffer is lent in vain: it stays as it was.
+// A refusal leaves the lent buffer as it was.
 fn refuse(r: Refusal, counts: &mut [u32]) -> Ran
     ensures answer { λ a. ⌜ toldRan a ≡ no r ⌝ }
     ensures buffer { λ _. ⌜ now (counts .exit) ≡ now (counts .entry) ⌝ }

@@ -19,7 +19,7 @@ pub struct RunState {
 }
 
 impl RunState {
-    // What stands for no job, and for no task: the first number that is none's.
+    // What stands for no job, and for no task: the first number that none of them has.
     pub const NO_JOB: u32 = Run::JOBS as u32;
 
     pub const NO_TASK: u32 = Task::MOST as u32;
