@@ -12,7 +12,7 @@ use borrow.Author.Tests.{le-leb, lt-leb}
 use Rattle.scope.specs.Limits.{mostTasks, mostOfTask, mostLength}
 use Rattle.scope.specs.Numbers.{sum}
 use Rattle.scope.specs.Ticks.{leastSupply}
-use Rattle.scope.specs.Windows.{Board, supplied}
+use Rattle.scope.specs.Windows.{Board, suppliedBy}
 use Rattle.scope.specs.Tasks.{Task, task, tasksOf, taskAt}
 use Rattle.scope.specs.Bound.{Bound.bound, Bound.noBound, ceil, asked, suffices, orNoBound, response}
 use Rattle.scope.specs.Answers.{Fault.fine, Fault.fault, Answer.given, Answer.refused, _orElse_, tableFault, groupFault, absentFault, boundAnswer}
@@ -94,17 +94,17 @@ module _ (σ : ℕ → Bool) (P : ℕ) (ts : List Task) (i : ℕ) where
 module _ (b : Board) (ws ts : List ℕ) (i : ℕ) where
   pub bound-refused : {n p : ℕ} → (tableFault b ws orElse groupFault ts) ≡ fault n p → refused n p ≡ boundAnswer b ws ts i
   unfolding boundAnswer
-  bound-refused e = refused-first (tableFault b ws) (groupFault ts) (absentFault ts i) _ e
+  bound-refused e = refused-first (tableFault b ws) (groupFault ts) (absentFault (tasksOf ts) i) _ e
 
   module _ (e : (tableFault b ws orElse groupFault ts) ≡ fine) where
     pub bound-absent : length ts / 3 ≤ i → refused 7 0 ≡ boundAnswer b ws ts i
     unfolding boundAnswer absentFault
     bound-absent h =
-        refused-then (tableFault b ws) (groupFault ts) (absentFault ts i) _ e
+        refused-then (tableFault b ws) (groupFault ts) (absentFault (tasksOf ts) i) _ e
         (sym (if-true _ 7 0 (le-leb (length (tasksOf ts)) i (omega (arith, pieces-length _ 3 task ts)))))
 
-    pub bound-given : i < length ts / 3 → given (response (supplied b ws) (b .frame) (tasksOf ts) i) ≡ boundAnswer b ws ts i
+    pub bound-given : i < length ts / 3 → given (response (suppliedBy b ws) (b .frame) (tasksOf ts) i) ≡ boundAnswer b ws ts i
     unfolding boundAnswer absentFault
     bound-given h =
-        given-then (tableFault b ws) (groupFault ts) (absentFault ts i) _ e
+        given-then (tableFault b ws) (groupFault ts) (absentFault (tasksOf ts) i) _ e
         (sym (if-false _ 7 0 (lt-leb (length (tasksOf ts)) i (omega (arith, pieces-length _ 3 task ts)))))

@@ -17,7 +17,7 @@ use Rattle.scope.specs.Limits.{mostTasks, mostOfTask, mostLength}
 use Rattle.scope.specs.Numbers.{sum}
 use Rattle.scope.specs.Ticks.{leastSupply}
 use Rattle.scope.specs.Tasks.{Task, task, tasksOf, taskAt, taskDemand, demand, margin}
-use Rattle.scope.specs.Windows.{Board, supplied}
+use Rattle.scope.specs.Windows.{Board, suppliedBy}
 use Rattle.scope.specs.Answers.{Fault.fine, Fault.fault, Answer.given, Answer.refused, _orElse_, tableFault, groupFault, lengthFault, marginAnswer}
 use Rattle.theory.specs.Numbers.{sum-le, sum-same}
 use Rattle.theory.specs.Lists.{pieces-length}
@@ -122,6 +122,6 @@ module _ (b : Board) (ws ts : List ℕ) (t : ℕ) where
   margin-late e e′ = refused-then (tableFault b ws) (groupFault ts) (lengthFault t) _ e e′
 
   pub margin-given : (tableFault b ws orElse groupFault ts) ≡ fine → lengthFault t ≡ fine →
-      given (margin (supplied b ws) (b .frame) (tasksOf ts) t) ≡ marginAnswer b ws ts t
+      given (margin (suppliedBy b ws) (b .frame) (tasksOf ts) t) ≡ marginAnswer b ws ts t
   unfolding marginAnswer
   margin-given e e′ = given-then (tableFault b ws) (groupFault ts) (lengthFault t) _ e e′

@@ -12,7 +12,7 @@ use lib.ListN.{length, set, length-append}
 use borrow.Author.Tests.{lt-ltb, le-ltb}
 use Rattle.scope.specs.Numbers.{greatest, keep, written}
 use Rattle.scope.specs.Ticks.{leastSupply}
-use Rattle.scope.specs.Windows.{Board, supplied}
+use Rattle.scope.specs.Windows.{Board, suppliedBy}
 use Rattle.scope.specs.Partition.{rises, within, edge, maximalRuns, critical, outageBefore}
 use Rattle.scope.specs.Answers.{Fault.fine, Fault.fault, tableFault, roomFault, criticalOf, criticalFault}
 use Rattle.theory.specs.Numbers.{bool-cases}
@@ -96,7 +96,7 @@ module _ (q : ℕ → Bool) where
 
 -- the ticks of one frame at which the least supply rises
 abbrev pub risen : Board → List ℕ → ℕ → Bool
-risen b ws = within (rises (supplied b ws) (b .frame)) (b .frame)
+risen b ws = within (rises (suppliedBy b ws) (b .frame)) (b .frame)
 
 -- where it rises or stops to rise, among the ticks 0 to k − 1
 abbrev pub edges : Board → List ℕ → ℕ → List ℕ
@@ -109,9 +109,9 @@ edges-critical b ws = refl
 
 -- inside the frame the code's comparison of two least supplies tells it
 pub risen-in : (b : Board) (ws : List ℕ) (k : ℕ) → k < b .frame →
-    ltb (leastSupply (supplied b ws) (b .frame) k) (leastSupply (supplied b ws) (b .frame) (k + 1)) ≡ risen b ws k
+    ltb (leastSupply (suppliedBy b ws) (b .frame) k) (leastSupply (suppliedBy b ws) (b .frame) (k + 1)) ≡ risen b ws k
 unfolding rises
-risen-in b ws k h = sym (within-in (rises (supplied b ws) (b .frame)) (b .frame) k h)
+risen-in b ws k h = sym (within-in (rises (suppliedBy b ws) (b .frame)) (b .frame) k h)
 
 -- what its entry refuses: a table that has a fault, then a buffer that is too short
 module _ (b : Board) (ws : List ℕ) (room : ℕ) where

@@ -10,40 +10,36 @@ use lib.ListN.{length, drop, length-drop}
 use lib.Seq.{drop-cons}
 use Rattle.scope.specs.Numbers.{bit, least}
 use Rattle.scope.specs.Ticks.{Periodic, supply, perFrame, leastSupply}
-use Rattle.scope.specs.Windows.{Window, window, windowsOf, windowAt, inWindow, covers}
-use Rattle.theory.specs.Lists.{pieces-length}
+use Rattle.scope.specs.Windows.{Board, Window, window, windowAt, gives, covers}
 use Rattle.theory.specs.Ticks.{supply-slide, supply-le, least-over-all-starts, least-frames}
 
 -- ---- from window i on
 
--- tick k of a frame lies in window i or in one after it
-abbrev pub coversFrom : List ℕ → ℕ → ℕ → Bool
-coversFrom numbers i k = covers (drop i (windowsOf numbers)) k
+-- window i, or one after it, gives tick k of a frame
+abbrev pub coversFrom : Board → List Window → ℕ → ℕ → Bool
+coversFrom b ws i k = covers b (drop i ws) k
 
-module _ (numbers : List ℕ) (i k : ℕ) where
+module _ (b : Board) (ws : List Window) (i k : ℕ) where
   -- window i, and then the windows after it
-  covers-step : i < length numbers / 2 → coversFrom numbers i k ≡ (inWindow (windowAt (windowsOf numbers) i) k || coversFrom numbers (i + 1) k)
+  covers-step : i < length ws → coversFrom b ws i k ≡ (gives b (windowAt ws i) k || coversFrom b ws (i + 1) k)
   unfolding covers
-  covers-step h =
-      let l : i < length (windowsOf numbers) = omega (arith, pieces-length _ 2 window numbers) in
-      rw (add-one i, drop-cons (windowsOf numbers) i (window 0 0) l)
+  covers-step h = rw (add-one i, drop-cons ws i (window 0 0) h)
 
-  -- a window w, read at i, holds the tick or does not
-  pub covers-hit : {w : Window} → i < length numbers / 2 → w ≡ windowAt (windowsOf numbers) i → inWindow w k ≡ true → coversFrom numbers i k ≡ true
+  -- a window w, read at i, gives the tick or does not
+  pub covers-hit : {w : Window} → i < length ws → w ≡ windowAt ws i → gives b w k ≡ true → coversFrom b ws i k ≡ true
   covers-hit h r e = covers-step h ∙ rw (← r, e)
 
-  pub covers-skip : {w : Window} → i < length numbers / 2 → w ≡ windowAt (windowsOf numbers) i → inWindow w k ≡ false → coversFrom numbers i k ≡ coversFrom numbers (i + 1) k
+  pub covers-skip : {w : Window} → i < length ws → w ≡ windowAt ws i → gives b w k ≡ false → coversFrom b ws i k ≡ coversFrom b ws (i + 1) k
   covers-skip h r e = covers-step h ∙ rw (← r, e)
 
   -- past the last window
-  pub covers-end : length numbers / 2 ≤ i → coversFrom numbers i k ≡ false
+  pub covers-end : length ws ≤ i → coversFrom b ws i k ≡ false
   unfolding covers
-  covers-end h =
-      none (drop i (windowsOf numbers)) (length-drop i (windowsOf numbers) ∙ omega (arith, pieces-length _ 2 window numbers))
+  covers-end h = none (drop i ws) (length-drop i ws ∙ omega arith)
     where
-      none : (ws : List Window) → length ws ≡ 0 → covers ws k ≡ false
+      none : (rest : List Window) → length rest ≡ 0 → covers b rest k ≡ false
       none [] e = refl
-      none (w ∷ ws) e = absurd (omega arith)
+      none (w ∷ rest) e = absurd (omega arith)
 
 -- ---- tick by tick, and start by start
 

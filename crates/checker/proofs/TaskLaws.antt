@@ -32,7 +32,7 @@ read-rule ts i x ok l e = rw e (ok .rules i (omega (arith, pieces-length _ 3 tas
 -- ---- one task alone
 
 pub task-alone : (x : Task) (t : Bool) → taskLegal x ≡ t → cond t (given x) (refused 5 0) ≡ taskAnswer x
-unfolding taskAnswer badTask firstBy
+unfolding taskAnswer taskFault badTask firstBy
 task-alone x true e = rw e
 task-alone x false e = rw e
 
@@ -72,10 +72,10 @@ module _ (ts : List ℕ) where
   kept k = taskLegal (taskAt (tasksOf ts) k)
 
   -- the first that does not is at fault
-  pub task-bad : (i : ℕ) → i < length ts / 3 → ((k : ℕ) → k < i → kept k ≡ true) → kept i ≡ false → fault 5 i ≡ taskFault ts
+  pub task-bad : (i : ℕ) → i < length ts / 3 → ((k : ℕ) → k < i → kept k ≡ true) → kept i ≡ false → fault 5 i ≡ taskFault (tasksOf ts)
   unfolding taskFault badTask
   task-bad i l low e = breaks-at 5 kept (length (tasksOf ts)) i (omega (arith, pieces-length _ 3 task ts)) low e
 
-  pub tasks-fine : ((k : ℕ) → k < length ts / 3 → kept k ≡ true) → fine ≡ taskFault ts
+  pub tasks-fine : ((k : ℕ) → k < length ts / 3 → kept k ≡ true) → fine ≡ taskFault (tasksOf ts)
   unfolding taskFault badTask
   tasks-fine all = breaks-nowhere 5 kept (length (tasksOf ts)) (λ k l. all k (omega (arith, pieces-length _ 3 task ts)))

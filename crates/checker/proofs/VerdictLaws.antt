@@ -9,7 +9,7 @@ use borrow.Author.Count.{below-more}
 use borrow.Author.Tests.{ltb-false, lt-ltb, le-ltb}
 use lib.Dec.{ltb}
 use Rattle.scope.specs.Ticks.{Periodic, supply, leastSupply, leastStart}
-use Rattle.scope.specs.Windows.{Board, supplied}
+use Rattle.scope.specs.Windows.{Board, suppliedBy}
 use Rattle.scope.specs.Tasks.{Task, tasksOf, demand}
 use Rattle.scope.specs.Limits.{mostCycle}
 use Rattle.scope.specs.Cycle.{cycle}
@@ -72,7 +72,7 @@ module _ (σ : ℕ → Bool) (P : ℕ) (per : Periodic σ P) (ts : List Task) wh
 module _ (b : Board) (ws ts : List ℕ) where
   pub verdict-refused : {n p : ℕ} → (tableFault b ws orElse groupFault ts) ≡ fault n p → refused n p ≡ verdictAnswer b ws ts
   unfolding verdictAnswer
-  verdict-refused e = refused-first (tableFault b ws) (groupFault ts) (cycleFault b ts) _ e
+  verdict-refused e = refused-first (tableFault b ws) (groupFault ts) (cycleFault b (tasksOf ts)) _ e
 
   module _ (e : (tableFault b ws orElse groupFault ts) ≡ fine) where
     abbrev H : ℕ
@@ -80,8 +80,8 @@ module _ (b : Board) (ws ts : List ℕ) where
 
     pub verdict-over : mostCycle < H → refused 6 0 ≡ verdictAnswer b ws ts
     unfolding verdictAnswer cycleFault
-    verdict-over l = refused-then (tableFault b ws) (groupFault ts) (cycleFault b ts) _ e (sym (if-true _ 6 0 (lt-ltb mostCycle H l)))
+    verdict-over l = refused-then (tableFault b ws) (groupFault ts) (cycleFault b (tasksOf ts)) _ e (sym (if-true _ 6 0 (lt-ltb mostCycle H l)))
 
-    pub verdict-given : H ≤ mostCycle → given (verdict (supplied b ws) (b .frame) (tasksOf ts) H) ≡ verdictAnswer b ws ts
+    pub verdict-given : H ≤ mostCycle → given (verdict (suppliedBy b ws) (b .frame) (tasksOf ts) H) ≡ verdictAnswer b ws ts
     unfolding verdictAnswer cycleFault
-    verdict-given l = given-then (tableFault b ws) (groupFault ts) (cycleFault b ts) _ e (sym (if-false _ 6 0 (le-ltb mostCycle H l)))
+    verdict-given l = given-then (tableFault b ws) (groupFault ts) (cycleFault b (tasksOf ts)) _ e (sym (if-false _ 6 0 (le-ltb mostCycle H l)))

@@ -10,7 +10,7 @@ use borrow.Author.Tests.{eq-eqb, ne-eqb}
 use Rattle.scope.specs.Numbers.{firstBy, badCount}
 use Rattle.scope.specs.Limits.{mostWindows}
 use Rattle.scope.specs.Windows.{Board, Window, windowAt, windowFits, windowLegal, badWindow}
-use Rattle.scope.specs.Answers.{Answer.given, Answer.refused, faultIf, faultAt, unless, windowListFault, windowAnswer}
+use Rattle.scope.specs.Answers.{Answer.given, Answer.refused, faultIf, faultAt, unless, windowListFault, windowFault, windowAnswer}
 use Rattle.checker.proofs.FaultLaws.{keeps, breaks}
 
 -- the list: how its numbers are counted, and whether there are any
@@ -34,7 +34,7 @@ module _ (b : Board) (ws : List Window) (i : ℕ) where
 
 -- a window alone
 pub window-alone : (b : Board) (w : Window) (t : Bool) → windowFits b w ≡ t → cond t (given w) (refused 3 0) ≡ windowAnswer b w
-unfolding windowAnswer badWindow firstBy windowLegal
+unfolding windowAnswer windowFault badWindow firstBy windowLegal
 window-alone b w t e =
     sym (ap (λ (x : Bool). unless (faultAt 3 (cond (not (x && true)) (some 0) none)) w) e ∙ go t)
   where

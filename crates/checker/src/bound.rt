@@ -9,7 +9,7 @@ ghost use mathlib.Core.Path.{_≡_};
 ghost use Prim.Native.Nat.{_≤_, _<_, _/_};
 ghost use lib.ListN.{length as lengthOf};
 ghost use Rattle.scope.specs.Limits.{mostFrame, mostOfTask, mostLength};
-ghost use Rattle.scope.specs.Windows.{supplied as suppliedBy};
+ghost use Rattle.scope.specs.Windows.{suppliedBy};
 ghost use Rattle.scope.specs.Tasks.{tasksOf};
 ghost use Rattle.scope.specs.Bound.{ceil, asked, response};
 ghost use Rattle.scope.specs.Answers.{boundAnswer, Answer.given};

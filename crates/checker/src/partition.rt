@@ -14,7 +14,7 @@ ghost use lib.ListN.{length};
 ghost use Rattle.scope.specs.Limits.{mostFrame};
 ghost use Rattle.scope.specs.Numbers.{written};
 ghost use Rattle.scope.specs.Ticks.{perFrame};
-ghost use Rattle.scope.specs.Windows.{supplied as suppliedBy};
+ghost use Rattle.scope.specs.Windows.{suppliedBy};
 ghost use Rattle.scope.specs.Partition.{rises, within, lag, delay as delayBy, outage as outageBy};
 ghost use Rattle.scope.specs.Answers.{criticalOf, criticalAnswer, criticalOut, delayAnswer, outageAnswer};
 ghost use Rattle.checker.specs.Told.{boardOf, no, toldAmount, toldDelay};

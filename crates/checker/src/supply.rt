@@ -10,19 +10,19 @@ ghost use Prim.Native.Nat.{_+_, _<_, _≤_};
 ghost use Rattle.scope.specs.Limits.{mostFrame, mostLength};
 ghost use Rattle.scope.specs.Numbers.{bit};
 ghost use Rattle.scope.specs.Ticks.{supply, leastSupply};
-ghost use Rattle.scope.specs.Windows.{windowsOf, covers, supplied as suppliedBy};
+ghost use Rattle.scope.specs.Windows.{windowsOf, covers, suppliedBy};
 ghost use Rattle.scope.specs.Answers.{suppliedAnswer, leastSupplyAnswer};
 ghost use Rattle.checker.specs.Told.{boardOf, toldSupplied, toldAmount};
 
-// Whether tick k of a frame lies in one of the windows.
-fn covered(windows: &[u32], k: u32) -> bool
-    ensures { λ r. ⌜ r ≡ covers (windowsOf (now (windows .entry))) k ⌝ }
+// Whether one of the windows gives tick k of a frame.
+fn covered(board: Board, windows: &[u32], k: u32) -> bool
+    ensures { λ r. ⌜ r ≡ covers (boardOf board) (windowsOf (now (windows .entry))) k ⌝ }
 {
     let count = windows.len() / 2;
     let mut i = 0;
     while i < count {
         let window = window_at(windows, i);
-        if window.holds(k) {
+        if window.holds(board, k) {
             return true;
         }
         i += 1;
@@ -36,7 +36,7 @@ pub(crate) fn is_supplied(board: Board, windows: &[u32], k: u32) -> bool
     ensures { λ r. ⌜ r ≡ suppliedBy (boardOf board) (now (windows .entry)) k ⌝ }
 {
     let frame = board.frame;
-    covered(windows, k % frame)
+    covered(board, windows, k % frame)
 }
 
 // 1 for a supplied tick, 0 for another.

@@ -112,7 +112,7 @@ pub fn check_task_list(tasks: &[u32]) -> Checked
 
 // Refusal 5, at the lowest index.
 fn check_each_task(tasks: &[u32]) -> Checked
-    ensures { λ r. ⌜ faultOf r ≡ taskFault (now (tasks .entry)) ⌝ }
+    ensures { λ r. ⌜ faultOf r ≡ taskFault (tasksOf (now (tasks .entry))) ⌝ }
 {
     let count = tasks.len() / 3;
     let mut i = 0;

@@ -14,7 +14,7 @@ ghost use Prim.Native.Nat.{_≤_, _<_};
 ghost use lib.Dec.{ltb};
 ghost use Rattle.scope.specs.Limits.{mostFrame, mostCycle, mostLength};
 ghost use Rattle.scope.specs.Ticks.{leastSupply};
-ghost use Rattle.scope.specs.Windows.{supplied as suppliedBy};
+ghost use Rattle.scope.specs.Windows.{suppliedBy};
 ghost use Rattle.scope.specs.Tasks.{tasksOf};
 ghost use Rattle.scope.specs.Verdict.{verdict as verdictBy};
 ghost use Rattle.scope.specs.Answers.{verdictAnswer, Answer.given};

@@ -6,7 +6,7 @@ use crate::list::bad_count;
 ghost use mathlib.Core.Path.{_≡_};
 ghost use Prim.Native.Nat.{_+_, _*_, _<_};
 ghost use lib.ListN.{length};
-ghost use Rattle.scope.specs.Windows.{windowsOf, windowAt, windowFits, inWindow, windowLegal};
+ghost use Rattle.scope.specs.Windows.{windowsOf, windowAt, windowFits, gives, windowLegal};
 ghost use Rattle.scope.specs.Answers.{windowListFault, windowFault, tableFault, windowAnswer};
 ghost use Rattle.checker.specs.Told.{boardOf, windowOf, faultOf, toldWindow};
 
@@ -45,9 +45,9 @@ impl Window {
         start < end && end <= frame
     }
 
-    // Whether tick k of a frame lies in the window.
-    pub(crate) fn holds(self, k: u32) -> bool
-        ensures { λ r. ⌜ r ≡ inWindow (windowOf self) k ⌝ }
+    // Whether the window gives tick k of a frame.
+    pub(crate) fn holds(self, board: Board, k: u32) -> bool
+        ensures { λ r. ⌜ r ≡ gives (boardOf board) (windowOf self) k ⌝ }
     {
         let start = self.start;
         let end = self.end;
@@ -98,7 +98,7 @@ pub fn check_window_list(windows: &[u32]) -> Checked
 
 // Refusal 3, at the lowest index.
 fn check_windows(board: Board, windows: &[u32]) -> Checked
-    ensures { λ r. ⌜ faultOf r ≡ windowFault (boardOf board) (now (windows .entry)) ⌝ }
+    ensures { λ r. ⌜ faultOf r ≡ windowFault (boardOf board) (windowsOf (now (windows .entry))) ⌝ }
 {
     let count = windows.len() / 2;
     let mut i = 0;

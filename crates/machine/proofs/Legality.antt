@@ -195,11 +195,11 @@ module _ (tasks : List ℕ) (n : ℕ) (jobs : List ℕ) where
   abbrev pub kept : ℕ → Bool
   kept k = jobLegal (tasksOf tasks) n (jobsOf jobs) k
 
-  pub job-bad : (j : ℕ) → j < length (jobsOf jobs) → ((k : ℕ) → k < j → kept k ≡ true) → kept j ≡ false → fault 11 j ≡ jobFault tasks n jobs
+  pub job-bad : (j : ℕ) → j < length (jobsOf jobs) → ((k : ℕ) → k < j → kept k ≡ true) → kept j ≡ false → fault 11 j ≡ jobFault (tasksOf tasks) n (jobsOf jobs)
   unfolding jobFault badJob
   job-bad = breaks-at 11 kept (length (jobsOf jobs))
 
-  pub jobs-fine : ((k : ℕ) → k < length (jobsOf jobs) → kept k ≡ true) → fine ≡ jobFault tasks n jobs
+  pub jobs-fine : ((k : ℕ) → k < length (jobsOf jobs) → kept k ≡ true) → fine ≡ jobFault (tasksOf tasks) n (jobsOf jobs)
   unfolding jobFault badJob
   jobs-fine = breaks-nowhere 11 kept (length (jobsOf jobs))
 

@@ -8,7 +8,7 @@ use native.Mathlib.Omega.{arith}
 use lib.ListN.{length, getD}
 use borrow.Author.Tests.{le-ltb, eq-eqb, ne-eqb}
 use Rattle.scope.specs.Limits.{mostFrame, mostTasks, mostJobs}
-use Rattle.scope.specs.Windows.{Board, supplied}
+use Rattle.scope.specs.Windows.{Board, windowsOf, suppliedBy}
 use Rattle.scope.specs.Tasks.{Task, task, tasksOf, taskAt}
 use Rattle.scope.specs.Jobs.{Job, job, jobsOf, releaseOf, taskOf, workOf, deadline}
 use Rattle.scope.specs.Answers.{Fault.fine, Answer.given, Answer.refused, frameFault, windowFault, tableFault, suppliedAnswer}
@@ -99,7 +99,7 @@ module _ (b : Board) (ws : List ℕ) (ok : LegalTable b ws) where
       let some : b .frame ≢ 0 = λ e. omega (arith, ok .frame) in
       rw (ne-eqb (b .frame) 0 some, le-ltb mostFrame (b .frame) (ok .frame-most))
 
-  windows-fine : windowFault b ws ≡ fine
+  windows-fine : windowFault b (windowsOf ws) ≡ fine
   unfolding windowFault
   windows-fine = rw (ok .windows)
 
@@ -110,15 +110,15 @@ module _ (b : Board) (ws : List ℕ) (ok : LegalTable b ws) where
 
   -- so what is answered is whether the tick is supplied
   module _ (k : ℕ) where
-    answered : suppliedAnswer b ws k ≡ given (supplied b ws k)
+    answered : suppliedAnswer b ws k ≡ given (suppliedBy b ws k)
     unfolding suppliedAnswer
     answered = rw table-fine
 
-    pub answered-is : (on : Bool) → given on ≡ suppliedAnswer b ws k → on ≡ supplied b ws k
-    answered-is on e = let q : given on ≡ given (supplied b ws k) = e ∙ answered in cc
+    pub answered-is : (on : Bool) → given on ≡ suppliedAnswer b ws k → on ≡ suppliedBy b ws k
+    answered-is on e = let q : given on ≡ given (suppliedBy b ws k) = e ∙ answered in cc
 
     pub not-refused : (n p : ℕ) → refused n p ≡ suppliedAnswer b ws k → ⊥
     not-refused n p e =
-        let q : refused n p ≡ given (supplied b ws k) = e ∙ answered in
+        let q : refused n p ≡ given (suppliedBy b ws k) = e ∙ answered in
         let z : _≡_ {A = ℕ} 0 1 = cc in
         omega arith

@@ -6,7 +6,7 @@ use native.Mathlib.Omega.{arith}
 use lib.ListN.{length}
 use borrow.Author.Tests.{lt-ltb, le-ltb}
 use Rattle.scope.specs.Limits.{mostTicks}
-use Rattle.scope.specs.Windows.{Board, supplied}
+use Rattle.scope.specs.Windows.{Board, suppliedBy}
 use Rattle.scope.specs.Tasks.{tasksOf}
 use Rattle.scope.specs.Jobs.{jobsOf, job}
 use Rattle.scope.specs.Machine.{edf}
@@ -34,15 +34,15 @@ module _ (js : List ℕ) (room : ℕ) where
 
 module _ (b : Board) (ws ts : List ℕ) (n : ℕ) (js : List ℕ) (room : ℕ) where
   -- what the four checks found, in their order, is what the run's found
-  pub in-turn : (x y z w : Fault) → x ≡ (tableFault b ws orElse groupFault ts) → y ≡ jobListFault n js → z ≡ jobFault ts n js → w ≡ R js room →
+  pub in-turn : (x y z w : Fault) → x ≡ (tableFault b ws orElse groupFault ts) → y ≡ jobListFault n js → z ≡ jobFault (tasksOf ts) n (jobsOf js) → w ≡ R js room →
       (x orElse y orElse z orElse w) ≡ runFault b ws ts n js room
   unfolding runFault
-  in-turn x y z w ex ey ez ew = rw (ex, ey, ez, ew) (or-assoc (tableFault b ws) (groupFault ts) (jobListFault n js orElse jobFault ts n js orElse R js room))
+  in-turn x y z w ex ey ez ew = rw (ex, ey, ez, ew) (or-assoc (tableFault b ws) (groupFault ts) (jobListFault n js orElse jobFault (tasksOf ts) n (jobsOf js) orElse R js room))
 
   -- a run without a fault has all that it needs
   pub legal-run : runFault b ws ts n js room ≡ fine →
       LegalTable b ws × Tasks (tasksOf ts) × Jobs (tasksOf ts) (jobsOf js) × (n ≤ mostTicks) × (length (jobsOf js) ≤ room)
   unfolding runAnswer
   legal-run e =
-      let r = run-given b ws ts n js room _ (sym (given-by (runFault b ws ts n js room) (ran (supplied b ws) (edf (tasksOf ts) (jobsOf js)) (tasksOf ts) (jobsOf js) n) e)) in
+      let r = run-given b ws ts n js room _ (sym (given-by (runFault b ws ts n js room) (ran (suppliedBy b ws) (edf (tasksOf ts) (jobsOf js)) (tasksOf ts) (jobsOf js) n) e)) in
       (r .table, tasks-of ts (r .group), jobs-of (tasksOf ts) n (jobsOf js) (r .jobs) (r .ticks) (omega (arith, pieces-length _ 3 job js, r .few)), r .ticks, r .roomy)

@@ -5,7 +5,7 @@ use Prim.Native.Nat.{ℕ, _≤_}
 use native.Mathlib.Omega.{arith}
 use lib.ListN.{getD}
 use Rattle.scope.specs.Numbers.{piecesFrom, pieces}
-use Rattle.scope.specs.Windows.{supplied}
+use Rattle.scope.specs.Windows.{suppliedBy}
 use Rattle.scope.specs.Tasks.{tasksOf}
 use Rattle.scope.specs.Jobs.{jobsOf, deadline}
 use Rattle.scope.specs.Run.{countOf}
@@ -38,19 +38,19 @@ met-in-time : (v : Verdict) → toldVerdict v ≡ verdictAnswer (boardOf board) 
 unfolding piecesFrom pieces runAnswer runFault
 met-in-time v p r left told kept =
     let fine-run = unless-given (runFault (boardOf board) X w7 10 w13 3) _ _ w13-runs .0 in
-    let after-table = orElse-fine (tableFault (boardOf board) X) (groupFault w7 orElse jobListFault 10 w13 orElse jobFault w7 10 w13 orElse roomFault 2 3) fine-run .1 in
-    let legal = orElse-fine (groupFault w7) (jobListFault 10 w13 orElse jobFault w7 10 w13 orElse roomFault 2 3) after-table .1 in
+    let after-table = orElse-fine (tableFault (boardOf board) X) (groupFault w7 orElse jobListFault 10 w13 orElse jobFault (tasksOf w7) 10 (jobsOf w13) orElse roomFault 2 3) fine-run .1 in
+    let legal = orElse-fine (groupFault w7) (jobListFault 10 w13 orElse jobFault (tasksOf w7) 10 (jobsOf w13) orElse roomFault 2 3) after-table .1 in
     let m = meets-runs board X w7 v p 8 (let-in v p) 10 w13 (9 ∷ 9 ∷ 9 ∷ []) left r told kept legal in
     (m .0, m .1 1 (omega arith) (omega arith) .1)
 
 -- and so is every run of W13 under earliest deadline first, of which the machine's is one
 every-in-time : (v : Verdict) → toldVerdict v ≡ verdictAnswer (boardOf board) X w7 → (left : ℕ → List ℕ) →
-    Under (supplied (boardOf board) X) (jobsOf w13) (deadline (tasksOf w7) (jobsOf w13)) left → countOf left (jobsOf w13) 10 1 ≤ 7
+    Under (suppliedBy (boardOf board) X) (jobsOf w13) (deadline (tasksOf w7) (jobsOf w13)) left → countOf left (jobsOf w13) 10 1 ≤ 7
 unfolding piecesFrom pieces
 every-in-time v p left run =
     let legal = run-given (boardOf board) X w7 10 w13 3 _ w13-runs .jobs in
     meets-every board X w7 v p 8 (let-in v p) 10 (jobsOf w13) legal left run 1 (omega arith) (omega arith) .2
 
 -- W6 is turned away, and no way serves its full jobs from start 2
-turned-away : (v : Verdict) → toldVerdict v ≡ verdictAnswer (boardOf board) X w6 → (w : Way) → Served (supplied (boardOf board) X) (tasksOf w6) w 2 6 → ⊥
+turned-away : (v : Verdict) → toldVerdict v ≡ verdictAnswer (boardOf board) X w6 → (w : Way) → Served (suppliedBy (boardOf board) X) (tasksOf w6) w 2 6 → ⊥
 turned-away v p = miss-starves board X w6 v p 6 2 3 2 (verdict-determined v (Miss 6 2 3 2) (p ∙ w6-misses))

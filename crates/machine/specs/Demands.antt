@@ -6,7 +6,7 @@ use mathlib.Core.Option.{none}
 use mathlib.Core.List.{List}
 use lib.ListN.{length, getD}
 use Rattle.scope.specs.Ticks.{leastSupply}
-use Rattle.scope.specs.Windows.{supplied}
+use Rattle.scope.specs.Windows.{suppliedBy}
 use Rattle.scope.specs.Tasks.{tasksOf, taskAt, demand}
 use Rattle.scope.specs.Cycle.{cycle}
 use Rattle.scope.specs.Verdict as Verdicts
@@ -49,7 +49,7 @@ module _ (b : Board) (ws ts : List ℕ) (v : Verdict) (promised : toldVerdict v 
 
   -- (a) "meets" exactly when, at every length without limit, the demand is at most the least supply
   pub verdict-meets : (w : Verdicts.Verdict) → toldVerdict v ≡ given w → (h : ℕ) →
-      (v ≡ Meets h) ↔ ((h ≡ cycle (b .frame) (tasksOf ts)) × ((t : ℕ) → demand (tasksOf ts) t ≤ leastSupply (supplied (boardOf b) ws) (b .frame) t))
+      (v ≡ Meets h) ↔ ((h ≡ cycle (b .frame) (tasksOf ts)) × ((t : ℕ) → demand (tasksOf ts) t ≤ leastSupply (suppliedBy (boardOf b) ws) (b .frame) t))
   verdict-meets w e h = let x = exact-meets (boardOf b) ws ts w (answers w e) h in (
     λ m. x .0 (given-is (sym e ∙ ap toldVerdict m)),
     λ a. verdict-determined v (Meets h) (e ∙ ap given (x .1 a)),
@@ -57,7 +57,7 @@ module _ (b : Board) (ws ts : List ℕ) (v : Verdict) (promised : toldVerdict v 
 
   -- (b) a miss exactly when it shows the least length, the least start and both amounts
   pub verdict-miss : (w : Verdicts.Verdict) → toldVerdict v ≡ given w → (t s d p : ℕ) →
-      (v ≡ Miss t s d p) ↔ LeastMiss (supplied (boardOf b) ws) (b .frame) (tasksOf ts) t s d p
+      (v ≡ Miss t s d p) ↔ LeastMiss (suppliedBy (boardOf b) ws) (b .frame) (tasksOf ts) t s d p
   verdict-miss w e t s d p = let x = exact-miss (boardOf b) ws ts w (answers w e) t s d p in (
     λ m. x .0 (given-is (sym e ∙ ap toldVerdict m)),
     λ a. verdict-determined v (Miss t s d p) (e ∙ ap given (x .1 a)),
@@ -67,20 +67,20 @@ module _ (b : Board) (ws ts : List ℕ) (v : Verdict) (promised : toldVerdict v 
   pub meets-runs : (h : ℕ) → v ≡ Meets h →
       (n : ℕ) (js out left : List ℕ) (r : Ran) →
       toldRan r ≡ runAnswer (boardOf b) ws ts n js (length out) → left ≡ runOut (boardOf b) ws ts n js out →
-      (jobListFault n js orElse jobFault ts n js orElse roomFault (length (jobsOf js)) (length out)) ≡ fine →
+      (jobListFault n js orElse jobFault (tasksOf ts) n (jobsOf js) orElse roomFault (length (jobsOf js)) (length out)) ≡ fine →
       ((backlog : ℕ) × (r ≡ Met backlog))
       × ((j : ℕ) → j < length (jobsOf js) → deadline (tasksOf ts) (jobsOf js) j ≤ n →
       (1 ≤ getD left j 0) × (getD left j 0 ≤ (taskAt (tasksOf ts) (taskOf (jobsOf js) j)) .D))
   unfolding verdictAnswer jobFault runAnswer runFault runOut ran counts
   meets-runs h m n js out left r told kept legal =
       let a = answers (Verdicts.meets h) (ap toldVerdict m) in
-      let checked = unless-given (tableFault (boardOf b) ws orElse groupFault ts orElse cycleFault (boardOf b) ts) _ (Verdicts.meets h) a .0 in
-      let p = orElse-fine (tableFault (boardOf b) ws) (groupFault ts orElse cycleFault (boardOf b) ts) checked in
-      let q = orElse-fine (groupFault ts) (cycleFault (boardOf b) ts) (p .1) in
-      let σ = supplied (boardOf b) ws in
+      let checked = unless-given (tableFault (boardOf b) ws orElse groupFault ts orElse cycleFault (boardOf b) (tasksOf ts)) _ (Verdicts.meets h) a .0 in
+      let p = orElse-fine (tableFault (boardOf b) ws) (groupFault ts orElse cycleFault (boardOf b) (tasksOf ts)) checked in
+      let q = orElse-fine (groupFault ts) (cycleFault (boardOf b) (tasksOf ts)) (p .1) in
+      let σ = suppliedBy (boardOf b) ws in
       let before = edf (tasksOf ts) (jobsOf js) in
       let f : runFault (boardOf b) ws ts n js (length out) ≡ fine = rw (p .0, q .0, legal) in
-      let e = edf-meets (boardOf b) ws ts h a n (jobsOf js) (faultAt-fine 11 _ (orElse-fine (jobFault ts n js) _ (orElse-fine (jobListFault n js) _ legal .1) .0)) in (
+      let e = edf-meets (boardOf b) ws ts h a n (jobsOf js) (faultAt-fine 11 _ (orElse-fine (jobFault (tasksOf ts) n (jobsOf js)) _ (orElse-fine (jobListFault n js) _ legal .1) .0)) in (
         (backlog σ before (jobsOf js) n, ran-determined r (Met (backlog σ before (jobsOf js) n)) (told ∙ rw (f, e .0))),
         λ j l d. rw (kept, f, written-at (counts σ before (tasksOf ts) (jobsOf js) n) out j (rw (listed-length) l)) (e .1 j l d),
       )
@@ -88,7 +88,7 @@ module _ (b : Board) (ws ts : List ℕ) (v : Verdict) (promised : toldVerdict v 
   -- and so is every run under earliest deadline first, whichever of several earliest jobs it serves, of any length and of any legal job list
   pub meets-every : (h : ℕ) → v ≡ Meets h →
       (n : ℕ) (js : List Job) → badJob (tasksOf ts) n js ≡ none →
-      (left : ℕ → List ℕ) → Under (supplied (boardOf b) ws) js (deadline (tasksOf ts) js) left →
+      (left : ℕ → List ℕ) → Under (suppliedBy (boardOf b) ws) js (deadline (tasksOf ts) js) left →
       (j : ℕ) → j < length js → deadline (tasksOf ts) js j ≤ n →
       (getD (left (deadline (tasksOf ts) js j)) j 0 ≡ 0)
       × (1 ≤ countOf left js n j) × (countOf left js n j ≤ (taskAt (tasksOf ts) (taskOf js j)) .D)
@@ -96,5 +96,5 @@ module _ (b : Board) (ws ts : List ℕ) (v : Verdict) (promised : toldVerdict v 
 
   -- (d) after a miss, no way of giving out the supplied ticks serves all the full jobs that are due by the end of the length
   pub miss-starves : (t s d p : ℕ) → v ≡ Miss t s d p →
-      (w : Way) → Served (supplied (boardOf b) ws) (tasksOf ts) w s t → ⊥
+      (w : Way) → Served (suppliedBy (boardOf b) ws) (tasksOf ts) w s t → ⊥
   miss-starves t s d p m = starved (boardOf b) ws ts t s d p (answers (Verdicts.miss t s d p) (ap toldVerdict m))

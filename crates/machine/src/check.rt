@@ -110,7 +110,7 @@ fn job_legal(tasks: &[u32], n: u32, jobs: &[u32], j: usize, free: [u32; Task::MO
 // Refusal 11, at the lowest index.
 pub(crate) fn check_jobs(tasks: &[u32], n: u32, jobs: &[u32]) -> Checked
     requires { ⌜ Tasks (tasksOf (now tasks)) × (length (now jobs) ≤ 3 * mostJobs) × (n ≤ mostTicks) ⌝ }
-    ensures { λ r. ⌜ faultOf r ≡ jobFault (now (tasks .entry)) n (now (jobs .entry)) ⌝ }
+    ensures { λ r. ⌜ faultOf r ≡ jobFault (tasksOf (now (tasks .entry))) n (jobsOf (now (jobs .entry))) ⌝ }
 {
     let m = jobs.len() / 3;
     let mut free: [u32; Task::MOST] = [0; Task::MOST];

@@ -16,7 +16,7 @@ ghost use Prim.Native.Nat.{_<_, _≤_};
 ghost use lib.ListN.{length};
 ghost use Rattle.scope.specs.Numbers.{written};
 ghost use Rattle.scope.specs.Limits.{mostTicks, mostJobs};
-ghost use Rattle.scope.specs.Windows.{supplied as suppliedBy};
+ghost use Rattle.scope.specs.Windows.{suppliedBy};
 ghost use Rattle.scope.specs.Tasks.{tasksOf};
 ghost use Rattle.scope.specs.Jobs.{jobsOf};
 ghost use Rattle.scope.specs.Machine.{edf};

@@ -6,10 +6,10 @@ use native.Mathlib.Omega.{arith}
 use lib.ListN.{getD}
 use Rattle.scope.specs.Numbers.{piecesFrom, pieces, badCount, all, firstBy}
 use Rattle.scope.specs.Ticks.{leastSupply}
-use Rattle.scope.specs.Windows.{supplied}
+use Rattle.scope.specs.Windows.{suppliedBy}
 use Rattle.scope.specs.Tasks.{tasksOf, demand}
 use Rattle.scope.specs.Verdict as Verdicts
-use Rattle.scope.specs.Jobs.{jobLegal, badJob}
+use Rattle.scope.specs.Jobs.{jobsOf, jobLegal, badJob}
 use Rattle.scope.specs.Answers.{Answer.given, Fault.fine, _orElse_, jobListFault, jobFault, roomFault, runAnswer, runOut}
 use Rattle.scope.specs.Plan.{Plan, groups, wellFormed, readNumber, readNumbers, windowCountFault, taskCountFault, restFault, tasksFrom, windowsFrom, planOf, planAnswer}
 use Rattle.scope.specs.Demands.{LeastMiss, Way, Served}
@@ -34,7 +34,7 @@ w7-read : planOf w7-file ≡ given w7-plan
 unfolding groups wellFormed readNumber readNumbers windowCountFault taskCountFault restFault tasksFrom windowsFrom planOf
 w7-read = refl
 
-w13-legal : (jobListFault 10 w13 orElse jobFault w7 10 w13 orElse roomFault 2 3) ≡ fine
+w13-legal : (jobListFault 10 w13 orElse jobFault (tasksOf w7) 10 (jobsOf w13) orElse roomFault 2 3) ≡ fine
 unfolding piecesFrom pieces badCount all firstBy jobLegal badJob jobListFault jobFault roomFault
 w13-legal = refl
 
@@ -43,7 +43,7 @@ module _ (v : Verdict) (promised : toldVerdict v ≡ planAnswer w7-file) where
   let-in = verdict-determined v (Meets 8) (plan-verdict w7-file w7-plan w7-read v promised ∙ w7-meets)
 
   -- (a) at every length without limit
-  carried : (t : ℕ) → demand (tasksOf w7) t ≤ leastSupply (supplied (on 8) X) 8 t
+  carried : (t : ℕ) → demand (tasksOf w7) t ≤ leastSupply (suppliedBy (on 8) X) 8 t
   carried = plan-meets w7-file w7-plan w7-read v promised (Verdicts.meets 8) (ap toldVerdict let-in) 8 .0 let-in .1
 
   -- (c) W13's run is met, and its second job has a count of at most 7
@@ -60,9 +60,9 @@ module _ (v : Verdict) (promised : toldVerdict v ≡ planAnswer w6-file) where
   turned-away = verdict-determined v (Miss 6 2 3 2) (plan-verdict w6-file w6-plan w6-reads v promised ∙ w6-misses)
 
   -- (b) the least length, its least start and both amounts
-  shown : LeastMiss (supplied (on 8) X) 8 (tasksOf w6) 6 2 3 2
+  shown : LeastMiss (suppliedBy (on 8) X) 8 (tasksOf w6) 6 2 3 2
   shown = plan-miss w6-file w6-plan w6-reads v promised (Verdicts.miss 6 2 3 2) (ap toldVerdict turned-away) 6 2 3 2 .0 turned-away
 
   -- (d) no way serves its full jobs from start 2
-  unserved : (w : Way) → Served (supplied (on 8) X) (tasksOf w6) w 2 6 → ⊥
+  unserved : (w : Way) → Served (suppliedBy (on 8) X) (tasksOf w6) w 2 6 → ⊥
   unserved = plan-starves w6-file w6-plan w6-reads v promised 6 2 3 2 turned-away

@@ -6,7 +6,7 @@ use mathlib.Core.Option.{none}
 use mathlib.Core.List.{List}
 use lib.ListN.{length, getD}
 use Rattle.scope.specs.Ticks.{leastSupply}
-use Rattle.scope.specs.Windows.{supplied}
+use Rattle.scope.specs.Windows.{suppliedBy}
 use Rattle.scope.specs.Tasks.{tasksOf, taskAt, demand}
 use Rattle.scope.specs.Cycle.{cycle}
 use Rattle.scope.specs.Verdict as Verdicts
@@ -54,12 +54,12 @@ module _ (bytes : List ℕ) (p : Plan) (read : planOf bytes ≡ given p) (v : Ve
   -- (a)
   pub plan-meets : (w : Verdicts.Verdict) → toldVerdict v ≡ given w → (h : ℕ) →
       (v ≡ Meets h) ↔ ((h ≡ cycle (p .frame) (tasksOf (p .tasks)))
-      × ((t : ℕ) → demand (tasksOf (p .tasks)) t ≤ leastSupply (supplied (boardOf (planBoard p)) (p .windows)) (p .frame) t))
+      × ((t : ℕ) → demand (tasksOf (p .tasks)) t ≤ leastSupply (suppliedBy (boardOf (planBoard p)) (p .windows)) (p .frame) t))
   plan-meets = verdict-meets (planBoard p) (p .windows) (p .tasks) v plan-verdict
 
   -- (b)
   pub plan-miss : (w : Verdicts.Verdict) → toldVerdict v ≡ given w → (t s d u : ℕ) →
-      (v ≡ Miss t s d u) ↔ LeastMiss (supplied (boardOf (planBoard p)) (p .windows)) (p .frame) (tasksOf (p .tasks)) t s d u
+      (v ≡ Miss t s d u) ↔ LeastMiss (suppliedBy (boardOf (planBoard p)) (p .windows)) (p .frame) (tasksOf (p .tasks)) t s d u
   plan-miss = verdict-miss (planBoard p) (p .windows) (p .tasks) v plan-verdict
 
   -- (c)
@@ -67,7 +67,7 @@ module _ (bytes : List ℕ) (p : Plan) (read : planOf bytes ≡ given p) (v : Ve
       (n : ℕ) (js out left : List ℕ) (r : Ran) →
       toldRan r ≡ runAnswer (boardOf (planBoard p)) (p .windows) (p .tasks) n js (length out) →
       left ≡ runOut (boardOf (planBoard p)) (p .windows) (p .tasks) n js out →
-      (jobListFault n js orElse jobFault (p .tasks) n js orElse roomFault (length (jobsOf js)) (length out)) ≡ fine →
+      (jobListFault n js orElse jobFault (tasksOf (p .tasks)) n (jobsOf js) orElse roomFault (length (jobsOf js)) (length out)) ≡ fine →
       ((backlog : ℕ) × (r ≡ Met backlog))
       × ((j : ℕ) → j < length (jobsOf js) → deadline (tasksOf (p .tasks)) (jobsOf js) j ≤ n →
       (1 ≤ getD left j 0) × (getD left j 0 ≤ (taskAt (tasksOf (p .tasks)) (taskOf (jobsOf js) j)) .D))
@@ -75,7 +75,7 @@ module _ (bytes : List ℕ) (p : Plan) (read : planOf bytes ≡ given p) (v : Ve
 
   pub plan-every : (h : ℕ) → v ≡ Meets h →
       (n : ℕ) (js : List Job) → badJob (tasksOf (p .tasks)) n js ≡ none →
-      (left : ℕ → List ℕ) → Under (supplied (boardOf (planBoard p)) (p .windows)) js (deadline (tasksOf (p .tasks)) js) left →
+      (left : ℕ → List ℕ) → Under (suppliedBy (boardOf (planBoard p)) (p .windows)) js (deadline (tasksOf (p .tasks)) js) left →
       (j : ℕ) → j < length js → deadline (tasksOf (p .tasks)) js j ≤ n →
       (getD (left (deadline (tasksOf (p .tasks)) js j)) j 0 ≡ 0)
       × (1 ≤ countOf left js n j) × (countOf left js n j ≤ (taskAt (tasksOf (p .tasks)) (taskOf js j)) .D)
@@ -83,5 +83,5 @@ module _ (bytes : List ℕ) (p : Plan) (read : planOf bytes ≡ given p) (v : Ve
 
   -- (d)
   pub plan-starves : (t s d u : ℕ) → v ≡ Miss t s d u →
-      (w : Way) → Served (supplied (boardOf (planBoard p)) (p .windows)) (tasksOf (p .tasks)) w s t → ⊥
+      (w : Way) → Served (suppliedBy (boardOf (planBoard p)) (p .windows)) (tasksOf (p .tasks)) w s t → ⊥
   plan-starves = miss-starves (planBoard p) (p .windows) (p .tasks) v plan-verdict

@@ -6,7 +6,7 @@ use mathlib.Core.Option.{none}
 use mathlib.Core.List.{List}
 use lib.ListN.{length, getD}
 use Rattle.scope.specs.Ticks.{leastSupply}
-use Rattle.scope.specs.Windows.{supplied}
+use Rattle.scope.specs.Windows.{suppliedBy}
 use Rattle.scope.specs.Tasks.{tasksOf, taskAt, demand}
 use Rattle.scope.specs.Cycle.{cycle}
 use Rattle.scope.specs.Verdict as Verdicts
@@ -65,19 +65,19 @@ module _ (b : Board) (ws : List ℕ) (xs : List Task) (v : Verdict) (promised : 
   -- (a)
   pub records-meet : (w : Verdicts.Verdict) → toldVerdict v ≡ given w → (h : ℕ) →
       (v ≡ Meets h) ↔ ((h ≡ cycle (b .frame) (tasksOf (numbersOf xs)))
-      × ((t : ℕ) → demand (tasksOf (numbersOf xs)) t ≤ leastSupply (supplied (boardOf b) ws) (b .frame) t))
+      × ((t : ℕ) → demand (tasksOf (numbersOf xs)) t ≤ leastSupply (suppliedBy (boardOf b) ws) (b .frame) t))
   records-meet = verdict-meets b ws (numbersOf xs) v promised
 
   -- (b)
   pub records-miss : (w : Verdicts.Verdict) → toldVerdict v ≡ given w → (t s d p : ℕ) →
-      (v ≡ Miss t s d p) ↔ LeastMiss (supplied (boardOf b) ws) (b .frame) (tasksOf (numbersOf xs)) t s d p
+      (v ≡ Miss t s d p) ↔ LeastMiss (suppliedBy (boardOf b) ws) (b .frame) (tasksOf (numbersOf xs)) t s d p
   records-miss = verdict-miss b ws (numbersOf xs) v promised
 
   -- (c)
   pub records-run : (h : ℕ) → v ≡ Meets h →
       (n : ℕ) (js out left : List ℕ) (r : Ran) →
       toldRan r ≡ runAnswer (boardOf b) ws (numbersOf xs) n js (length out) → left ≡ runOut (boardOf b) ws (numbersOf xs) n js out →
-      (jobListFault n js orElse jobFault (numbersOf xs) n js orElse roomFault (length (jobsOf js)) (length out)) ≡ fine →
+      (jobListFault n js orElse jobFault (tasksOf (numbersOf xs)) n (jobsOf js) orElse roomFault (length (jobsOf js)) (length out)) ≡ fine →
       ((backlog : ℕ) × (r ≡ Met backlog))
       × ((j : ℕ) → j < length (jobsOf js) → deadline (tasksOf (numbersOf xs)) (jobsOf js) j ≤ n →
       (1 ≤ getD left j 0) × (getD left j 0 ≤ (taskAt (tasksOf (numbersOf xs)) (taskOf (jobsOf js) j)) .D))
@@ -85,12 +85,12 @@ module _ (b : Board) (ws : List ℕ) (xs : List Task) (v : Verdict) (promised : 
 
   pub records-every : (h : ℕ) → v ≡ Meets h →
       (n : ℕ) (js : List Job) → badJob (tasksOf (numbersOf xs)) n js ≡ none →
-      (left : ℕ → List ℕ) → Under (supplied (boardOf b) ws) js (deadline (tasksOf (numbersOf xs)) js) left →
+      (left : ℕ → List ℕ) → Under (suppliedBy (boardOf b) ws) js (deadline (tasksOf (numbersOf xs)) js) left →
       (j : ℕ) → j < length js → deadline (tasksOf (numbersOf xs)) js j ≤ n →
       (getD (left (deadline (tasksOf (numbersOf xs)) js j)) j 0 ≡ 0)
       × (1 ≤ countOf left js n j) × (countOf left js n j ≤ (taskAt (tasksOf (numbersOf xs)) (taskOf js j)) .D)
   records-every = meets-every b ws (numbersOf xs) v promised
 
   -- (d)
-  pub records-starve : (t s d p : ℕ) → v ≡ Miss t s d p → (w : Way) → Served (supplied (boardOf b) ws) (tasksOf (numbersOf xs)) w s t → ⊥
+  pub records-starve : (t s d p : ℕ) → v ≡ Miss t s d p → (w : Way) → Served (suppliedBy (boardOf b) ws) (tasksOf (numbersOf xs)) w s t → ⊥
   records-starve = miss-starves b ws (numbersOf xs) v promised

@@ -9,13 +9,13 @@ use lib.ListN.{length}
 use Rattle.scope.specs.Numbers.{badCount, written}
 use Rattle.scope.specs.Limits.{mostFrame, mostWindows, mostTasks, mostCycle, mostLength, mostTicks, mostJobs}
 use Rattle.scope.specs.Ticks.{perFrame, leastSupply}
-use Rattle.scope.specs.Windows.{Board, Window, windowsOf, supplied, badWindow}
+use Rattle.scope.specs.Windows.{Board, Window, windowsOf, suppliedBy, badWindow}
 use Rattle.scope.specs.Partition.{critical, delay, outage}
 use Rattle.scope.specs.Tasks.{Task, tasksOf, badTask, demand, margin}
 use Rattle.scope.specs.Cycle.{cycle}
 use Rattle.scope.specs.Verdict.{Verdict, verdict}
 use Rattle.scope.specs.Bound.{Bound, response}
-use Rattle.scope.specs.Jobs.{jobsOf, badJob}
+use Rattle.scope.specs.Jobs.{Job, jobsOf, badJob}
 use Rattle.scope.specs.Machine.{edf}
 use Rattle.scope.specs.Run.{Ran, ran, counts}
 
@@ -65,28 +65,28 @@ unfoldable pub frameFault : Board → Fault
 frameFault b = faultIf (eqb (b .frame) 0 || ltb mostFrame (b .frame)) 2 0
 
 -- 3: a window breaks its rule
-unfoldable pub windowFault : Board → List ℕ → Fault
-windowFault b ws = faultAt 3 (badWindow b (windowsOf ws))
+unfoldable pub windowFault : Board → List Window → Fault
+windowFault b ws = faultAt 3 (badWindow b ws)
 
 -- 4: task list not in threes, or over 32 tasks
 unfoldable pub taskListFault : List ℕ → Fault
 taskListFault ts = faultIf (badCount 3 mostTasks ts) 4 0
 
 -- 5: a task breaks its rule
-unfoldable pub taskFault : List ℕ → Fault
-taskFault ts = faultAt 5 (badTask (tasksOf ts))
+unfoldable pub taskFault : List Task → Fault
+taskFault ts = faultAt 5 (badTask ts)
 
 -- 6: H over 1,000,000
-unfoldable pub cycleFault : Board → List ℕ → Fault
-cycleFault b ts = faultIf (ltb mostCycle (cycle (b .frame) (tasksOf ts))) 6 0
+unfoldable pub cycleFault : Board → List Task → Fault
+cycleFault b ts = faultIf (ltb mostCycle (cycle (b .frame) ts)) 6 0
 
 -- 7: asked length over 1,000,000
 unfoldable pub lengthFault : ℕ → Fault
 lengthFault t = faultIf (ltb mostLength t) 7 0
 
 -- 7: asked task absent
-unfoldable pub absentFault : List ℕ → ℕ → Fault
-absentFault ts i = faultIf (leb (length (tasksOf ts)) i) 7 0
+unfoldable pub absentFault : List Task → ℕ → Fault
+absentFault ts i = faultIf (leb (length ts) i) 7 0
 
 -- 8: lent output shorter than needed
 unfoldable pub roomFault : ℕ → ℕ → Fault
@@ -97,15 +97,15 @@ unfoldable pub jobListFault : ℕ → List ℕ → Fault
 jobListFault n js = faultIf (badCount 3 mostJobs js || ltb mostTicks n) 10 0
 
 -- 11: a job breaks the legal list rule
-unfoldable pub jobFault : List ℕ → ℕ → List ℕ → Fault
-jobFault ts n js = faultAt 11 (badJob (tasksOf ts) n (jobsOf js))
+unfoldable pub jobFault : List Task → ℕ → List Job → Fault
+jobFault ts n js = faultAt 11 (badJob ts n js)
 
--- the checks of a table, 1 2 3, and of a group, 4 5
+-- the checks of a table, 1 2 3, and of a group, 4 5, as lists of numbers
 unfoldable pub tableFault : Board → List ℕ → Fault
-tableFault b ws = windowListFault ws orElse frameFault b orElse windowFault b ws
+tableFault b ws = windowListFault ws orElse frameFault b orElse windowFault b (windowsOf ws)
 
 unfoldable pub groupFault : List ℕ → Fault
-groupFault ts = taskListFault ts orElse taskFault ts
+groupFault ts = taskListFault ts orElse taskFault (tasksOf ts)
 
 -- ---- one value alone, as a constructor takes it
 
@@ -113,10 +113,10 @@ unfoldable pub boardAnswer : ℕ → Answer Board
 boardAnswer P = unless (frameFault (record { frame = P })) (record { frame = P })
 
 unfoldable pub windowAnswer : Board → Window → Answer Window
-windowAnswer b w = unless (faultAt 3 (badWindow b (w ∷ []))) w
+windowAnswer b w = unless (windowFault b (w ∷ [])) w
 
 unfoldable pub taskAnswer : Task → Answer Task
-taskAnswer x = unless (faultAt 5 (badTask (x ∷ []))) x
+taskAnswer x = unless (taskFault (x ∷ [])) x
 
 unfoldable pub lengthAnswer : ℕ → Answer ℕ
 lengthAnswer t = unless (lengthFault t) t
@@ -128,14 +128,14 @@ runTicksAnswer n = unless (jobListFault n []) n
 -- ---- entries. Windows ws, tasks ts and jobs js are lists of numbers
 
 unfoldable pub suppliedAnswer : Board → List ℕ → ℕ → Answer Bool
-suppliedAnswer b ws k = unless (tableFault b ws) (supplied b ws k)
+suppliedAnswer b ws k = unless (tableFault b ws) (suppliedBy b ws k)
 
 unfoldable pub leastSupplyAnswer : Board → List ℕ → ℕ → Answer ℕ
-leastSupplyAnswer b ws t = unless (tableFault b ws orElse lengthFault t) (leastSupply (supplied b ws) (b .frame) t)
+leastSupplyAnswer b ws t = unless (tableFault b ws orElse lengthFault t) (leastSupply (suppliedBy b ws) (b .frame) t)
 
 -- the critical partition: its windows as numbers, two each
 abbrev pub criticalOf : Board → List ℕ → List ℕ
-criticalOf b ws = critical (supplied b ws) (b .frame)
+criticalOf b ws = critical (suppliedBy b ws) (b .frame)
 
 unfoldable pub criticalFault : Board → List ℕ → ℕ → Fault
 criticalFault b ws room = tableFault b ws orElse roomFault (length (criticalOf b ws)) room
@@ -153,37 +153,37 @@ pub record Delay : Type 0 where
   pub A : ℕ
 
 unfoldable pub delayAnswer : Board → List ℕ → Answer Delay
-delayAnswer b ws = unless (tableFault b ws) (record { delay = delay (supplied b ws) (b .frame); A = perFrame (supplied b ws) (b .frame) })
+delayAnswer b ws = unless (tableFault b ws) (record { delay = delay (suppliedBy b ws) (b .frame); A = perFrame (suppliedBy b ws) (b .frame) })
 
 unfoldable pub outageAnswer : Board → List ℕ → Answer ℕ
-outageAnswer b ws = unless (tableFault b ws) (outage (supplied b ws) (b .frame))
+outageAnswer b ws = unless (tableFault b ws) (outage (suppliedBy b ws) (b .frame))
 
 unfoldable pub demandAnswer : List ℕ → ℕ → Answer ℕ
 demandAnswer ts t = unless (groupFault ts orElse lengthFault t) (demand (tasksOf ts) t)
 
 unfoldable pub marginAnswer : Board → List ℕ → List ℕ → ℕ → Answer ℤ
 marginAnswer b ws ts t =
-    unless (tableFault b ws orElse groupFault ts orElse lengthFault t) (margin (supplied b ws) (b .frame) (tasksOf ts) t)
+    unless (tableFault b ws orElse groupFault ts orElse lengthFault t) (margin (suppliedBy b ws) (b .frame) (tasksOf ts) t)
 
 unfoldable pub verdictAnswer : Board → List ℕ → List ℕ → Answer Verdict
 verdictAnswer b ws ts =
-    unless (tableFault b ws orElse groupFault ts orElse cycleFault b ts)
-    (verdict (supplied b ws) (b .frame) (tasksOf ts) (cycle (b .frame) (tasksOf ts)))
+    unless (tableFault b ws orElse groupFault ts orElse cycleFault b (tasksOf ts))
+    (verdict (suppliedBy b ws) (b .frame) (tasksOf ts) (cycle (b .frame) (tasksOf ts)))
 
 unfoldable pub boundAnswer : Board → List ℕ → List ℕ → ℕ → Answer Bound
 boundAnswer b ws ts i =
-    unless (tableFault b ws orElse groupFault ts orElse absentFault ts i) (response (supplied b ws) (b .frame) (tasksOf ts) i)
+    unless (tableFault b ws orElse groupFault ts orElse absentFault (tasksOf ts) i) (response (suppliedBy b ws) (b .frame) (tasksOf ts) i)
 
 unfoldable pub runFault : Board → List ℕ → List ℕ → ℕ → List ℕ → ℕ → Fault
 runFault b ws ts n js room =
-    tableFault b ws orElse groupFault ts orElse jobListFault n js orElse jobFault ts n js orElse roomFault (length (jobsOf js)) room
+    tableFault b ws orElse groupFault ts orElse jobListFault n js orElse jobFault (tasksOf ts) n (jobsOf js) orElse roomFault (length (jobsOf js)) room
 
 -- a run under earliest deadline first
 unfoldable pub runAnswer : Board → List ℕ → List ℕ → ℕ → List ℕ → ℕ → Answer Ran
 runAnswer b ws ts n js room =
-    unless (runFault b ws ts n js room) (ran (supplied b ws) (edf (tasksOf ts) (jobsOf js)) (tasksOf ts) (jobsOf js) n)
+    unless (runFault b ws ts n js room) (ran (suppliedBy b ws) (edf (tasksOf ts) (jobsOf js)) (tasksOf ts) (jobsOf js) n)
 
 unfoldable pub runOut : Board → List ℕ → List ℕ → ℕ → List ℕ → List ℕ → List ℕ
 runOut b ws ts n js out =
     unlessKept (runFault b ws ts n js (length out))
-    (written (counts (supplied b ws) (edf (tasksOf ts) (jobsOf js)) (tasksOf ts) (jobsOf js) n) out) out
+    (written (counts (suppliedBy b ws) (edf (tasksOf ts) (jobsOf js)) (tasksOf ts) (jobsOf js) n) out) out

@@ -9,7 +9,7 @@ use lib.Dec.{leb, eqb}
 use lib.ListN.{length}
 use Rattle.scope.specs.Numbers.{sum, when, IsFirst}
 use Rattle.scope.specs.Ticks.{supply, leastSupply}
-use Rattle.scope.specs.Windows.{Board}
+use Rattle.scope.specs.Windows.{Board, Window, window}
 use Rattle.scope.specs.Tasks.{Task, taskAt, demand}
 use Rattle.scope.specs.Jobs.{Job, job, releaseOf, workOf, deadline}
 use Rattle.scope.specs.Machine.{pending, worked}
@@ -20,8 +20,8 @@ use Rattle.scope.specs.Machine.{pending, worked}
 abbrev pub finerBoard : ℕ → Board → Board
 finerBoard q b = record { frame = q * b .frame }
 
-abbrev pub finerWindows : ℕ → List ℕ → List ℕ
-finerWindows q ws = map (λ x. q * x) ws
+abbrev pub finerWindows : ℕ → List Window → List Window
+finerWindows q ws = map (λ w. window (q * w .start) (q * w .end)) ws
 
 -- the work of the jobs that are released in the t ticks from s on and due by their end
 unfoldable pub dueWithin : List Task → List Job → ℕ → ℕ → ℕ

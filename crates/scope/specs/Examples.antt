@@ -6,9 +6,9 @@ use lib.IntN.{ℤ, ℤ.negsuc}
 use lib.ListN.{length, replicate}
 use Rattle.scope.specs.Numbers.{sum, least, greatest, all, firstBy, listed, keep, piecesFrom, pieces, badCount, written}
 use Rattle.scope.specs.Ticks.{supply, leastSupply, leastStart}
-use Rattle.scope.specs.Windows.{Board, Window, window, inWindow, covers, supplied, windowLegal, badWindow}
+use Rattle.scope.specs.Windows.{Board, Window, window, gives, covers, supplied, windowLegal, badWindow}
 use Rattle.scope.specs.Partition.{rises, within, edge, maximalRuns, critical, lag, delay, outageBefore, outage}
-use Rattle.scope.specs.Tasks.{Task, task, taskLegal, badTask, taskDemand, demand, margin}
+use Rattle.scope.specs.Tasks.{Task, task, tasksOf, taskLegal, badTask, taskDemand, demand, margin}
 use Rattle.scope.specs.Cycle.{gcdWithin, gcd, lcm, cycle}
 use Rattle.scope.specs.Verdict.{Verdict, Verdict.meets, Verdict.miss, violates, verdict}
 use Rattle.scope.specs.Bound.{Bound, Bound.bound, asked, suffices, response}
@@ -81,7 +81,7 @@ reply (windowAlone P s e) = aWindow (windowAnswer (on P) (window s e))
 reply (taskAlone c t d) = aTask (taskAnswer (task c t d))
 -- lists of so many numbers, whatever they are
 reply (listsOf w t j) = faults (windowListFault (replicate w 0) ∷ taskListFault (replicate t 0) ∷ jobListFault 0 (replicate j 0) ∷ [])
-reply (cycleOf P ts) = faults (cycleFault (on P) ts ∷ [])
+reply (cycleOf P ts) = faults (cycleFault (on P) (tasksOf ts) ∷ [])
 
 -- ---- the table
 
@@ -208,7 +208,7 @@ Hold [] = Unit {0}
 Hold (e ∷ rows) = (reply (e .question) ≡ e .expected) × Hold rows
 
 pub examples : Hold table
-unfolding reply table sum least greatest all firstBy listed keep piecesFrom pieces badCount written supply leastSupply leastStart inWindow covers supplied windowLegal badWindow rises within edge maximalRuns critical lag delay taskLegal badTask taskDemand demand margin gcdWithin gcd lcm cycle violates verdict asked suffices response jobLegal badJob pending tick workLeft late outcome backlogIn backlog countOf ran counts windowListFault frameFault windowFault taskListFault taskFault cycleFault lengthFault absentFault roomFault jobListFault jobFault tableFault groupFault leastSupplyAnswer criticalFault criticalAnswer criticalOut delayAnswer outageAnswer demandAnswer marginAnswer verdictAnswer boundAnswer runFault runAnswer runOut groups wellFormed readNumber readNumbers windowCountFault taskCountFault restFault tasksFrom windowsFrom planOf planAnswer numberBytesWithin numberBytes numbersBytes planBytes writeFault writeAnswer writeOut decimalWithin decimal line lineAnswer lineOut boardAnswer windowAnswer taskAnswer lengthAnswer runTicksAnswer outageBefore outage
+unfolding reply table sum least greatest all firstBy listed keep piecesFrom pieces badCount written supply leastSupply leastStart gives covers supplied windowLegal badWindow rises within edge maximalRuns critical lag delay taskLegal badTask taskDemand demand margin gcdWithin gcd lcm cycle violates verdict asked suffices response jobLegal badJob pending tick workLeft late outcome backlogIn backlog countOf ran counts windowListFault frameFault windowFault taskListFault taskFault cycleFault lengthFault absentFault roomFault jobListFault jobFault tableFault groupFault leastSupplyAnswer criticalFault criticalAnswer criticalOut delayAnswer outageAnswer demandAnswer marginAnswer verdictAnswer boundAnswer runFault runAnswer runOut groups wellFormed readNumber readNumbers windowCountFault taskCountFault restFault tasksFrom windowsFrom planOf planAnswer numberBytesWithin numberBytes numbersBytes planBytes writeFault writeAnswer writeOut decimalWithin decimal line lineAnswer lineOut boardAnswer windowAnswer taskAnswer lengthAnswer runTicksAnswer outageBefore outage
 examples =
     (refl, (refl, (refl, (refl, (refl, (refl, (refl, (refl, (refl, (refl, (refl, (refl, (refl, (refl, (refl, (refl, (refl, (refl, (refl, (refl, (refl, (refl, (refl, (refl, (refl, (refl, (refl, (refl, (refl, (refl, (refl, (refl, (refl, (refl, (refl, (refl, (refl, (refl, (refl, (refl, (refl, (refl, (refl, (refl, (refl, (refl, (refl, (refl, (refl, (refl, (refl, (refl, (refl, (refl, (refl, (refl, (refl, (refl, (refl, (refl, (refl, (refl, (refl, (refl, (refl, (refl, (refl, (refl, (refl, (refl, (refl, (refl, (refl, tt)))))))))))))))))))))))))))))))))))))))))))))))))))))))))))))))))))))))))
 

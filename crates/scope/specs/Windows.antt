@@ -26,18 +26,22 @@ windowsOf = pieces 2 window
 abbrev pub windowAt : List Window → ℕ → Window
 windowAt ws i = getD ws i (window 0 0)
 
--- tick k of a frame lies in window w
-unfoldable pub inWindow : Window → ℕ → Bool
-inWindow w k = leb (w .start) k && ltb k (w .end)
+-- window w gives tick k of a frame
+unfoldable pub gives : Board → Window → ℕ → Bool
+gives b w k = leb (w .start) k && ltb k (w .end)
 
--- tick k of a frame lies in one of the windows
-unfoldable pub covers : List Window → ℕ → Bool
-covers [] k = false
-covers (w ∷ ws) k = inWindow w k || covers ws k
+-- one of the windows gives tick k of a frame
+unfoldable pub covers : Board → List Window → ℕ → Bool
+covers b [] k = false
+covers b (w ∷ ws) k = gives b w k || covers b ws k
 
--- tick k is supplied if k mod P lies in a window
-unfoldable pub supplied : Board → List ℕ → ℕ → Bool
-supplied b ws k = covers (windowsOf ws) (k % b .frame)
+-- tick k is supplied if a window gives k mod P
+unfoldable pub supplied : Board → List Window → ℕ → Bool
+supplied b ws k = covers b ws (k % b .frame)
+
+-- the ticks that a table supplies, as an entry is given it: the windows are a list of numbers
+abbrev pub suppliedBy : Board → List ℕ → ℕ → Bool
+suppliedBy b numbers = supplied b (windowsOf numbers)
 
 -- start < end ≤ P
 abbrev pub windowFits : Board → Window → Bool

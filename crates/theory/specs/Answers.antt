@@ -10,7 +10,7 @@ use lib.ListN.{length}
 use borrow.Author.Tests.{ltb-false, leb-false, eqb-false, ne-eqb}
 use Rattle.scope.specs.Numbers.{badCount}
 use Rattle.scope.specs.Limits.{mostFrame, mostWindows, mostTasks, mostCycle, mostLength, mostTicks, mostJobs}
-use Rattle.scope.specs.Windows.{Board, windowsOf, supplied, badWindow}
+use Rattle.scope.specs.Windows.{Board, windowsOf, suppliedBy, badWindow}
 use Rattle.scope.specs.Tasks.{tasksOf, badTask}
 use Rattle.scope.specs.Cycle.{cycle}
 use Rattle.scope.specs.Verdict.{Verdict, verdict}
@@ -75,8 +75,8 @@ window-list-fine ws e p h = rw (fine-count 2 mostWindows ws e (omega arith), ne-
 pub table-legal : (b : Board) (ws : List ℕ) → tableFault b ws ≡ fine → LegalTable b ws
 unfolding tableFault frameFault windowFault
 table-legal b ws e =
-    let p = orElse-fine (windowListFault ws) (frameFault b orElse windowFault b ws) e in
-    let q = orElse-fine (frameFault b) (windowFault b ws) (p .1) in
+    let p = orElse-fine (windowListFault ws) (frameFault b orElse windowFault b (windowsOf ws)) e in
+    let q = orElse-fine (frameFault b) (windowFault b (windowsOf ws)) (p .1) in
     let l = window-list-legal ws (p .0) in
     let f = or-neither (eqb (b .frame) 0) (ltb mostFrame (b .frame)) (faultIf-fine _ 2 0 (q .0)) in
     let framed = eqb-false (b .frame) 0 (f .0) in
@@ -109,7 +109,7 @@ task-list-fine ts e h = rw (fine-count 3 mostTasks ts e (omega arith))
 pub group-legal : (ts : List ℕ) → groupFault ts ≡ fine → LegalGroup ts
 unfolding groupFault taskFault
 group-legal ts e =
-    let p = orElse-fine (taskListFault ts) (taskFault ts) e in
+    let p = orElse-fine (taskListFault ts) (taskFault (tasksOf ts)) e in
     let l = task-list-legal ts (p .0) in
     let tasks = faultAt-fine 5 (badTask (tasksOf ts)) (p .1) in
     let r = task-rules (tasksOf ts) tasks in
@@ -141,14 +141,14 @@ pub record Judged (b : Board) (ws ts : List ℕ) (v : Verdict) : Type 0 where
   pub table : LegalTable b ws
   pub group : LegalGroup ts
   pub cycle-most : cycle (b .frame) (tasksOf ts) ≤ mostCycle
-  pub is : verdict (supplied b ws) (b .frame) (tasksOf ts) (cycle (b .frame) (tasksOf ts)) ≡ v
+  pub is : verdict (suppliedBy b ws) (b .frame) (tasksOf ts) (cycle (b .frame) (tasksOf ts)) ≡ v
 
 pub judged : (b : Board) (ws ts : List ℕ) (v : Verdict) → verdictAnswer b ws ts ≡ given v → Judged b ws ts v
 unfolding verdictAnswer cycleFault
 judged b ws ts v e =
-    let u = unless-given (tableFault b ws orElse groupFault ts orElse cycleFault b ts) _ v e in
-    let p = orElse-fine (tableFault b ws) (groupFault ts orElse cycleFault b ts) (u .0) in
-    let q = orElse-fine (groupFault ts) (cycleFault b ts) (p .1) in
+    let u = unless-given (tableFault b ws orElse groupFault ts orElse cycleFault b (tasksOf ts)) _ v e in
+    let p = orElse-fine (tableFault b ws) (groupFault ts orElse cycleFault b (tasksOf ts)) (u .0) in
+    let q = orElse-fine (groupFault ts) (cycleFault b (tasksOf ts)) (p .1) in
     record {
       table = table-legal b ws (p .0);
       group = group-legal ts (q .0);
@@ -160,14 +160,14 @@ pub record Bounded (b : Board) (ws ts : List ℕ) (i : ℕ) (r : Bound) : Type 0
   pub table : LegalTable b ws
   pub group : LegalGroup ts
   pub present : i < length (tasksOf ts)
-  pub is : response (supplied b ws) (b .frame) (tasksOf ts) i ≡ r
+  pub is : response (suppliedBy b ws) (b .frame) (tasksOf ts) i ≡ r
 
 pub bounded : (b : Board) (ws ts : List ℕ) (i : ℕ) (r : Bound) → boundAnswer b ws ts i ≡ given r → Bounded b ws ts i r
 unfolding boundAnswer absentFault
 bounded b ws ts i r e =
-    let u = unless-given (tableFault b ws orElse groupFault ts orElse absentFault ts i) _ r e in
-    let p = orElse-fine (tableFault b ws) (groupFault ts orElse absentFault ts i) (u .0) in
-    let q = orElse-fine (groupFault ts) (absentFault ts i) (p .1) in
+    let u = unless-given (tableFault b ws orElse groupFault ts orElse absentFault (tasksOf ts) i) _ r e in
+    let p = orElse-fine (tableFault b ws) (groupFault ts orElse absentFault (tasksOf ts) i) (u .0) in
+    let q = orElse-fine (groupFault ts) (absentFault (tasksOf ts) i) (p .1) in
     record {
       table = table-legal b ws (p .0);
       group = group-legal ts (q .0);
@@ -183,16 +183,18 @@ pub record RunGiven (b : Board) (ws ts : List ℕ) (n : ℕ) (js : List ℕ) (ro
   pub ticks : n ≤ mostTicks
   pub jobs : badJob (tasksOf ts) n (jobsOf js) ≡ none
   pub roomy : length (jobsOf js) ≤ room
-  pub is : ran (supplied b ws) (edf (tasksOf ts) (jobsOf js)) (tasksOf ts) (jobsOf js) n ≡ r
+  pub is : ran (suppliedBy b ws) (edf (tasksOf ts) (jobsOf js)) (tasksOf ts) (jobsOf js) n ≡ r
 
 pub run-given : (b : Board) (ws ts : List ℕ) (n : ℕ) (js : List ℕ) (room : ℕ) (r : Ran) → runAnswer b ws ts n js room ≡ given r → RunGiven b ws ts n js room r
 unfolding runAnswer runFault jobFault roomFault
 run-given b ws ts n js room r e =
     let u = unless-given (runFault b ws ts n js room) _ r e in
-    let p₁ = orElse-fine (tableFault b ws) (groupFault ts orElse jobListFault n js orElse jobFault ts n js orElse roomFault (length (jobsOf js)) room) (u .0) in
-    let p₂ = orElse-fine (groupFault ts) (jobListFault n js orElse jobFault ts n js orElse roomFault (length (jobsOf js)) room) (p₁ .1) in
-    let p₃ = orElse-fine (jobListFault n js) (jobFault ts n js orElse roomFault (length (jobsOf js)) room) (p₂ .1) in
-    let p₄ = orElse-fine (jobFault ts n js) (roomFault (length (jobsOf js)) room) (p₃ .1) in
+    let job : Fault = jobFault (tasksOf ts) n (jobsOf js) in
+    let output : Fault = roomFault (length (jobsOf js)) room in
+    let p₁ = orElse-fine (tableFault b ws) (groupFault ts orElse jobListFault n js orElse job orElse output) (u .0) in
+    let p₂ = orElse-fine (groupFault ts) (jobListFault n js orElse job orElse output) (p₁ .1) in
+    let p₃ = orElse-fine (jobListFault n js) (job orElse output) (p₂ .1) in
+    let p₄ = orElse-fine job output (p₃ .1) in
     let l = job-list-legal n js (p₃ .0) in
     record {
       table = table-legal b ws (p₁ .0);

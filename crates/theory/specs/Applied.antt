@@ -8,7 +8,7 @@ use lib.Dec.{ltb}
 use lib.ListN.{length, getD, take, replicate, length-append}
 use Rattle.scope.specs.Numbers.{firstBy, piecesFrom, pieces, badCount, greatest, lexically}
 use Rattle.scope.specs.Ticks.{supply, leastSupply}
-use Rattle.scope.specs.Windows.{inWindow, covers, supplied}
+use Rattle.scope.specs.Windows.{gives, covers, supplied, suppliedBy}
 use Rattle.scope.specs.Tasks.{tasksOf, demand}
 use Rattle.scope.specs.Verdict.{Verdict.meets, Verdict.miss}
 use Rattle.scope.specs.Bound.{Bound.bound, asked}
@@ -73,20 +73,20 @@ w13-runs =
 
 -- ---- demand 2
 
-w7-exact : (t : ℕ) → demand (tasksOf w7) t ≤ leastSupply (supplied (on 8) X) 8 t
+w7-exact : (t : ℕ) → demand (tasksOf w7) t ≤ leastSupply (suppliedBy (on 8) X) 8 t
 w7-exact = exact-meets (on 8) X w7 (meets 8) w7-meets 8 .0 refl .1
 
-w6-exact : LeastMiss (supplied (on 8) X) 8 (tasksOf w6) 6 2 3 2
+w6-exact : LeastMiss (suppliedBy (on 8) X) 8 (tasksOf w6) 6 2 3 2
 w6-exact = exact-miss (on 8) X w6 (miss 6 2 3 2) w6-misses 6 2 3 2 .0 refl
 
-w11-exact : (u : ℕ) → 1 ≤ u → u < 7 → asked (tasksOf w11) 1 u ≤ leastSupply (supplied (on 8) X) 8 u → ⊥
+w11-exact : (u : ℕ) → 1 ≤ u → u < 7 → asked (tasksOf w11) 1 u ≤ leastSupply (suppliedBy (on 8) X) 8 u → ⊥
 w11-exact = exact-bound (on 8) X w11 1 (bound 7) w11-bounds 7 .0 refl .3
 
 -- ---- demand 3
 
 -- W7 meets, so W13's run, of which the table gives the counts 4 and 7, is met with counts of at most 4 and 7
-w13-in-time : (outcome (supplied (on 8) X) (edf (tasksOf w7) (jobsOf w13)) (tasksOf w7) (jobsOf w13) 10 ≡ met)
-    × (getD (counts (supplied (on 8) X) (edf (tasksOf w7) (jobsOf w13)) (tasksOf w7) (jobsOf w13) 10) 1 0 ≤ 7)
+w13-in-time : (outcome (suppliedBy (on 8) X) (edf (tasksOf w7) (jobsOf w13)) (tasksOf w7) (jobsOf w13) 10 ≡ met)
+    × (getD (counts (suppliedBy (on 8) X) (edf (tasksOf w7) (jobsOf w13)) (tasksOf w7) (jobsOf w13) 10) 1 0 ≤ 7)
 unfolding piecesFrom pieces
 w13-in-time =
     let legal = run-given (on 8) X w7 10 w13 3 (record { outcome = met; backlog = 2 }) w13-runs .jobs in
@@ -117,29 +117,29 @@ other-ties : ℕ → List ℕ
 other-ties =
     let ts = tasksOf tied in
     let js = jobsOf tied-jobs in
-    workLeft (supplied (on 8) X) (λ a b. lexically (deadline ts js a) (deadline ts js b) (ltb (taskOf js b) (taskOf js a))) js
+    workLeft (suppliedBy (on 8) X) (λ a b. lexically (deadline ts js a) (deadline ts js b) (ltb (taskOf js b) (taskOf js a))) js
 
 other-ties-differ : countOf other-ties (jobsOf tied-jobs) 10 0 ≡ 5
-unfolding firstBy piecesFrom pieces inWindow covers supplied pending tick workLeft countOf other-ties
+unfolding firstBy piecesFrom pieces gives covers supplied pending tick workLeft countOf other-ties
 other-ties-differ = refl
 
 other-ties-in-time : countOf other-ties (jobsOf tied-jobs) 10 0 ≤ 6
 unfolding piecesFrom pieces other-ties
 other-ties-in-time =
     let legal = run-given (on 8) X tied 10 tied-jobs 2 (record { outcome = met; backlog = 2 }) tied-runs .jobs in
-    let run = machine-under (supplied (on 8) X) _ (jobsOf tied-jobs) (deadline (tasksOf tied) (jobsOf tied-jobs)) (by-lexically _ _) in
+    let run = machine-under (suppliedBy (on 8) X) _ (jobsOf tied-jobs) (deadline (tasksOf tied) (jobsOf tied-jobs)) (by-lexically _ _) in
     edf-every (on 8) X tied 8 tied-meets 10 (jobsOf tied-jobs) legal _ run 0 (omega arith) (omega arith) .2
 
 -- W6 misses: from start 2, no way serves both jobs of task 0 and task 1 that are due by instant 8
-w6-starved : (w : Way) → Served (supplied (on 8) X) (tasksOf w6) w 2 6 → ⊥
+w6-starved : (w : Way) → Served (suppliedBy (on 8) X) (tasksOf w6) w 2 6 → ⊥
 w6-starved = starved (on 8) X w6 6 2 3 2 w6-misses
 
 -- a way that serves full jobs: W4's, released at 2 and 6 and due by 10, get the supplied ticks 5 and 6
 w4-way : Way
 w4-way k = some (record { task = 0; turn = k - 5 })
 
-w4-served : Served (supplied (on 8) X) (tasksOf (1 ∷ 4 ∷ 4 ∷ [])) w4-way 2 8
-unfolding piecesFrom pieces inWindow covers supplied supply givenTo w4-way
+w4-served : Served (suppliedBy (on 8) X) (tasksOf (1 ∷ 4 ∷ 4 ∷ [])) w4-way 2 8
+unfolding piecesFrom pieces gives covers supplied supply givenTo w4-way
 w4-served zero zero l d = omega arith
 w4-served zero (suc zero) l d = omega arith
 w4-served zero (suc (suc m)) l d = absurd (omega arith)

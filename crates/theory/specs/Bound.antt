@@ -8,7 +8,7 @@ use Prim.Native.Nat.{ℕ, suc, _≤_, _<_}
 use native.Mathlib.Omega.{arith}
 use Rattle.scope.specs.Numbers.{first}
 use Rattle.scope.specs.Ticks.{leastSupply}
-use Rattle.scope.specs.Windows.{Board, supplied}
+use Rattle.scope.specs.Windows.{Board, suppliedBy}
 use Rattle.scope.specs.Tasks.{Task, tasksOf, taskAt}
 use Rattle.scope.specs.Bound.{Bound, Bound.bound, Bound.noBound, asked, suffices, orNoBound, response}
 use Rattle.scope.specs.Answers.{Answer.given, boundAnswer}
@@ -73,18 +73,18 @@ module _ (b : Board) (ws ts : List ℕ) (i : ℕ) (r : Bound) (answered : boundA
   D = (taskAt (tasksOf ts) i) .D
 
   abbrev leastOf : ℕ → ℕ
-  leastOf = leastSupply (supplied b ws) (b .frame)
+  leastOf = leastSupply (suppliedBy b ws) (b .frame)
 
   -- the least t in 1 to D with least supply of t at least what is asked
   pub exact-bound : (t : ℕ) → (r ≡ bound t)
       ↔ ((1 ≤ t) × (t ≤ D) × (asked (tasksOf ts) i t ≤ leastOf t) × ((u : ℕ) → 1 ≤ u → u < t → asked (tasksOf ts) i u ≤ leastOf u → ⊥))
   exact-bound t =
       let e = bounded b ws ts i r answered .is in
-      let w = least-bound (supplied b ws) (b .frame) (tasksOf ts) i t in
+      let w = least-bound (suppliedBy b ws) (b .frame) (tasksOf ts) i t in
       (λ q. w .0 (e ∙ q), λ h. sym e ∙ w .1 h)
 
   pub exact-no-bound : (r ≡ noBound) ↔ ((t : ℕ) → 1 ≤ t → t ≤ D → asked (tasksOf ts) i t ≤ leastOf t → ⊥)
   exact-no-bound =
       let e = bounded b ws ts i r answered .is in
-      let w = none-bound (supplied b ws) (b .frame) (tasksOf ts) i in
+      let w = none-bound (suppliedBy b ws) (b .frame) (tasksOf ts) i in
       (λ q. w .0 (e ∙ q), λ h. sym e ∙ w .1 h)

@@ -11,7 +11,7 @@ use lib.ListN.{length, getD}
 use borrow.Author.Tests.{le-ltb, leb-true, le-leb, eq-eqb}
 use Rattle.scope.specs.Numbers.{when}
 use Rattle.scope.specs.Ticks.{supply}
-use Rattle.scope.specs.Windows.{Board, supplied}
+use Rattle.scope.specs.Windows.{Board, windowsOf, suppliedBy}
 use Rattle.scope.specs.Tasks.{Task, tasksOf, badTask, taskAt, demand}
 use Rattle.scope.specs.Verdict.{Verdict.meets}
 use Rattle.scope.specs.Jobs.{Job, releaseOf, taskOf, workOf, deadline, badJob}
@@ -32,10 +32,12 @@ use Rattle.theory.specs.Machine.{serves, machine-under}
 use Rattle.theory.specs.Run.{listed-at, all-met, count-by}
 
 -- ---- the supply of a group that meets, from every start
-met-supply : (b : Board) (ws ts : List ℕ) (H : ℕ) → verdictAnswer b ws ts ≡ given (meets H) → (s t : ℕ) → demand (tasksOf ts) t ≤ supply (supplied b ws) s t
+met-supply : (b : Board) (ws ts : List ℕ) (H : ℕ) → verdictAnswer b ws ts ≡ given (meets H) → (s t : ℕ) →
+    demand (tasksOf ts) t ≤ supply (suppliedBy b ws) s t
 met-supply b ws ts H answered s t =
     let f = judged b ws ts (meets H) answered in
-    le-trans (exact-meets b ws ts (meets H) answered H .0 refl .1 t) (least-over-all-starts (supplied b ws) (b .frame) (supplied-periodic b ws (f .table .frame)) s t)
+    le-trans (exact-meets b ws ts (meets H) answered H .0 refl .1 t)
+    (least-over-all-starts (suppliedBy b ws) (b .frame) (supplied-periodic b (windowsOf ws) (f .table .frame)) s t)
 
 -- ---- every run under earliest deadline first
 
@@ -108,19 +110,19 @@ module _ (σ : ℕ → Bool) (ts : List Task) (tasks : badTask ts ≡ none) (n :
 -- for every n and every legal job list, without bound on either: every run under earliest deadline first, whichever of several earliest jobs it serves
 pub edf-every : (b : Board) (ws ts : List ℕ) (H : ℕ) → verdictAnswer b ws ts ≡ given (meets H) →
     (n : ℕ) (js : List Job) → badJob (tasksOf ts) n js ≡ none →
-    (left : ℕ → List ℕ) → Under (supplied b ws) js (deadline (tasksOf ts) js) left →
+    (left : ℕ → List ℕ) → Under (suppliedBy b ws) js (deadline (tasksOf ts) js) left →
     (j : ℕ) → j < length js → deadline (tasksOf ts) js j ≤ n →
     (getD (left (deadline (tasksOf ts) js j)) j 0 ≡ 0)
     × (1 ≤ countOf left js n j) × (countOf left js n j ≤ (taskAt (tasksOf ts) (taskOf js j)) .D)
 edf-every b ws ts H answered n js legal =
-    edf-counts (supplied b ws) (tasksOf ts) (judged b ws ts (meets H) answered .group .tasks) n js legal (met-supply b ws ts H answered)
+    edf-counts (suppliedBy b ws) (tasksOf ts) (judged b ws ts (meets H) answered .group .tasks) n js legal (met-supply b ws ts H answered)
 
 -- and the tick machine's, whose outcome is met
 pub edf-meets : (b : Board) (ws ts : List ℕ) (H : ℕ) → verdictAnswer b ws ts ≡ given (meets H) →
     (n : ℕ) (js : List Job) → badJob (tasksOf ts) n js ≡ none →
-    (outcome (supplied b ws) (edf (tasksOf ts) js) (tasksOf ts) js n ≡ met)
+    (outcome (suppliedBy b ws) (edf (tasksOf ts) js) (tasksOf ts) js n ≡ met)
     × ((j : ℕ) → j < length js → deadline (tasksOf ts) js j ≤ n →
-    (1 ≤ getD (counts (supplied b ws) (edf (tasksOf ts) js) (tasksOf ts) js n) j 0)
-    × (getD (counts (supplied b ws) (edf (tasksOf ts) js) (tasksOf ts) js n) j 0 ≤ (taskAt (tasksOf ts) (taskOf js j)) .D))
+    (1 ≤ getD (counts (suppliedBy b ws) (edf (tasksOf ts) js) (tasksOf ts) js n) j 0)
+    × (getD (counts (suppliedBy b ws) (edf (tasksOf ts) js) (tasksOf ts) js n) j 0 ≤ (taskAt (tasksOf ts) (taskOf js j)) .D))
 edf-meets b ws ts H answered n js legal =
-    edf-run (supplied b ws) (tasksOf ts) (judged b ws ts (meets H) answered .group .tasks) n js legal (met-supply b ws ts H answered)
+    edf-run (suppliedBy b ws) (tasksOf ts) (judged b ws ts (meets H) answered .group .tasks) n js legal (met-supply b ws ts H answered)

@@ -10,7 +10,7 @@ use native.Mathlib.Decide.{decLt}
 use borrow.Author.Tests.{ltb-true, ltb-false, lt-ltb, le-ltb}
 use Rattle.scope.specs.Numbers.{first}
 use Rattle.scope.specs.Ticks.{Periodic, leastSupply, leastStart}
-use Rattle.scope.specs.Windows.{Board, supplied}
+use Rattle.scope.specs.Windows.{Board, windowsOf, suppliedBy}
 use Rattle.scope.specs.Tasks.{Task, tasksOf, demand}
 use Rattle.scope.specs.Cycle.{cycle}
 use Rattle.scope.specs.Verdict.{Verdict, Verdict.meets, Verdict.miss, violates, shown, verdict}
@@ -98,13 +98,13 @@ module _ (σ : ℕ → Bool) (P : ℕ) (ts : List Task) where
 
 module _ (b : Board) (ws ts : List ℕ) (v : Verdict) (answered : verdictAnswer b ws ts ≡ given v) where
   abbrev σ : ℕ → Bool
-  σ = supplied b ws
+  σ = suppliedBy b ws
 
   facts : Judged b ws ts v
   facts = judged b ws ts v answered
 
   per : Periodic σ (b .frame)
-  per = supplied-periodic b ws (facts .table .frame)
+  per = supplied-periodic b (windowsOf ws) (facts .table .frame)
 
   abbrev H : ℕ
   H = cycle (b .frame) (tasksOf ts)

@@ -10,9 +10,9 @@ use native.Mathlib.Decide.{decLe}
 use lib.Arith.{mod-mul}
 use lib.Dec.{leb, ltb}
 use borrow.Author.Tests.{le-leb, lt-leb, lt-ltb, le-ltb}
-use Rattle.scope.specs.Numbers.{bit, piecesFrom, pieces}
+use Rattle.scope.specs.Numbers.{bit}
 use Rattle.scope.specs.Ticks.{Periodic, supply, leastSupply}
-use Rattle.scope.specs.Windows.{Board, windowsOf, inWindow, covers, supplied}
+use Rattle.scope.specs.Windows.{Board, Window, window, gives, covers, supplied}
 use Rattle.scope.specs.Demands.{finerBoard, finerWindows}
 use Rattle.theory.specs.Ticks.{supply-split, supply-slide, least-over-all-starts, least-is-met, least-unique}
 use Rattle.theory.specs.Windows.{supplied-periodic}
@@ -129,12 +129,15 @@ module _ (q : ℕ) (pos : 1 ≤ q) where
         | inr h ↦ lt-ltb y (q * b) (h .0) ∙ sym (lt-ltb (y / q) b (h .1))
       ]
 
-  -- a part lies in a finer window where its tick lies in the window
-  finer-covers : (ws : List ℕ) (y : ℕ) → covers (windowsOf (finerWindows q ws)) y ≡ covers (windowsOf ws) (y / q)
-  unfolding piecesFrom pieces covers inWindow
-  finer-covers [] y = refl
-  finer-covers (a ∷ []) y = refl
-  finer-covers (a ∷ b ∷ ws) y = rw (finer-start a y, finer-end y b, finer-covers ws y)
+  -- a finer window gives the parts of the ticks that the window gives
+  finer-gives : (b : Board) (w : Window) (y : ℕ) → gives (finerBoard q b) (window (q * w .start) (q * w .end)) y ≡ gives b w (y / q)
+  unfolding gives
+  finer-gives b w y = rw (finer-start (w .start) y, finer-end y (w .end))
+
+  finer-covers : (b : Board) (ws : List Window) (y : ℕ) → covers (finerBoard q b) (finerWindows q ws) y ≡ covers b ws (y / q)
+  unfolding covers
+  finer-covers b [] y = refl
+  finer-covers b (w ∷ ws) y = rw (finer-gives b w y, finer-covers b ws y)
 
   -- a part's place in the finer frame lies in the tick's place in the frame
   finer-place : (P k : ℕ) → 0 < P → (k % (q * P)) / q ≡ (k / q) % P
@@ -143,12 +146,12 @@ module _ (q : ℕ) (pos : 1 ≤ q) where
       let w : k % (q * P) ≡ q * ((k / q) % P) + k % q = omega (arith, ap (λ (i : ℕ). k % i) e, mod-mul k h pos) in
       omega (arith, ap (λ (i : ℕ). i / q) w, mul-add-div pos ((k / q) % P) (k % q), div-eq-of-lt (mod-lt k pos))
 
-  finer-supplied : (b : Board) (ws : List ℕ) → 0 < b .frame → supplied (finerBoard q b) (finerWindows q ws) ≡ finer q (supplied b ws)
+  finer-supplied : (b : Board) (ws : List Window) → 0 < b .frame → supplied (finerBoard q b) (finerWindows q ws) ≡ finer q (supplied b ws)
   unfolding supplied
-  finer-supplied b ws h = fun-ext (λ k. finer-covers ws (k % (q * b .frame)) ∙ ap (covers (windowsOf ws)) (finer-place (b .frame) k h))
+  finer-supplied b ws h = fun-ext (λ k. finer-covers b ws (k % (q * b .frame)) ∙ ap (covers b ws) (finer-place (b .frame) k h))
 
 -- in q-th parts of a tick the least supply of t ticks is q times as much
-pub finer-least : (b : Board) (ws : List ℕ) (q : ℕ) → 0 < b .frame → 1 ≤ q → (t : ℕ) →
+pub finer-least : (b : Board) (ws : List Window) (q : ℕ) → 0 < b .frame → 1 ≤ q → (t : ℕ) →
     leastSupply (supplied (finerBoard q b) (finerWindows q ws)) (q * b .frame) (q * t) ≡ q * leastSupply (supplied b ws) (b .frame) t
 finer-least b ws q h pos t =
     ap (λ (σ : ℕ → Bool). leastSupply σ (q * b .frame) (q * t)) (finer-supplied q pos b ws h)

@@ -12,7 +12,7 @@ use lib.Dec.{ltb, eqb}
 use lib.ListN.{length, getD, length-append}
 use borrow.Author.Tests.{lt-ltb, le-ltb, le-leb, lt-leb, eq-eqb}
 use Rattle.scope.specs.Numbers.{keep, piecesFrom, pieces}
-use Rattle.scope.specs.Windows.{Board, Window, window, windowsOf, windowAt, inWindow, covers, windowLegal, badWindow}
+use Rattle.scope.specs.Windows.{Board, Window, window, windowsOf, windowAt, gives, covers, windowLegal, badWindow}
 use Rattle.scope.specs.Partition.{within, edge, maximalRuns}
 use Rattle.theory.specs.Numbers.{both-and, bool-cases, below-suc, none-first}
 use Rattle.theory.specs.Lists.{pieces-length, two-at, pieces-append, keep-hit, keep-miss, Rising, keep-rising}
@@ -89,23 +89,24 @@ module _ (p : ℕ → Bool) (n k : ℕ) where
 
 -- ---- what windows cover, and one window more after them
 
-covers-last : (ws : List Window) (w : Window) (k : ℕ) → covers (ws ++ (w ∷ [])) k ≡ (covers ws k || inWindow w k)
+covers-last : (b : Board) (ws : List Window) (w : Window) (k : ℕ) → covers b (ws ++ (w ∷ [])) k ≡ (covers b ws k || gives b w k)
 unfolding covers
-covers-last [] w k = or-false (inWindow w k)
-covers-last (v ∷ ws) w k =
-    ap (λ (b : Bool). inWindow v k || b) (covers-last ws w k) ∙ sym (or-assoc (inWindow v k) (covers ws k) (inWindow w k))
+covers-last b [] w k = or-false (gives b w k)
+covers-last b (v ∷ ws) w k =
+    ap (λ (t : Bool). gives b v k || t) (covers-last b ws w k) ∙ sym (or-assoc (gives b v k) (covers b ws k) (gives b w k))
 
-covers-more : (l : List ℕ) (s e k : ℕ) → length l % 2 ≡ 0 →
-    covers (windowsOf (l ++ (s ∷ e ∷ []))) k ≡ (covers (windowsOf l) k || inWindow (window s e) k)
+covers-more : (b : Board) (l : List ℕ) (s e k : ℕ) → length l % 2 ≡ 0 →
+    covers b (windowsOf (l ++ (s ∷ e ∷ []))) k ≡ (covers b (windowsOf l) k || gives b (window s e) k)
 unfolding piecesFrom pieces
-covers-more l s e k h =
-    ap (λ (ws : List Window). covers ws k) (pieces-append Window 2 window (omega arith) (length l / 2) l (s ∷ e ∷ []) (omega arith)) ∙ covers-last (windowsOf l) (window s e) k
+covers-more b l s e k h =
+    ap (λ (ws : List Window). covers b ws k) (pieces-append Window 2 window (omega arith) (length l / 2) l (s ∷ e ∷ []) (omega arith))
+    ∙ covers-last b (windowsOf l) (window s e) k
 
 -- a window over the ticks s to n − 1, at all of which p holds
-within-window : (p : ℕ → Bool) (s n : ℕ) → s < n → ((x : ℕ) → s ≤ x → x < n → p x ≡ true) → (k : ℕ) →
-    (within p s k || inWindow (window s n) k) ≡ within p n k
-unfolding within inWindow
-within-window p s n h run k =
+within-window : (b : Board) (p : ℕ → Bool) (s n : ℕ) → s < n → ((x : ℕ) → s ≤ x → x < n → p x ≡ true) → (k : ℕ) →
+    (within p s k || gives b (window s n) k) ≡ within p n k
+unfolding within gives
+within-window b p s n h run k =
     elim (decLt k s) [
       | yes a ↦ rw (lt-ltb k s a, lt-leb s k a, lt-ltb k n (omega arith)) (or-false (p k))
       | no a ↦ rw (le-ltb k s (omega arith), le-leb s k (omega arith)) (elim (decLt k n) [
@@ -116,7 +117,7 @@ within-window p s n h run k =
 
 -- ---- the edges of q below n: whole windows, or whole windows and the start of a run that is still open
 
-module _ (q : ℕ → Bool) where
+module _ (board : Board) (q : ℕ → Bool) where
   abbrev edges : ℕ → List ℕ
   edges n = keep (edge q) n
 
@@ -130,7 +131,7 @@ module _ (q : ℕ → Bool) where
   -- the list l is of whole windows, which cover the ticks below n at which q holds
   record Closed (l : List ℕ) (n : ℕ) : Type 0 where
     even : length l % 2 ≡ 0
-    cover : (k : ℕ) → covers (windowsOf l) k ≡ within q n k
+    cover : (k : ℕ) → covers board (windowsOf l) k ≡ within q n k
 
   -- after the whole windows l a run starts at s, and q has held since
   record Open (l : List ℕ) (s n : ℕ) : Type 0 where
@@ -156,8 +157,8 @@ module _ (q : ℕ → Bool) where
       record {
         even = omega (arith, length-append l (s ∷ n ∷ []), o .shut .even);
         cover = λ k.
-            covers-more l s n k (o .shut .even) ∙ ap (λ (b : Bool). b || inWindow (window s n) k) (o .shut .cover k)
-            ∙ within-window q s n (o .start) (o .run) k;
+            covers-more board l s n k (o .shut .even) ∙ ap (λ (t : Bool). t || gives board (window s n) k) (o .shut .cover k)
+            ∙ within-window board q s n (o .start) (o .run) k;
       }
 
   step : (n : ℕ) → (q n ≡ true) ⊎ (q n ≡ false) → State n → State (suc n)
@@ -190,24 +191,27 @@ module _ (q : ℕ → Bool) where
   state zero = closed refl (record { even = refl; cover = λ k. sym (within-out q 0 k (omega arith)) })
   state (suc n) = step n (bool-cases (q n)) (state n)
 
--- ---- the runs of p below n
+-- ---- the runs of p below n, as windows of a frame of n ticks
 
 module _ (p : ℕ → Bool) (n : ℕ) where
+  abbrev framed : Board
+  framed = record { frame = n }
+
   -- no run is open past n, where the pattern is false
-  maximal-closed : Closed (within p n) (maximalRuns p n) (suc n)
+  maximal-closed : Closed framed (within p n) (maximalRuns p n) (suc n)
   unfolding maximalRuns
-  maximal-closed = rw add-one (go (state (within p n) (suc n)))
+  maximal-closed = rw add-one (go (state framed (within p n) (suc n)))
     where
-      go : State (within p n) (suc n) → Closed (within p n) (edges (within p n) (suc n)) (suc n)
+      go : State framed (within p n) (suc n) → Closed framed (within p n) (edges framed (within p n) (suc n)) (suc n)
       go (closed b c) = c
       go (opened b l s o) =
-          absurd (true≢false (sym (sym (before-suc (within p n) n) ∙ b) ∙ within-out p n n (omega arith)))
+          absurd (true≢false (sym (sym (before-suc framed (within p n) n) ∙ b) ∙ within-out p n n (omega arith)))
 
   pub maximal-even : length (maximalRuns p n) % 2 ≡ 0
   maximal-even = maximal-closed .even
 
   -- the windows cover exactly the ticks below n at which p holds
-  pub maximal-cover : (k : ℕ) → covers (windowsOf (maximalRuns p n)) k ≡ within p n k
+  pub maximal-cover : (k : ℕ) → covers framed (windowsOf (maximalRuns p n)) k ≡ within p n k
   maximal-cover k =
       maximal-closed .cover k ∙ elim (decLt k (suc n)) [
         | yes h ↦ within-in (within p n) (suc n) k h
@@ -215,6 +219,6 @@ module _ (p : ℕ → Bool) (n : ℕ) where
       ]
 
   -- each run starts before it ends, ends at n or before, and starts strictly after the previous one's end
-  pub maximal-rule : badWindow (record { frame = n }) (windowsOf (maximalRuns p n)) ≡ none
+  pub maximal-rule : badWindow framed (windowsOf (maximalRuns p n)) ≡ none
   unfolding maximalRuns
-  maximal-rule = rising-rule (record { frame = n }) (maximalRuns p n) (keep-rising (edge (within p n)) (n + 1))
+  maximal-rule = rising-rule framed (maximalRuns p n) (keep-rising (edge (within p n)) (n + 1))

@@ -9,7 +9,7 @@ use native.Mathlib.Nat.{dvd-refl}
 use lib.ListN.{length, getD}
 use Rattle.scope.specs.Numbers.{least, all, firstBy, listed, piecesFrom, pieces}
 use Rattle.scope.specs.Ticks.{Periodic, supply, leastSupply}
-use Rattle.scope.specs.Windows.{Board, inWindow, covers, supplied}
+use Rattle.scope.specs.Windows.{Board, gives, covers, supplied, suppliedBy}
 use Rattle.scope.specs.Tasks.{Task, task, tasksOf, taskAt, taskDemand, demand}
 use Rattle.scope.specs.Verdict.{Verdict.meets, Verdict.miss}
 use Rattle.scope.specs.Jobs.{Job, jobsOf, releaseOf, taskOf, deadline, jobLegal, badJob}
@@ -23,11 +23,11 @@ use Rattle.theory.specs.Applied.{w6, w7, w13, w6-misses, w7-meets}
 
 -- "meets" does not leave supply over: W7 asks for all 3 ticks that length 7 holds at least
 pub not-strictly : ((b : Board) (ws ts : List ℕ) (H : ℕ) → verdictAnswer b ws ts ≡ given (meets H) →
-    (t : ℕ) → 1 ≤ t → demand (tasksOf ts) t < leastSupply (supplied b ws) (b .frame) t) → ⊥
-unfolding piecesFrom pieces inWindow covers supplied supply least leastSupply taskDemand demand
+    (t : ℕ) → 1 ≤ t → demand (tasksOf ts) t < leastSupply (suppliedBy b ws) (b .frame) t) → ⊥
+unfolding piecesFrom pieces gives covers supplied supply least leastSupply taskDemand demand
 not-strictly claim =
     let asked : demand (tasksOf w7) 7 ≡ 3 = refl in
-    let held : leastSupply (supplied (on 8) X) 8 7 ≡ 3 = refl in
+    let held : leastSupply (suppliedBy (on 8) X) 8 7 ≡ 3 = refl in
     omega (arith, claim (on 8) X w7 8 w7-meets 7 (omega arith))
 
 -- D ≤ T is needed for the horizon. Where every tick is supplied, 2 ticks of work every tick, each due after 2, are too much from length 3 on; the
@@ -57,23 +57,23 @@ not-past-period claim =
 -- W13's run of W7: each job's count is its task's D, so no count can be claimed to be less
 pub not-below-deadline : ((b : Board) (ws ts : List ℕ) (H : ℕ) → verdictAnswer b ws ts ≡ given (meets H) →
     (n : ℕ) (js : List Job) → badJob (tasksOf ts) n js ≡ none → (j : ℕ) → j < length js → deadline (tasksOf ts) js j ≤ n →
-    getD (counts (supplied b ws) (edf (tasksOf ts) js) (tasksOf ts) js n) j 0 < (taskAt (tasksOf ts) (taskOf js j)) .D) → ⊥
-unfolding all firstBy listed piecesFrom pieces inWindow covers supplied jobLegal badJob pending tick workLeft late outcome countOf counts
+    getD (counts (suppliedBy b ws) (edf (tasksOf ts) js) (tasksOf ts) js n) j 0 < (taskAt (tasksOf ts) (taskOf js j)) .D) → ⊥
+unfolding all firstBy listed piecesFrom pieces gives covers supplied jobLegal badJob pending tick workLeft late outcome countOf counts
 not-below-deadline claim =
-    let count : getD (counts (supplied (on 8) X) (edf (tasksOf w7) (jobsOf w13)) (tasksOf w7) (jobsOf w13) 10) 1 0 ≡ 7 = refl in
+    let count : getD (counts (suppliedBy (on 8) X) (edf (tasksOf w7) (jobsOf w13)) (tasksOf w7) (jobsOf w13) 10) 1 0 ≡ 7 = refl in
     omega (arith, claim (on 8) X w7 8 w7-meets 10 (jobsOf w13) refl 1 (omega arith) (omega arith))
 
 -- of a run of 3 ticks both jobs are released in it, and unfinished: their deadlines are not
 pub not-each-release : ((b : Board) (ws ts : List ℕ) (H : ℕ) → verdictAnswer b ws ts ≡ given (meets H) →
     (n : ℕ) (js : List Job) → badJob (tasksOf ts) n js ≡ none → (j : ℕ) → j < length js → releaseOf js j ≤ n →
-    1 ≤ getD (counts (supplied b ws) (edf (tasksOf ts) js) (tasksOf ts) js n) j 0) → ⊥
-unfolding all firstBy listed piecesFrom pieces inWindow covers supplied jobLegal badJob pending tick workLeft late outcome countOf counts
+    1 ≤ getD (counts (suppliedBy b ws) (edf (tasksOf ts) js) (tasksOf ts) js n) j 0) → ⊥
+unfolding all firstBy listed piecesFrom pieces gives covers supplied jobLegal badJob pending tick workLeft late outcome countOf counts
 not-each-release claim =
-    let count : getD (counts (supplied (on 8) X) (edf (tasksOf w7) (jobsOf w13)) (tasksOf w7) (jobsOf w13) 3) 0 0 ≡ 0 = refl in
+    let count : getD (counts (suppliedBy (on 8) X) (edf (tasksOf w7) (jobsOf w13)) (tasksOf w7) (jobsOf w13) 3) 0 0 ≡ 0 = refl in
     omega (arith, claim (on 8) X w7 8 w7-meets 3 (jobsOf w13) refl 0 (omega arith) (omega arith))
 
 -- a miss starves not every job, but some: of W6 the first job of task 0 can well be served
 pub not-every-job : ((b : Board) (ws ts : List ℕ) (t s d p : ℕ) → verdictAnswer b ws ts ≡ given (miss t s d p) →
-    (w : Way) (i m : ℕ) → i < length (tasksOf ts) → (taskAt (tasksOf ts) i) .C ≤ givenTo (supplied b ws) w i m s t → ⊥) → ⊥
-unfolding piecesFrom pieces inWindow covers supplied supply givenTo
+    (w : Way) (i m : ℕ) → i < length (tasksOf ts) → (taskAt (tasksOf ts) i) .C ≤ givenTo (suppliedBy b ws) w i m s t → ⊥) → ⊥
+unfolding piecesFrom pieces gives covers supplied supply givenTo
 not-every-job claim = claim (on 8) X w6 6 2 3 2 w6-misses (λ k. some (record { task = 0; turn = 0 })) 0 0 (omega arith) (omega arith)

@@ -10,7 +10,7 @@ use lib.Dec.{eqb}
 use lib.ListN.{length}
 use Rattle.scope.specs.Numbers.{bit, sum}
 use Rattle.scope.specs.Ticks.{supply}
-use Rattle.scope.specs.Windows.{Board, supplied}
+use Rattle.scope.specs.Windows.{Board, suppliedBy}
 use Rattle.scope.specs.Tasks.{Task, tasksOf, taskAt, taskDemand, demand}
 use Rattle.scope.specs.Verdict.{Verdict.miss}
 use Rattle.scope.specs.Answers.{Answer.given, verdictAnswer}
@@ -80,8 +80,8 @@ served-supplied σ ts ok w s t all =
 -- ---- the entry
 
 pub starved : (b : Board) (ws ts : List ℕ) (t s d p : ℕ) → verdictAnswer b ws ts ≡ given (miss t s d p) →
-    (w : Way) → Served (supplied b ws) (tasksOf ts) w s t → ⊥
+    (w : Way) → Served (suppliedBy b ws) (tasksOf ts) w s t → ⊥
 starved b ws ts t s d p answered w all =
     let f = judged b ws ts (miss t s d p) answered in
     let m = exact-miss b ws ts (miss t s d p) answered t s d p .0 refl in
-    omega (arith, m .demanded, m .above, m .holds, served-supplied (supplied b ws) (tasksOf ts) (f .group .rules) w s t all)
+    omega (arith, m .demanded, m .above, m .holds, served-supplied (suppliedBy b ws) (tasksOf ts) (f .group .rules) w s t all)

@@ -1,6 +1,6 @@
 use borrow.Author.Needs.{needs}
 use Rattle.scope.specs.Limits.{mostOfTask}
-use Rattle.scope.specs.Windows.{supplied}
+use Rattle.scope.specs.Windows.{suppliedBy}
 use Rattle.scope.specs.Tasks.{Task, task, tasksOf, taskAt}
 use Rattle.scope.specs.Answers.{Answer.given}
 use Rattle.theory.specs.Lists.{pieces-length}
@@ -20,7 +20,7 @@ use Rattle.checker.proofs.task.task_at.Reads as task-at-reads
 
 abbrev Inv-loop : tie.InvT-loop
 Inv-loop board windows tasks index deadline length₀ length =
-    (1 ≤ length) × (length ≤ deadline + 1) × Short (supplied (boardOf board) windows) (board .frame) (tasksOf tasks) index length
+    (1 ≤ length) × (length ≤ deadline + 1) × Short (suppliedBy (boardOf board) windows) (board .frame) (tasksOf tasks) index length
 
 abbrev μ-loop : tie.MeasureT-loop
 μ-loop board windows tasks index deadline length₀ length = deadline + 1 - length

@@ -2,7 +2,7 @@ use mathlib.Core.Path.{_≡_, sym, ap, _∙_}
 use mathlib.Core.Logic.{⊎-elim}
 use Prim.Native.Nat.{_+_, _-_, _≤_}
 use Rattle.scope.specs.Numbers.{greatest}
-use Rattle.scope.specs.Windows.{supplied}
+use Rattle.scope.specs.Windows.{suppliedBy}
 use Rattle.scope.specs.Partition.{lag, delay}
 use Rattle.checker.specs.Told.{boardOf}
 use native.Mathlib.Omega.{arith}
@@ -16,7 +16,7 @@ use Rattle.checker.proofs.partition.lag_of.Reads as lag-of-reads
 
 abbrev Inv-loop : tie.InvT-loop
 Inv-loop board windows whole frame most₀ t₀ most t =
-    (t ≤ frame + 1) × (most ≡ greatest (lag (supplied (boardOf board) windows) frame) t)
+    (t ≤ frame + 1) × (most ≡ greatest (lag (suppliedBy (boardOf board) windows) frame) t)
 
 abbrev μ-loop : tie.MeasureT-loop
 μ-loop board windows whole frame most₀ t₀ most t = frame + 1 - t
@@ -40,7 +40,7 @@ loop-again : tie.Need-loop-again Inv-loop μ-loop
 loop-again c =
     let a = c .before .before .before .before .before .args in
     let l = c .before .before .before .loop in
-    let more = greatest-more (lag (supplied (boardOf (a .board)) (a .windows .now)) (a .board .frame)) (l .t) in
+    let more = greatest-more (lag (suppliedBy (boardOf (a .board)) (a .windows .now)) (a .board .frame)) (l .t) in
     let e = c .before .lag-of .ensures in
     ⊎-elim
     (λ w. (omega arith, omega (arith, w .0 .taken, w .1, more, e, l .inv .1)))
@@ -53,7 +53,7 @@ returns c =
     let a = c .before .before .before .args in
     let l = c .before .loop in
     let e : l .t ≡ a .board .frame + 1 = omega arith in
-    l .inv .1 ∙ ap (greatest (lag (supplied (boardOf (a .board)) (a .windows .now)) (a .board .frame))) e
+    l .inv .1 ∙ ap (greatest (lag (suppliedBy (boardOf (a .board)) (a .windows .now)) (a .board .frame))) e
 
 pub delay-of-spec : {M : Type 1} → statement M
 delay-of-spec =

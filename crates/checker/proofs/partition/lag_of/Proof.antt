@@ -2,7 +2,7 @@ use mathlib.Core.Path.{ap₂}
 use Prim.Native.Nat.{ℕ, _-_, _*_, _≤_}
 use native.Mathlib.Nat.{mul-le-mul}
 use Rattle.scope.specs.Limits.{mostFrame}
-use Rattle.scope.specs.Windows.{supplied}
+use Rattle.scope.specs.Windows.{suppliedBy}
 use Rattle.scope.specs.Partition.{lag}
 use Rattle.theory.specs.Ticks.{supply-le}
 use Rattle.theory.specs.Windows.{supplied-periodic}
@@ -25,7 +25,7 @@ known : (c : tie.After-least-of) → let a = c .before .before .args in Known (a
 known c =
     let a = c .before .before .args in
     let pre = c .before .before .pre in
-    let σ = supplied (boardOf (a .board)) (a .windows .now) in
+    let σ = suppliedBy (boardOf (a .board)) (a .windows .now) in
     let A≤ : a .whole ≤ mostFrame = omega (arith, pre .3, supply-le σ 0 (a .board .frame)) in
     let t≤ : a .t ≤ mostFrame = omega arith in
     record {

@@ -2,7 +2,7 @@ use mathlib.Core.Path.{_≡_, sym, ap, ap₂, _∙_}
 use mathlib.Core.Bool.{Bool, cond}
 use Prim.Native.Nat.{ℕ, _+_, _-_, _≤_, max}
 use Rattle.scope.specs.Numbers.{greatest}
-use Rattle.scope.specs.Windows.{supplied}
+use Rattle.scope.specs.Windows.{suppliedBy}
 use Rattle.scope.specs.Partition.{outageBefore, outage}
 use Rattle.checker.specs.Told.{boardOf}
 use native.Mathlib.Omega.{arith}
@@ -19,8 +19,8 @@ use Rattle.checker.proofs.supply.is_supplied.Reads as is-supplied-reads
 abbrev Inv-loop : tie.InvT-loop
 Inv-loop board windows frame lasting₀ most₀ k₀ lasting most k =
     (k ≤ frame)
-    × (lasting ≡ outageBefore (supplied (boardOf board) windows) k)
-    × (most ≡ greatest (outageBefore (supplied (boardOf board) windows)) (k + 1))
+    × (lasting ≡ outageBefore (suppliedBy (boardOf board) windows) k)
+    × (most ≡ greatest (outageBefore (suppliedBy (boardOf board) windows)) (k + 1))
 
 abbrev μ-loop : tie.MeasureT-loop
 μ-loop board windows frame lasting₀ most₀ k₀ lasting most k = frame - k
@@ -35,7 +35,7 @@ outage-on-requires : tie.Need-outage-on-requires Inv-loop μ-loop
 outage-on-requires c κs =
     let a = c .before .before .before .before .args in
     let l = c .before .before .loop in
-    omega (arith, l .inv .1, outage-le (supplied (boardOf (a .board)) (a .windows .now)) (l .k))
+    omega (arith, l .inv .1, outage-le (suppliedBy (boardOf (a .board)) (a .windows .now)) (l .k))
 
 larger-requires : tie.Need-larger-requires Inv-loop μ-loop
 larger-requires c κs = search needs
@@ -50,7 +50,7 @@ loop-again : tie.Need-loop-again Inv-loop μ-loop
 loop-again c =
     let a = c .before .before .before .before .before .before .args in
     let l = c .before .before .before .before .loop in
-    let σ = supplied (boardOf (a .board)) (a .windows .now) in
+    let σ = suppliedBy (boardOf (a .board)) (a .windows .now) in
     let r : c .before .outage-on .result ≡ outageBefore σ (l .k + 1) =
     c .before .outage-on .ensures
     ∙ ap₂ (λ (on : Bool) (n : ℕ). cond on 0 (n + 1)) (c .before .before .is-supplied .ensures) (l .inv .1)
@@ -63,7 +63,7 @@ returns c =
     let a = c .before .before .before .args in
     let l = c .before .loop in
     let e : l .k ≡ a .board .frame = omega arith in
-    l .inv .2 ∙ ap (λ (k : ℕ). greatest (outageBefore (supplied (boardOf (a .board)) (a .windows .now))) (k + 1)) e
+    l .inv .2 ∙ ap (λ (k : ℕ). greatest (outageBefore (suppliedBy (boardOf (a .board)) (a .windows .now))) (k + 1)) e
 
 pub outage-of-spec : {M : Type 1} → statement M
 outage-of-spec =

@@ -1,8 +1,11 @@
 use borrow.Author.Needs.{needs}
 use native.Mathlib.Omega.{arith}
 use Prim.Native.Nat.{_-_, _≤_}
+use lib.ListN.{length}
 use mathlib.Core.Path.{_≡_, refl, sym, _∙_}
-use Rattle.scope.specs.Windows.{windowsOf, covers}
+use Rattle.scope.specs.Windows.{window, windowsOf, covers}
+use Rattle.theory.specs.Lists.{pieces-length}
+use Rattle.checker.specs.Told.{boardOf}
 use Rattle.checker.proofs.SupplyLaws.{coversFrom, covers-hit, covers-skip, covers-end}
 use Rattle.checker.proofs.supply.covered.Statement.{statement}
 use Rattle.checker.proofs.supply.covered.Tie as tie
@@ -12,13 +15,14 @@ use Rattle.checker.proofs.window.Window.holds.Reads as holds-reads
 use Rattle.checker.proofs.window.window_at.Reads as window-at-reads
 
 abbrev Inv-loop : tie.InvT-loop
-Inv-loop windows k count i₀ i = (i ≤ count) × (covers (windowsOf windows) k ≡ coversFrom windows i k)
+Inv-loop board windows k count i₀ i =
+    (i ≤ count) × (count ≡ length (windowsOf windows)) × (covers (boardOf board) (windowsOf windows) k ≡ coversFrom (boardOf board) (windowsOf windows) i k)
 
 abbrev μ-loop : tie.MeasureT-loop
-μ-loop windows k count i₀ i = count - i
+μ-loop board windows k count i₀ i = count - i
 
 loop-holds : tie.Need-loop-holds Inv-loop μ-loop
-loop-holds c = (omega arith, refl)
+loop-holds c = (omega arith, sym (pieces-length _ 2 window _), refl)
 
 window-at-requires : tie.Need-window-at-requires Inv-loop μ-loop
 window-at-requires c κs = search needs
@@ -28,9 +32,9 @@ holds-requires c κs = search needs
 
 returns : tie.Need-returns Inv-loop μ-loop
 returns c =
+    let a = c .before .before .before .before .before .before .args in
     let l = c .before .before .before .before .loop in
-    let h = c .before .before .before .loop-test .taken in
-    sym (l .inv .1 ∙ covers-hit _ _ _ h (c .before .before .window-at .ensures) (sym (c .before .holds .ensures) ∙ c .if1 .taken))
+    sym (l .inv .2 ∙ covers-hit (boardOf (a .board)) (windowsOf (a .windows .now)) (l .i) (a .k) (omega arith) (c .before .before .window-at .ensures) (sym (c .before .holds .ensures) ∙ c .if1 .taken))
 
 add-i : tie.Need-add-i Inv-loop μ-loop
 add-i c = search needs
@@ -40,14 +44,17 @@ loop-less c = search needs
 
 loop-again : tie.Need-loop-again Inv-loop μ-loop
 loop-again c =
-    let l = c .before .before .before .before .loop in
-    let h = c .before .before .before .loop-test .taken in (
+    let a = c .before .before .before .before .before .before .args in
+    let l = c .before .before .before .before .loop in (
       omega arith,
-      l .inv .1 ∙ covers-skip _ _ _ h (c .before .before .window-at .ensures) (sym (c .before .holds .ensures) ∙ c .if1 .left),
+      l .inv .1,
+      l .inv .2 ∙ covers-skip (boardOf (a .board)) (windowsOf (a .windows .now)) (l .i) (a .k) (omega arith) (c .before .before .window-at .ensures) (sym (c .before .holds .ensures) ∙ c .if1 .left),
     )
 
 returns-2 : tie.Need-returns-2 Inv-loop μ-loop
-returns-2 c = sym (c .before .loop .inv .1 ∙ covers-end _ _ _ (c .loop-test .left))
+returns-2 c =
+    let a = c .before .before .before .args in
+    sym (c .before .loop .inv .2 ∙ covers-end (boardOf (a .board)) (windowsOf (a .windows .now)) (c .before .loop .i) (a .k) (omega arith))
 
 pub covered-spec : {M : Type 1} → statement M
 covered-spec =

@@ -3,7 +3,7 @@ use Prim.Native.Nat.{ℕ, _+_, _*_, _/_, _≤_}
 use mathlib.Core.Path.{_≡_, sym, ap₂, _∙_}
 use native.Mathlib.Nat.{mod-le}
 use Rattle.scope.specs.Ticks.{leastSupply}
-use Rattle.scope.specs.Windows.{supplied}
+use Rattle.scope.specs.Windows.{windowsOf, suppliedBy}
 use Rattle.theory.specs.Windows.{supplied-periodic}
 use Rattle.checker.specs.Told.{boardOf}
 use Rattle.checker.proofs.SupplyLaws.{least-split, least-at-most}
@@ -18,12 +18,12 @@ use Rattle.checker.proofs.supply.supply_from.Reads as supply-from-reads
 -- the result is the least supply, which is at most the length
 split : (c : tie.After-least-over-starts) →
     let a = c .before .before .before .args in
-    let least = leastSupply (supplied (boardOf (a .board)) (a .windows .now)) (a .board .frame) (a .length) in
+    let least = leastSupply (suppliedBy (boardOf (a .board)) (a .windows .now)) (a .board .frame) (a .length) in
     (a .length / a .board .frame * c .before .supply-from .result + c .least-over-starts .result ≡ least) × (least ≤ a .length)
 split c =
     let a = c .before .before .before .args in
-    let σ = supplied (boardOf (a .board)) (a .windows .now) in
-    let per = supplied-periodic (boardOf (a .board)) (a .windows .now) (c .before .before .before .pre .0) in (
+    let σ = suppliedBy (boardOf (a .board)) (a .windows .now) in
+    let per = supplied-periodic (boardOf (a .board)) (windowsOf (a .windows .now)) (c .before .before .before .pre .0) in (
       ap₂ (λ (x y : ℕ). a .length / a .board .frame * x + y) (c .before .supply-from .ensures) (c .least-over-starts .ensures)
           ∙ sym (least-split σ (a .board .frame) per (a .length)),
       least-at-most σ (a .board .frame) per (a .length),

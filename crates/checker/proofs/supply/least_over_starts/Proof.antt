@@ -4,7 +4,7 @@ use Prim.Native.Nat.{ℕ, _-_, _≤_}
 use mathlib.Core.Path.{_≡_, sym, ap, _∙_}
 use mathlib.Core.Logic.{⊎-elim}
 use Rattle.scope.specs.Ticks.{supply, leastSupply}
-use Rattle.scope.specs.Windows.{supplied}
+use Rattle.scope.specs.Windows.{suppliedBy}
 use Rattle.checker.specs.Told.{boardOf}
 use Rattle.checker.proofs.SupplyLaws.{least-first, least-more}
 use Rattle.checker.proofs.supply.least_over_starts.Statement.{statement}
@@ -16,8 +16,8 @@ use Rattle.checker.proofs.supply.supply_from.Reads as supply-from-reads
 
 abbrev Inv-loop : tie.InvT-loop
 Inv-loop board windows length frame n₀ least₀ start₀ n least start =
-    (start ≤ frame) × (n ≡ supply (supplied (boardOf board) windows) start length)
-    × (least ≡ leastSupply (supplied (boardOf board) windows) start length)
+    (start ≤ frame) × (n ≡ supply (suppliedBy (boardOf board) windows) start length)
+    × (least ≡ leastSupply (suppliedBy (boardOf board) windows) start length)
 
 abbrev μ-loop : tie.MeasureT-loop
 μ-loop board windows length frame n₀ least₀ start₀ n least start = frame - start
@@ -41,7 +41,7 @@ loop-again : tie.Need-loop-again Inv-loop μ-loop
 loop-again c =
     let a = c .before .before .before .before .before .before .args in
     let l = c .before .before .before .loop in
-    let more = least-more (supplied (boardOf (a .board)) (a .windows .now)) (l .start) (a .length) in (
+    let more = least-more (suppliedBy (boardOf (a .board)) (a .windows .now)) (l .start) (a .length) in (
       omega arith,
       c .slid .ensures,
       ⊎-elim
@@ -55,7 +55,7 @@ returns c =
     let l = c .before .loop in
     let a = c .before .before .before .before .args in
     let e : l .start ≡ a .board .frame = omega arith in
-    l .inv .2 ∙ ap (λ (n : ℕ). leastSupply (supplied (boardOf (a .board)) (a .windows .now)) n (a .length)) e
+    l .inv .2 ∙ ap (λ (n : ℕ). leastSupply (suppliedBy (boardOf (a .board)) (a .windows .now)) n (a .length)) e
 
 pub least-over-starts-spec : {M : Type 1} → statement M
 least-over-starts-spec =

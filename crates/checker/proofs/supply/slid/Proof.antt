@@ -3,7 +3,7 @@ use Prim.Native.Nat.{_+_}
 use mathlib.Core.Path.{_≡_}
 use Rattle.scope.specs.Numbers.{bit}
 use Rattle.scope.specs.Ticks.{supply}
-use Rattle.scope.specs.Windows.{supplied}
+use Rattle.scope.specs.Windows.{suppliedBy}
 use Rattle.theory.specs.Numbers.{bit-le}
 use Rattle.theory.specs.Ticks.{supply-le}
 use Rattle.checker.specs.Told.{boardOf}
@@ -18,11 +18,11 @@ use Rattle.checker.proofs.supply.tick_of.Reads as tick-of-reads
 -- what goes and what comes
 moved : (c : tie.After-tick-of2) →
     let a = c .before .before .before .args in
-    let σ = supplied (boardOf (a .board)) (a .windows .now) in
+    let σ = suppliedBy (boardOf (a .board)) (a .windows .now) in
     supply σ (a .start + 1) (a .length) + bit (σ (a .start)) ≡ supply σ (a .start) (a .length) + bit (σ (a .start + a .length))
 moved c =
     let a = c .before .before .before .args in
-    supply-slid (supplied (boardOf (a .board)) (a .windows .now)) (a .start) (a .length)
+    supply-slid (suppliedBy (boardOf (a .board)) (a .windows .now)) (a .start) (a .length)
 
 add-tick-of : tie.Need-add-tick-of
 add-tick-of c = search needs
@@ -36,7 +36,7 @@ tick-of-requires-2 c κs = search needs
 add-result : tie.Need-add-result
 add-result c =
     let a = c .before .before .before .args in
-    let σ = supplied (boardOf (a .board)) (a .windows .now) in
+    let σ = suppliedBy (boardOf (a .board)) (a .windows .now) in
     omega (arith, supply-le σ (a .start) (a .length), bit-le (σ (a .start + a .length)))
 
 sub-result : tie.Need-sub-result

@@ -3,7 +3,7 @@ use native.Mathlib.Omega.{arith}
 use Prim.Native.Nat.{_+_, _-_, _≤_}
 use mathlib.Core.Path.{_≡_, sym, ap, _∙_}
 use Rattle.scope.specs.Ticks.{supply}
-use Rattle.scope.specs.Windows.{supplied}
+use Rattle.scope.specs.Windows.{suppliedBy}
 use Rattle.theory.specs.Ticks.{supply-le}
 use Rattle.checker.specs.Told.{boardOf}
 use Rattle.checker.proofs.SupplyLaws.{supply-none, supply-more}
@@ -14,7 +14,7 @@ use Rattle.checker.proofs.supply.supply_from.Lts as lts
 use Rattle.checker.proofs.supply.tick_of.Reads as tick-of-reads
 
 abbrev Inv-loop : tie.InvT-loop
-Inv-loop board windows start length n₀ i₀ n i = (i ≤ length) × (n ≡ supply (supplied (boardOf board) windows) start i)
+Inv-loop board windows start length n₀ i₀ n i = (i ≤ length) × (n ≡ supply (suppliedBy (boardOf board) windows) start i)
 
 abbrev μ-loop : tie.MeasureT-loop
 μ-loop board windows start length n₀ i₀ n i = length - i
@@ -32,12 +32,12 @@ tick-of-requires c κs = search needs
 counted : (c : tie.After-tick-of Inv-loop μ-loop) →
     let a = c .before .before .before .before .args in
     let l = c .before .before .loop in
-    let σ = supplied (boardOf (a .board)) (a .windows .now) in
+    let σ = suppliedBy (boardOf (a .board)) (a .windows .now) in
     (l .n + c .tick-of .result ≡ supply σ (a .start) (l .i + 1)) × (supply σ (a .start) (l .i + 1) ≤ l .i + 1)
 counted c =
     let a = c .before .before .before .before .args in
     let l = c .before .before .loop in
-    let σ = supplied (boardOf (a .board)) (a .windows .now) in
+    let σ = suppliedBy (boardOf (a .board)) (a .windows .now) in
     (omega (arith, l .inv .1, c .tick-of .ensures, supply-more σ (a .start) (l .i)), supply-le σ (a .start) (l .i + 1))
 
 add-n : tie.Need-add-n Inv-loop μ-loop

@@ -1,5 +1,5 @@
 use Rattle.checker.specs.Told.{boardOf}
-use Rattle.scope.specs.Windows.{supplied}
+use Rattle.scope.specs.Windows.{suppliedBy}
 use lib.Dec.{ltb}
 use Rattle.scope.specs.Ticks.{leastSupply}
 use borrow.Author.Tests.{le-ltb}
@@ -17,7 +17,7 @@ use Rattle.checker.proofs.supply.least_of.Reads as least-of-reads
 returns : tie.Need-returns
 returns c =
     let a = c .before .before .args in
-    sym (le-ltb (leastSupply (supplied (boardOf (a .board)) (a .windows .now)) (a .board .frame) (a .length)) (a .demand) (omega arith))
+    sym (le-ltb (leastSupply (suppliedBy (boardOf (a .board)) (a .windows .now)) (a .board .frame) (a .length)) (a .demand) (omega arith))
 
 least-of-requires : tie.Need-least-of-requires
 least-of-requires c κs = search needs

@@ -1,7 +1,7 @@
 use Rattle.scope.specs.Answers.{Answer.given}
 use mathlib.Core.Logic.{⊎-elim}
 use Rattle.scope.specs.Ticks.{leastSupply, supply as supplyOf}
-use Rattle.scope.specs.Windows.{supplied}
+use Rattle.scope.specs.Windows.{windowsOf, suppliedBy}
 use Rattle.scope.specs.Tasks.{tasksOf}
 use Rattle.theory.specs.Windows.{supplied-periodic}
 use Rattle.checker.specs.declared.answer.Verdict.the-variants.{Meets}
@@ -23,7 +23,7 @@ use Rattle.checker.proofs.verdict.exceeds.Reads as exceeds-reads
 
 abbrev Inv-loop : tie.InvT-loop
 Inv-loop board windows tasks cycle frame found₀ before length demand supply start₀ n₀ found start n =
-    let σ = supplied (boardOf board) windows in
+    let σ = suppliedBy (boardOf board) windows in
     (start ≤ board .frame) × (found ≡ Meets cycle) × (n ≡ supplyOf σ start length) × Above σ (board .frame) length start
 
 abbrev μ-loop : tie.MeasureT-loop
@@ -31,7 +31,7 @@ abbrev μ-loop : tie.MeasureT-loop
 
 abbrev Inv-search : tie.InvT-search
 Inv-search board windows tasks cycle frame found₀ before₀ length₀ found before length =
-    let σ = supplied (boardOf board) windows in
+    let σ = suppliedBy (boardOf board) windows in
     (1 ≤ length) × (length ≤ cycle + 1) × (found ≡ Meets cycle) × (before ≤ leastSupply σ (board .frame) length)
     × Carried σ (board .frame) (tasksOf tasks) length
 
@@ -41,7 +41,7 @@ abbrev μ-search : tie.MeasureT-search
 search-holds : tie.Need-search-holds Inv-loop μ-loop Inv-search μ-search
 search-holds c =
     let a = c .before .before in
-    (omega arith, omega arith, refl, omega arith, carried-first _ _ (supplied-periodic (boardOf (a .args .board)) (a .args .windows .now) (a .pre .0)) _ (a .pre .2 .rules))
+    (omega arith, omega arith, refl, omega arith, carried-first _ _ (supplied-periodic (boardOf (a .args .board)) (windowsOf (a .args .windows .now)) (a .pre .0)) _ (a .pre .2 .rules))
 
 demand-of-requires : tie.Need-demand-of-requires Inv-loop μ-loop Inv-search μ-search
 demand-of-requires c κs = search needs
@@ -75,7 +75,7 @@ loop-again : tie.Need-loop-again Inv-loop μ-loop Inv-search μ-search
 loop-again c =
     let d = c .before .before .before in
     let a = d .before .before .before .before .before .before .before .before .before .before in
-    let per = supplied-periodic (boardOf (a .args .board)) (a .args .windows .now) (a .pre .0) in (
+    let per = supplied-periodic (boardOf (a .args .board)) (windowsOf (a .args .windows .now)) (a .pre .0) in (
       omega arith,
       d .loop .inv .1,
       c .slid .ensures,
@@ -91,7 +91,7 @@ search-less c = search needs
 search-again : tie.Need-search-again Inv-loop μ-loop Inv-search μ-search
 search-again c =
     let a = c .before .before .before .before .before .before .before in
-    let per = supplied-periodic (boardOf (a .args .board)) (a .args .windows .now) (a .pre .0) in
+    let per = supplied-periodic (boardOf (a .args .board)) (windowsOf (a .args .windows .now)) (a .pre .0) in
     let l = c .before .before .before .before .search in
     let e = c .before .before .demand-of .ensures .0 in
     ⊎-elim (λ w. absurd (not-all-above _ _ per (tasksOf (a .args .tasks .now)) _ _ (w .4 .left) (w .3 .inv .3)))
@@ -103,7 +103,7 @@ search-again c =
 returns : tie.Need-returns Inv-loop μ-loop Inv-search μ-search
 returns c =
     let a = c .before .before .before .before in
-    let per = supplied-periodic (boardOf (a .args .board)) (a .args .windows .now) (a .pre .0) in
+    let per = supplied-periodic (boardOf (a .args .board)) (windowsOf (a .args .windows .now)) (a .pre .0) in
     let l = c .before .search in
     ap toldVerdict (l .inv .2) ∙ ap given (search-meets _ _ per _ _ (l .length) (omega arith) (l .inv .4))
 
@@ -112,7 +112,7 @@ returns-2 c =
     let d = c .before .before in
     let s = d .before .before .before .before .before .before .before in
     let a = s .before .before .before in
-    let per = supplied-periodic (boardOf (a .args .board)) (a .args .windows .now) (a .pre .0) in
+    let per = supplied-periodic (boardOf (a .args .board)) (windowsOf (a .args .windows .now)) (a .pre .0) in
     ap given
     (search-misses _ _ per _ _ _ _ _ _ _ (omega arith) (s .search .inv .4) (d .before .before .before .before .before .demand-of .ensures .0)
     (d .before .before .least-of .ensures) (sym (d .before .before .before .before .exceeds .ensures) ∙ d .before .before .before .if1 .taken)

@@ -3,7 +3,7 @@ use Rattle.checker.proofs.VerdictLaws.{verdict-refused, verdict-over, v
 use Rattle.checker.proofs.CycleLaws.{was-over, was-found}
 use Rattle.checker.specs.Told.{boardOf, faultOf}
 use Rattle.theory.specs.Answers.{checked-legal}
-use Rattle.scope.specs.Windows.{supplied}
+use Rattle.scope.specs.Windows.{suppliedBy}
 use Rattle.scope.specs.Tasks.{tasksOf}
 use Rattle.scope.specs.Cycle.{cycle}
 use Rattle.scope.specs.Verdict.{verdict}
@@ -66,7 +66,7 @@ returns-3 c =
     let d = c .before in
     let h = cycle-fine d in
     let a = d .before .before .before .before .before .before .before .before .before .args in
-    c .search .ensures ∙ ap (λ (n : ℕ). given (verdict (supplied (boardOf (a .board)) (a .windows .now)) (a .board .frame) (tasksOf (a .tasks .now)) n)) (sym (h .0))
+    c .search .ensures ∙ ap (λ (n : ℕ). given (verdict (suppliedBy (boardOf (a .board)) (a .windows .now)) (a .board .frame) (tasksOf (a .tasks .now)) n)) (sym (h .0))
     ∙ verdict-given _ _ _ (group-fine (d .before .before .before .before)) (h .1)
 
 pub verdict-spec : {M : Type 1} → statement M

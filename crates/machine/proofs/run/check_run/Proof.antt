@@ -1,5 +1,6 @@
 use mathlib.Core.Path.{refl, sym, ap, _∙_, _≡_}
-use Rattle.scope.specs.Jobs.{job}
+use Rattle.scope.specs.Tasks.{tasksOf}
+use Rattle.scope.specs.Jobs.{job, jobsOf}
 use Rattle.scope.specs.Answers.{Fault.fine, Fault.fault, _orElse_, tableFault, groupFault, jobListFault, jobFault}
 use Rattle.theory.specs.Lists.{pieces-length}
 use Rattle.theory.specs.Answers.{checked-legal, job-list-legal}
@@ -26,7 +27,8 @@ list-fine : (c : tie.After-enum-told2) → let a = c .before .before .before .be
 list-fine c = sym (c .before .before .check-job-list .ensures) ∙ ap faultOf (c .enum-told2 .given .1)
 
 -- and each job
-jobs-fine : (c : tie.After-enum-told3) → let a = c .before .before .before .before .before .before .before .before .before .before .before .before .args in jobFault (a .tasks .now) (a .n) (a .jobs .now) ≡ fine
+jobs-fine : (c : tie.After-enum-told3) → let a = c .before .before .before .before .before .before .before .before .before .before .before .before .args in
+    jobFault (tasksOf (a .tasks .now)) (a .n) (jobsOf (a .jobs .now)) ≡ fine
 jobs-fine c = sym (c .before .before .check-jobs .ensures) ∙ ap faultOf (c .enum-told3 .given .1)
 
 check-group-requires : tie.Need-check-group-requires

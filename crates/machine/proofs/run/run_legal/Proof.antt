@@ -3,7 +3,7 @@ use Rattle.scope.specs.Jobs.{job, jobsOf}
 use Rattle.theory.specs.Lists.{pieces-length}
 use Rattle.machine.specs.Slots.{tickOf}
 use Rattle.machine.specs.Relation.{Tasks, Jobs, Kept, zeros}
-use Rattle.scope.specs.Windows.{supplied}
+use Rattle.scope.specs.Windows.{suppliedBy}
 use Rattle.scope.specs.Tasks.{tasksOf}
 use Rattle.checker.specs.Told.{boardOf}
 use Rattle.machine.proofs.Running.{Going, ticked, going-first, going-length, run-met, can-note, noted-length, going-next, run-missed}
@@ -26,7 +26,7 @@ use Rattle.machine.proofs.state.advance.Reads as advance-reads
 
 abbrev Inv-loop : tie.InvT-loop
 Inv-loop board windows tasks n jobs counts₀ m s₀ k₀ counts s k =
-    (k ≤ n) × Going (supplied (boardOf board) windows) (tasksOf tasks) (jobsOf jobs) counts₀ counts k s
+    (k ≤ n) × Going (suppliedBy (boardOf board) windows) (tasksOf tasks) (jobsOf jobs) counts₀ counts k s
 
 abbrev μ-loop : tie.MeasureT-loop
 μ-loop board windows tasks n jobs counts₀ m s₀ k₀ counts s k = n - k
@@ -44,7 +44,7 @@ begun c =
 
 -- a turn of the loop is a tick
 tick-is : (c : tie.After-advance Inv-loop μ-loop) → let a = c .before .before .before .before .before .before .before .before .before .before .before .before .before .before .before .args in let l = c .before .before .before .before .before .loop in
-    c .advance .result ≡ tickOf (supplied (boardOf (a .board)) (a .windows .now)) (tasksOf (a .tasks .now)) (jobsOf (a .jobs .now)) (l .k) (l .s)
+    c .advance .result ≡ tickOf (suppliedBy (boardOf (a .board)) (a .windows .now)) (tasksOf (a .tasks .now)) (jobsOf (a .jobs .now)) (l .k) (l .s)
 tick-is c =
     ticked _ _ _ _ _ _ _ _ _ (c .before .before .before .is-on .ensures) (c .before .before .arrived .ensures) (c .before .goes-to .ensures) (c .advance .ensures)
 

@@ -1,16 +1,16 @@
 use borrow.Author.Tests.{le-leb, lt-leb}
-use Rattle.scope.specs.Windows.{inWindow}
+use Rattle.scope.specs.Windows.{gives}
 use Rattle.checker.proofs.window.Window.holds.Statement.{statement}
 use Rattle.checker.proofs.window.Window.holds.Tie as tie
 use Rattle.checker.proofs.window.Window.holds.Reads as reads
 use Rattle.checker.proofs.window.Window.holds.Lts as lts
 
 returns : tie.Need-returns
-unfolding inWindow
+unfolding gives
 returns c = rw (le-leb _ _ (c .if1 .taken))
 
 returns-2 : tie.Need-returns-2
-unfolding inWindow
+unfolding gives
 returns-2 c = rw (lt-leb _ _ (c .if1 .left))
 
 pub holds-spec : {M : Type 1} → statement M
