@@ -1,6 +1,6 @@
 /*
- * The yardstick: the proved code's algorithms once more, in plain C. Function by function the loops, checks and scans of crates/checker and
- * crates/machine, no cleverer and no slower, so that a ratio tells what the proof costs and not what an algorithm costs. Where the proved code
+ * The yardstick: the proved code's algorithms once more, in plain C. Function by function the loops, checks and scans of crates/tables, supply,
+ * checker and machine, no cleverer and no slower, so that a ratio tells what the proof costs and not what an algorithm costs. Where the proved code
  * hands a run's state on by value, C changes the one state in place, as a C programmer would.
  */
 #include "plain.h"

@@ -21,8 +21,8 @@ use Rattle.theory.specs.Lists.{pieces-length}
 use Rattle.theory.specs.Answers.{LegalGroup}
 use Rattle.theory.specs.Tasks.{TaskRule}
 use Rattle.theory.specs.Bound.{test-enough, test-no}
-use Rattle.checker.proofs.FaultLaws.{if-true, if-false, refused-first, refused-then, given-then}
-use Rattle.checker.proofs.TaskLaws.{read-rule}
+use Rattle.tables.proofs.FaultLaws.{if-true, if-false, refused-first, refused-then, given-then}
+use Rattle.tables.proofs.TaskLaws.{read-rule}
 
 -- ---- what is asked
 

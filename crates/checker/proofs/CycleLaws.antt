@@ -16,7 +16,7 @@ use Rattle.scope.specs.Cycle.{gcd, lcm, cycle}
 use Rattle.theory.specs.Lists.{pieces-length}
 use Rattle.theory.specs.Tasks.{TaskRules}
 use Rattle.theory.specs.Cycle.{cycle-pos, cycle-frame}
-use Rattle.checker.specs.Told.{foundCycle}
+use Rattle.checker.specs.Found.{foundCycle}
 use Rattle.checker.specs.declared.cycle.Cycle.the-variants.{Of, Over}
 
 -- one task further

@@ -23,8 +23,8 @@ use Rattle.theory.specs.Numbers.{sum-le, sum-same}
 use Rattle.theory.specs.Lists.{pieces-length}
 use Rattle.theory.specs.Answers.{LegalGroup}
 use Rattle.theory.specs.Tasks.{TaskRule, jobsIn, jobsIn-short, jobsIn-long, demand-jobs, demand-sum}
-use Rattle.checker.proofs.FaultLaws.{refused-first, refused-then, given-then}
-use Rattle.checker.proofs.TaskLaws.{read-rule}
+use Rattle.tables.proofs.FaultLaws.{refused-first, refused-then, given-then}
+use Rattle.tables.proofs.TaskLaws.{read-rule}
 
 -- ---- one task after the other
 

@@ -1,9 +1,3 @@
-pub mod Signs
-pub mod FaultLaws
-pub mod WindowLaws
-pub mod SupplyLaws
-pub mod PartitionLaws
-pub mod TaskLaws
 pub mod CycleLaws
 pub mod DemandLaws
 pub mod VerdictLaws

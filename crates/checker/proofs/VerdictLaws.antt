@@ -18,7 +18,7 @@ use Rattle.scope.specs.Answers.{Fault.fine, Fault.fault, Answer.given, Answer.r
 use Rattle.theory.specs.Numbers.{none-first, some-first}
 use Rattle.theory.specs.Ticks.{least-is-met, least-over-all-starts, least-up, least-start-unique}
 use Rattle.theory.specs.Tasks.{TaskRules, demand-none}
-use Rattle.checker.proofs.FaultLaws.{if-true, if-false, refused-first, refused-then, given-then}
+use Rattle.tables.proofs.FaultLaws.{if-true, if-false, refused-first, refused-then, given-then}
 
 -- no length below t violates
 abbrev pub Carried : (ℕ → Bool) → ℕ → List Task → ℕ → Type 0

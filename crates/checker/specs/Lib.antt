@@ -1,3 +1,1 @@
-pub mod Told
-pub mod Determined
-pub mod Refused
+pub mod Found

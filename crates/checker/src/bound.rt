@@ -1,20 +1,20 @@
-use crate::answer::Bound;
-use crate::answer::Checked;
-use crate::answer::Refusal;
-use crate::board::Board;
-use crate::supply::least_of;
-use crate::task::check_group;
-use crate::task::task_at;
+use supply::supply::least_of;
+use tables::answer::Bound;
+use tables::answer::Checked;
+use tables::answer::Refusal;
+use tables::board::Board;
+use tables::task::check_group;
+use tables::task::task_at;
 ghost use mathlib.Core.Path.{_≡_};
 ghost use Prim.Native.Nat.{_≤_, _<_, _/_};
 ghost use lib.ListN.{length as lengthOf};
-ghost use Rattle.scope.specs.Limits.{mostFrame, mostOfTask, mostLength};
+ghost use Rattle.scope.specs.Limits.{mostOfTask, mostLength};
 ghost use Rattle.scope.specs.Windows.{suppliedBy};
 ghost use Rattle.scope.specs.Tasks.{tasksOf};
 ghost use Rattle.scope.specs.Bound.{ceil, asked, response};
 ghost use Rattle.scope.specs.Answers.{boundAnswer, Answer.given};
 ghost use Rattle.theory.specs.Answers.{LegalGroup};
-ghost use Rattle.checker.specs.Told.{boardOf, toldBound};
+ghost use Rattle.tables.specs.Told.{boardOf, toldBound};
 
 // ceil(length / period).
 fn rounded_up(length: u32, period: u32) -> u32
@@ -43,7 +43,7 @@ fn asked_of(tasks: &[u32], index: usize, length: u32) -> u64
 
 // The least length up to the deadline whose least supply is at least what is asked.
 fn response_of(board: Board, windows: &[u32], tasks: &[u32], index: usize) -> Bound
-    requires { ⌜ (0 < board .frame) × (board .frame ≤ mostFrame) × LegalGroup (now tasks) × (index < lengthOf (tasksOf (now tasks))) ⌝ }
+    requires { ⌜ LegalGroup (now tasks) × (index < lengthOf (tasksOf (now tasks))) ⌝ }
     ensures { λ r. ⌜ toldBound r ≡ given (response (suppliedBy (boardOf board) (now (windows .entry))) (board .frame) (tasksOf (now (tasks .entry))) index) ⌝ }
 {
     let task = task_at(tasks, index);

@@ -1,12 +1,12 @@
-use crate::board::Board;
-use crate::task::task_at;
+use tables::board::Board;
+use tables::task::task_at;
 ghost use mathlib.Core.Path.{_≡_};
 ghost use Prim.Native.Nat.{_≤_, _<_};
 ghost use Rattle.scope.specs.Limits.{mostFrame};
 ghost use Rattle.scope.specs.Tasks.{tasksOf};
 ghost use Rattle.scope.specs.Cycle.{gcd as gcdBy, cycle};
 ghost use Rattle.theory.specs.Answers.{LegalGroup};
-ghost use Rattle.checker.specs.Told.{foundCycle};
+ghost use Rattle.checker.specs.Found.{foundCycle};
 
 // The greatest common divisor: the remainder falls.
 pub fn gcd(a: u64, b: u64) -> u64

@@ -1,12 +1,12 @@
-use crate::answer::Amount;
-use crate::answer::Checked;
-use crate::answer::Margin;
-use crate::board::Board;
-use crate::length::check_length;
-use crate::supply::least_of;
-use crate::task::check_group;
-use crate::task::check_tasks;
-use crate::task::task_at;
+use supply::supply::least_of;
+use tables::answer::Amount;
+use tables::answer::Checked;
+use tables::answer::Margin;
+use tables::board::Board;
+use tables::length::check_length;
+use tables::task::check_group;
+use tables::task::check_tasks;
+use tables::task::task_at;
 ghost use mathlib.Core.Path.{_≡_};
 ghost use Prim.Native.Nat.{_*_, _≤_};
 ghost use lib.IntN.{pos, _-ℤ_};
@@ -14,7 +14,7 @@ ghost use Rattle.scope.specs.Limits.{mostTasks, mostOfTask, mostLength};
 ghost use Rattle.scope.specs.Tasks.{tasksOf, demand as demandBy};
 ghost use Rattle.scope.specs.Answers.{demandAnswer, marginAnswer};
 ghost use Rattle.theory.specs.Answers.{LegalGroup};
-ghost use Rattle.checker.specs.Told.{boardOf, toldAmount, toldMargin};
+ghost use Rattle.tables.specs.Told.{boardOf, toldAmount, toldMargin};
 
 // The demand of a legal group.
 pub(crate) fn demand_of(tasks: &[u32], length: u32) -> u64

@@ -1,29 +1,29 @@
-use crate::answer::Checked;
-use crate::answer::Refusal;
-use crate::answer::Verdict;
-use crate::board::Board;
 use crate::cycle::Cycle;
 use crate::cycle::cycle_of;
 use crate::demand::demand_of;
-use crate::supply::least_of;
-use crate::supply::slid;
-use crate::supply::supply_from;
-use crate::task::check_group;
+use supply::supply::least_of;
+use supply::supply::supply_from;
+use supply::supply::tick_of;
+use tables::answer::Checked;
+use tables::answer::Refusal;
+use tables::answer::Verdict;
+use tables::board::Board;
+use tables::task::check_group;
 ghost use mathlib.Core.Path.{_≡_};
 ghost use Prim.Native.Nat.{_≤_, _<_};
 ghost use lib.Dec.{ltb};
-ghost use Rattle.scope.specs.Limits.{mostFrame, mostCycle, mostLength};
+ghost use Rattle.scope.specs.Limits.{mostCycle};
 ghost use Rattle.scope.specs.Ticks.{leastSupply};
 ghost use Rattle.scope.specs.Windows.{suppliedBy};
 ghost use Rattle.scope.specs.Tasks.{tasksOf};
 ghost use Rattle.scope.specs.Verdict.{verdict as verdictBy};
 ghost use Rattle.scope.specs.Answers.{verdictAnswer, Answer.given};
 ghost use Rattle.theory.specs.Answers.{LegalGroup};
-ghost use Rattle.checker.specs.Told.{boardOf, toldVerdict};
+ghost use Rattle.tables.specs.Told.{boardOf, toldVerdict};
 
 // Whether the demand of a length exceeds its least supply. A demand that has not risen above `before`, which the least supply carries, needs no supply.
 fn exceeds(board: Board, windows: &[u32], length: u32, before: u64, demand: u64) -> bool
-    requires { ⌜ (0 < board .frame) × (board .frame ≤ mostFrame) × (length ≤ mostLength) × (before ≤ leastSupply (suppliedBy (boardOf board) (now windows)) (board .frame) length) ⌝ }
+    requires { ⌜ before ≤ leastSupply (suppliedBy (boardOf board) (now windows)) (board .frame) length ⌝ }
     ensures { λ r. ⌜ r ≡ ltb (leastSupply (suppliedBy (boardOf board) (now (windows .entry))) (board .frame) length) demand ⌝ }
 {
     if demand <= before {
@@ -35,7 +35,7 @@ fn exceeds(board: Board, windows: &[u32], length: u32, before: u64, demand: u64)
 
 // The first length whose demand exceeds the least supply, and its first start that holds the least supply.
 fn search(board: Board, windows: &[u32], tasks: &[u32], cycle: u32) -> Verdict
-    requires { ⌜ (0 < board .frame) × (board .frame ≤ mostFrame) × LegalGroup (now tasks) × (cycle ≤ mostCycle) ⌝ }
+    requires { ⌜ (0 < board .frame) × LegalGroup (now tasks) × (cycle ≤ mostCycle) ⌝ }
     ensures { λ r. ⌜ toldVerdict r ≡ given (verdictBy (suppliedBy (boardOf board) (now (windows .entry))) (board .frame) (tasksOf (now (tasks .entry))) cycle) ⌝ }
 {
     let frame = board.frame;
@@ -58,7 +58,9 @@ fn search(board: Board, windows: &[u32], tasks: &[u32], cycle: u32) -> Verdict
                     };
                     break 'search;
                 }
-                n = slid(board, windows, start, length, n);
+                let comes = tick_of(board, windows, start as u64 + length as u64);
+                let goes = tick_of(board, windows, start as u64);
+                n = n + comes - goes;
                 start += 1;
             }
         }

@@ -33,10 +33,10 @@ use denote.Triple.Statement.{Triple}
 use denote.Triple.Clauses.{Ended, Clauses, ensured, lasts, closing}
 use denote.Triple.Walked.{Stays, needs, stay-none, walkOf, goes-none, Walks, ends-at, walked, walk-meets}
 use denote.Exit.{yes}
-use Rattle.checker.specs.declared.board.Board.{Board}
-use Rattle.checker.specs.declared.task.Task.{Task}
-use Rattle.checker.proofs.board.Board as B
-use Rattle.checker.proofs.board.Board.Laws as B′
+use Rattle.tables.specs.declared.board.Board.{Board}
+use Rattle.tables.specs.declared.task.Task.{Task}
+use Rattle.tables.proofs.board.Board as B
+use Rattle.tables.proofs.board.Board.Laws as B′
 use Rattle.records.specs.Numbers.{numbersOf, enoughRecords}
 use Rattle.records.proofs.Asked.{entryEnded, entrySaid, EntryMet}
 use Rattle.records.proofs.Passed.{windows-mir, Windows, windows-val, records-val, WindowsOwn, board-vals, Token}

@@ -29,9 +29,9 @@ use denote.Slice.{Room, sliceTy}
 use denote.Steps.{only, owned, nothing}
 use denote.Struct.Steps.{spelt}
 use denote.Struct.Laws as LL
-use Rattle.checker.specs.declared.task.Task.{Task}
-use Rattle.checker.proofs.task.Task as T
-use Rattle.checker.proofs.task.Task.Laws as T′
+use Rattle.tables.specs.declared.task.Task.{Task}
+use Rattle.tables.proofs.task.Task as T
+use Rattle.tables.proofs.task.Task.Laws as T′
 use Rattle.records.specs.Numbers.{enoughRecords}
 use Rattle.records.proofs.Passed.{Records, RecordsOwn}
 

@@ -30,11 +30,11 @@ use denote.Struct.Laws as LL
 use denote.Triple.End.{Kepts}
 use denote.Triple.Walked.{says, Stays, stay-none, stay-none-slice, AllGo, goes-none, goes-none-slice}
 use denote.Exit.{yes}
-use Rattle.checker.specs.declared.board.Board.{Board}
-use Rattle.checker.specs.declared.task.Task.{Task}
-use Rattle.checker.proofs.board.Board as B
-use Rattle.checker.proofs.board.Board.Laws as B′
-use Rattle.checker.proofs.task.Task as T
+use Rattle.tables.specs.declared.board.Board.{Board}
+use Rattle.tables.specs.declared.task.Task.{Task}
+use Rattle.tables.proofs.board.Board as B
+use Rattle.tables.proofs.board.Board.Laws as B′
+use Rattle.tables.proofs.task.Task as T
 use Rattle.records.specs.Numbers.{enoughRecords}
 use Rattle.records.proofs.Passed.{Windows, windows-val, WindowsOwn, board-vals, BoardOwn, Params, Token, lists-in}
 use Rattle.groups.proofs.Front.{Row, row-vals, row-makes, front, Front}

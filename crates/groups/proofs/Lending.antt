@@ -30,8 +30,8 @@ use denote.Memory.{pointee}
 use denote.Slice.{Room, sliceVal}
 use denote.Triple.Statement.{Contract, Triple}
 use denote.Triple.Call.{calls-at}
-use Rattle.checker.specs.declared.task.Task.{Task}
-use Rattle.checker.proofs.task.Task as T
+use Rattle.tables.specs.declared.task.Task.{Task}
+use Rattle.tables.proofs.task.Task as T
 use Rattle.records.specs.Numbers.{enoughRecords}
 use Rattle.records.proofs.Carried.{Carried, locals, vals, Typed, after, Blocks, envOf, env-after, Rooms, Cells, spread, allocs-all, passes-all, frees-all, found, read-all}
 use Rattle.groups.proofs.Front.{Row, row-mir, row-vals, row-val, row-lawful, behind, LentFront, Front, slice, lends-front, front-back}

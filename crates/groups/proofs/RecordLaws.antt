@@ -13,8 +13,8 @@ use Rattle.scope.specs.Limits.{mostTasks}
 use Rattle.scope.specs.Answers.{Fault, Fault.fine, Fault.fault, taskListFault}
 use Rattle.theory.specs.Lists.{pieces-length, three-at, count-fine}
 use Rattle.theory.specs.Answers.{task-list-legal}
-use Rattle.checker.specs.declared.task.Task.{Task}
-use Rattle.checker.proofs.TaskLaws.{list-by}
+use Rattle.tables.specs.declared.task.Task.{Task}
+use Rattle.tables.proofs.TaskLaws.{list-by}
 use Rattle.records.specs.Numbers.{numbersOf, enoughRecords}
 use Rattle.records.proofs.NumberLaws.{none, numbers-length}
 use Rattle.records.proofs.AlikeLaws.{Alike, bad-list, over}

@@ -7,7 +7,7 @@ use lib.ListN.{length, getD}
 use Rattle.scope.specs.Numbers.{piecesFrom, pieces}
 use Rattle.scope.specs.Limits.{mostTasks}
 use Rattle.scope.specs.Answers.{Fault, Fault.fine, Fault.fault, taskListFault}
-use Rattle.checker.specs.declared.task.Task.{Task}
+use Rattle.tables.specs.declared.task.Task.{Task}
 use Rattle.records.specs.Numbers.{numbersOf, enoughRecords}
 
 abbrev pub recordOf : ℕ → ℕ → ℕ → Task

@@ -1,13 +1,13 @@
 use crate::gather::count;
 use crate::gather::gathered;
-use checker::answer::Bound;
-use checker::board::Board;
-use checker::task::Task;
+use tables::answer::Bound;
+use tables::board::Board;
+use tables::task::Task;
 ghost use mathlib.Core.Path.{_≡_};
 ghost use Prim.Native.Nat.{_≤_};
 ghost use lib.ListN.{take};
 ghost use Rattle.scope.specs.Answers.{boundAnswer};
-ghost use Rattle.checker.specs.Told.{boardOf, toldBound};
+ghost use Rattle.tables.specs.Told.{boardOf, toldBound};
 ghost use Rattle.records.specs.Numbers.{numbersOf, enoughRecords};
 
 // The bound of a task among the first records.

@@ -1,14 +1,14 @@
 use crate::gather::count;
 use crate::gather::gathered;
-use checker::answer::Amount;
-use checker::answer::Margin;
-use checker::board::Board;
-use checker::task::Task;
+use tables::answer::Amount;
+use tables::answer::Margin;
+use tables::board::Board;
+use tables::task::Task;
 ghost use mathlib.Core.Path.{_≡_};
 ghost use Prim.Native.Nat.{_≤_};
 ghost use lib.ListN.{take};
 ghost use Rattle.scope.specs.Answers.{demandAnswer, marginAnswer};
-ghost use Rattle.checker.specs.Told.{boardOf, toldAmount, toldMargin};
+ghost use Rattle.tables.specs.Told.{boardOf, toldAmount, toldMargin};
 ghost use Rattle.records.specs.Numbers.{numbersOf, enoughRecords};
 
 // The demand of the first records.

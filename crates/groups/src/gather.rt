@@ -1,6 +1,6 @@
-use checker::answer::Checked;
-use checker::task::Task;
-use checker::task::check_task_list;
+use tables::answer::Checked;
+use tables::task::Task;
+use tables::task::check_task_list;
 ghost use mathlib.Core.Path.{_≡_};
 ghost use Prim.Native.Nat.{_+_, _*_, _<_};
 ghost use lib.ListN.{length, take};

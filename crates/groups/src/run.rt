@@ -1,13 +1,13 @@
 use crate::gather::count;
 use crate::gather::gathered;
-use checker::board::Board;
-use checker::task::Task;
 use machine::run::Ran;
+use tables::board::Board;
+use tables::task::Task;
 ghost use mathlib.Core.Path.{_≡_};
 ghost use Prim.Native.Nat.{_≤_};
 ghost use lib.ListN.{length, take};
 ghost use Rattle.scope.specs.Answers.{runAnswer, runOut};
-ghost use Rattle.checker.specs.Told.{boardOf};
+ghost use Rattle.tables.specs.Told.{boardOf};
 ghost use Rattle.machine.specs.Told.{toldRan};
 ghost use Rattle.records.specs.Numbers.{numbersOf, enoughRecords};
 

@@ -9,7 +9,7 @@ use Rattle.scope.specs.Bound.{Bound, Bound.bound, Bound.noBound}
 use Rattle.scope.specs.Run.{Outcome, Outcome.met, Outcome.missed, Ran}
 use Rattle.scope.specs.Answers as Answers
 use Rattle.scope.specs.Answers.{Answer.given, Answer.refused, Delay}
-use Rattle.checker.specs.Determined.{undone}
+use Rattle.tables.specs.Determined.{undone}
 use Rattle.host.specs.declared.answer.Answer.{Answer}
 use Rattle.host.specs.Told.{told, amount, delay, signed, verdict, response, ended, ran, cAmount, cDelay, cMargin, cVerdict, cBound, cRan}
 

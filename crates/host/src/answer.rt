@@ -1,7 +1,7 @@
-use checker::answer::Amount;
-use checker::answer::Refusal;
+use tables::answer::Amount;
+use tables::answer::Refusal;
 ghost use mathlib.Core.Path.{_≡_};
-ghost use Rattle.checker.specs.Told.{number, place, toldAmount};
+ghost use Rattle.tables.specs.Told.{number, place, toldAmount};
 ghost use Rattle.host.specs.Told.{refusal, cAmount};
 
 // An answer as a code and numbers, for an enum can't cross to C. Numbers that a code has no use for are 0.

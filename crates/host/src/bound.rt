@@ -1,12 +1,12 @@
 use crate::answer::Answer;
 use crate::answer::one;
 use crate::answer::refused;
-use checker::answer::Bound;
-use checker::board::Board;
 use checker::bound::bound;
+use tables::answer::Bound;
+use tables::board::Board;
 ghost use mathlib.Core.Path.{_≡_};
 ghost use Rattle.scope.specs.Answers.{boundAnswer};
-ghost use Rattle.checker.specs.Told.{toldBound};
+ghost use Rattle.tables.specs.Told.{toldBound};
 ghost use Rattle.host.specs.Told.{cBound};
 
 fn bound_answer(b: Bound) -> Answer

@@ -2,14 +2,14 @@ use crate::answer::Answer;
 use crate::answer::amount_answer;
 use crate::answer::one;
 use crate::answer::refused;
-use checker::answer::Margin;
-use checker::answer::magnitude;
-use checker::board::Board;
 use checker::demand::demand;
 use checker::demand::margin;
+use tables::answer::Margin;
+use tables::answer::magnitude;
+use tables::board::Board;
 ghost use mathlib.Core.Path.{_≡_};
 ghost use Rattle.scope.specs.Answers.{demandAnswer, marginAnswer};
-ghost use Rattle.checker.specs.Told.{toldMargin};
+ghost use Rattle.tables.specs.Told.{toldMargin};
 ghost use Rattle.host.specs.Told.{signed, cAmount, cMargin};
 
 fn signed_answer(m: i64) -> Answer

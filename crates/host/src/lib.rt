@@ -3,7 +3,7 @@ pub mod answer;
 pub mod bound;
 pub mod demand;
 pub mod file;
+pub mod least_supply;
 pub mod partition;
 pub mod run;
-pub mod supply;
 pub mod verdict;

@@ -2,15 +2,15 @@ use crate::answer::Answer;
 use crate::answer::amount_answer;
 use crate::answer::refused;
 use crate::answer::two;
-use checker::answer::Delay;
-use checker::board::Board;
-use checker::partition::critical;
-use checker::partition::delay;
-use checker::partition::outage;
+use supply::partition::critical;
+use supply::partition::delay;
+use supply::partition::outage;
+use tables::answer::Delay;
+use tables::board::Board;
 ghost use mathlib.Core.Path.{_≡_};
 ghost use lib.ListN.{length};
 ghost use Rattle.scope.specs.Answers.{criticalAnswer, criticalOut, delayAnswer, outageAnswer};
-ghost use Rattle.checker.specs.Told.{toldDelay};
+ghost use Rattle.tables.specs.Told.{toldDelay};
 ghost use Rattle.host.specs.Told.{cAmount, cDelay};
 
 fn delay_answer(d: Delay) -> Answer

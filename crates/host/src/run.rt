@@ -1,9 +1,9 @@
 use crate::answer::Answer;
 use crate::answer::one;
 use crate::answer::refused;
-use checker::board::Board;
 use machine::run::Ran;
 use machine::run::run;
+use tables::board::Board;
 ghost use mathlib.Core.Path.{_≡_};
 ghost use lib.ListN.{length};
 ghost use Rattle.scope.specs.Answers.{runAnswer, runOut};

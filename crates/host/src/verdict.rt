@@ -1,12 +1,12 @@
 use crate::answer::Answer;
 use crate::answer::one;
 use crate::answer::refused;
-use checker::answer::Verdict;
-use checker::board::Board;
 use checker::verdict::verdict;
+use tables::answer::Verdict;
+use tables::board::Board;
 ghost use mathlib.Core.Path.{_≡_};
 ghost use Rattle.scope.specs.Answers.{verdictAnswer};
-ghost use Rattle.checker.specs.Told.{toldVerdict};
+ghost use Rattle.tables.specs.Told.{toldVerdict};
 ghost use Rattle.host.specs.Told.{cVerdict};
 
 pub(crate) fn verdict_answer(v: Verdict) -> Answer

@@ -19,7 +19,7 @@ use Rattle.scope.specs.Jobs.{Job, jobsOf, releaseOf, taskOf, workOf, inOrder, a
 use Rattle.scope.specs.Answers.{Fault.fine, Fault.fault, Answer.given, Answer.refused, jobListFault, jobFault, runTicksAnswer}
 use Rattle.theory.specs.Numbers.{bool-cases, all-true, true-all, by-lexically}
 use Rattle.theory.specs.Jobs.{JobRule, job-rules}
-use Rattle.checker.proofs.FaultLaws.{breaks-at, breaks-nowhere}
+use Rattle.tables.proofs.FaultLaws.{breaks-at, breaks-nowhere}
 use Rattle.machine.specs.Relation.{Jobs, freeAt, FreeTable}
 
 -- ---- the job list and the ticks, refusal 10

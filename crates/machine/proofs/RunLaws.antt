@@ -14,7 +14,7 @@ use Rattle.scope.specs.Run.{ran}
 use Rattle.scope.specs.Answers.{Fault, Fault.fine, Fault.fault, _orElse_, tableFault, groupFault, jobListFault, jobFault, roomFault, runFault, runAnswer}
 use Rattle.theory.specs.Lists.{pieces-length}
 use Rattle.theory.specs.Answers.{LegalTable, run-given}
-use Rattle.checker.proofs.FaultLaws.{or-assoc, given-by}
+use Rattle.tables.proofs.FaultLaws.{or-assoc, given-by}
 use Rattle.machine.specs.Relation.{Tasks, Jobs}
 use Rattle.machine.proofs.Reading.{tasks-of}
 use Rattle.machine.proofs.Legality.{jobs-of}

@@ -14,11 +14,11 @@ use Rattle.scope.specs.Demands.{Under, Way, Served}
 use Rattle.scope.specs.Examples.{X}
 use Rattle.theory.specs.Answers.{orElse-fine, unless-given, run-given}
 use Rattle.theory.specs.Applied.{w6, w7, w13, w6-misses, w7-meets, w13-runs}
-use Rattle.checker.specs.declared.board.Board.{Board}
-use Rattle.checker.specs.declared.answer.Verdict.{Verdict}
-use Rattle.checker.specs.declared.answer.Verdict.the-variants.{Meets, Miss}
-use Rattle.checker.specs.Told.{boardOf, toldVerdict}
-use Rattle.checker.specs.Determined.{verdict-determined}
+use Rattle.tables.specs.declared.board.Board.{Board}
+use Rattle.tables.specs.declared.answer.Verdict.{Verdict}
+use Rattle.tables.specs.declared.answer.Verdict.the-variants.{Meets, Miss}
+use Rattle.tables.specs.Told.{boardOf, toldVerdict}
+use Rattle.tables.specs.Determined.{verdict-determined}
 use Rattle.machine.specs.declared.run.Ran.{Ran}
 use Rattle.machine.specs.declared.run.Ran.the-variants.{Met}
 use Rattle.machine.specs.Told.{toldRan}

@@ -22,12 +22,12 @@ use Rattle.theory.specs.Exact.{exact-meets, exact-miss}
 use Rattle.theory.specs.Edf.{edf-meets, edf-every}
 use Rattle.theory.specs.Starved.{starved}
 use Rattle.theory.specs.Refused.{run-kept}
-use Rattle.checker.specs.declared.board.Board.{Board}
-use Rattle.checker.specs.declared.answer.Refusal.{Refusal}
-use Rattle.checker.specs.declared.answer.Verdict.{Verdict}
-use Rattle.checker.specs.declared.answer.Verdict.the-variants.{Meets, Miss}
-use Rattle.checker.specs.Told.{number, place, boardOf, toldVerdict}
-use Rattle.checker.specs.Determined.{verdict-determined}
+use Rattle.tables.specs.declared.board.Board.{Board}
+use Rattle.tables.specs.declared.answer.Refusal.{Refusal}
+use Rattle.tables.specs.declared.answer.Verdict.{Verdict}
+use Rattle.tables.specs.declared.answer.Verdict.the-variants.{Meets, Miss}
+use Rattle.tables.specs.Told.{number, place, boardOf, toldVerdict}
+use Rattle.tables.specs.Determined.{verdict-determined}
 use Rattle.machine.specs.declared.run.Ran.{Ran}
 use Rattle.machine.specs.declared.run.Ran.the-variants.{Met, Refused}
 use Rattle.machine.specs.Told.{toldRan}

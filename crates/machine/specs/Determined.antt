@@ -2,7 +2,7 @@
 use Prim.Native.Nat.{ℕ}
 use mathlib.Core.Path.{_≡_, refl, ap}
 use Rattle.scope.specs.Run as Runs
-use Rattle.checker.specs.Determined.{undone, made, refusal-back}
+use Rattle.tables.specs.Determined.{undone, made, refusal-back}
 use Rattle.machine.specs.declared.check.MadeRun as madeRun
 use Rattle.machine.specs.declared.run.Ran.{Ran}
 use Rattle.machine.specs.declared.run.Ran.the-variants.{Met, Missed, Refused}

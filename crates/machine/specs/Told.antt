@@ -2,7 +2,7 @@
 use Prim.Native.Nat.{ℕ}
 use Rattle.scope.specs.Run as Runs
 use Rattle.scope.specs.Answers.{Answer, Answer.given}
-use Rattle.checker.specs.Told.{no}
+use Rattle.tables.specs.Told.{no}
 use Rattle.machine.specs.declared.check.MadeRun as madeRun
 use Rattle.machine.specs.declared.run.Ran.{Ran}
 use Rattle.machine.specs.declared.run.Ran.the-variants.{Met, Missed, Refused}

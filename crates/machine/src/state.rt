@@ -1,6 +1,6 @@
 use crate::check::Run;
 use crate::pending::Pending;
-use checker::task::Task;
+use tables::task::Task;
 ghost use mathlib.Core.Path.{_≡_};
 ghost use Prim.Native.Nat.{_+_, _<_};
 ghost use Rattle.scope.specs.Limits.{mostTasks, mostJobs};

@@ -8,9 +8,9 @@ use Rattle.scope.specs.Verdict.{Verdict}
 use Rattle.scope.specs.Answers.{Answer, roomFault}
 use Rattle.scope.specs.Line.{line, lineAnswer}
 use Rattle.theory.specs.Answers.{faultIf-fine, unless-given}
-use Rattle.checker.specs.declared.answer.Amount.{Amount}
-use Rattle.checker.specs.declared.answer.Amount.the-variants.{Of}
-use Rattle.checker.specs.Told.{toldAmount}
+use Rattle.tables.specs.declared.answer.Amount.{Amount}
+use Rattle.tables.specs.declared.answer.Amount.the-variants.{Of}
+use Rattle.tables.specs.Told.{toldAmount}
 
 pub line-fits : (a : Answer Verdict) (room : ℕ) (r : Amount) (n : ℕ) → toldAmount r ≡ lineAnswer a room → r ≡ Of n → n ≤ room
 unfolding lineAnswer roomFault

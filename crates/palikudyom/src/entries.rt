@@ -11,18 +11,17 @@ use crate::stream::bytes;
 use crate::stream::list;
 use crate::stream::records;
 use crate::stream::room;
-use checker::answer::Amount;
-use checker::answer::Bound;
-use checker::answer::Margin;
-use checker::answer::Verdict;
-use checker::board::Board;
 use checker::bound;
 use checker::demand;
-use checker::partition;
-use checker::supply;
 use checker::verdict;
 use machine::run;
 use plan::check::check_plan;
+use supply::partition;
+use tables::answer::Amount;
+use tables::answer::Bound;
+use tables::answer::Margin;
+use tables::answer::Verdict;
+use tables::board::Board;
 ghost use mathlib.Core.Path.{_≡_};
 ghost use Prim.Native.Nat.{_≤_};
 ghost use lib.ListN.{length};
@@ -88,7 +87,7 @@ pub(crate) fn least_supply(stream: &[u8], from: Cursor) -> Cursor {
         let m = w.count;
         lines::amount(
             b"AMOUNT ",
-            supply::least_supply(board, &windows[..m], length.value),
+            supply::supply::least_supply(board, &windows[..m], length.value),
         );
     }
     end

@@ -1,15 +1,15 @@
 // The printed lines, one for each answer.
-use checker::answer::Amount;
-use checker::answer::Bound;
-use checker::answer::Delay;
-use checker::answer::Margin;
-use checker::answer::Refusal;
-use checker::answer::Verdict;
-use checker::answer::magnitude;
 use libc::STDOUT_FILENO;
 use machine::run::Ran;
 use plan::line::MOST;
 use plan::line::line;
+use tables::answer::Amount;
+use tables::answer::Bound;
+use tables::answer::Delay;
+use tables::answer::Margin;
+use tables::answer::Refusal;
+use tables::answer::Verdict;
+use tables::answer::magnitude;
 
 fn word(text: &[u8]) {
     io::write_all(STDOUT_FILENO, text);

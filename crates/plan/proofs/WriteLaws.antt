@@ -6,7 +6,7 @@ use Rattle.scope.specs.Limits.{mostWindows, mostTasks}
 use Rattle.scope.specs.Answers.{Fault, Fault.fine, Fault.fault, _orElse_, windowListFault, taskListFault, roomFault}
 use Rattle.scope.specs.Plan.{Plan, planBytes, writeFault}
 use Rattle.theory.specs.Answers.{orElse-fine, window-list-legal, task-list-legal}
-use Rattle.checker.proofs.FaultLaws.{or-assoc, or-fault, or-fine}
+use Rattle.tables.proofs.FaultLaws.{or-assoc, or-fault, or-fine}
 
 abbrev pub listsFault : Plan → Fault
 listsFault p = windowListFault (p .windows) orElse taskListFault (p .tasks)

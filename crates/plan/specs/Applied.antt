@@ -15,10 +15,10 @@ use Rattle.scope.specs.Plan.{Plan, groups, wellFormed, readNumber, readNumbers,
 use Rattle.scope.specs.Demands.{LeastMiss, Way, Served}
 use Rattle.scope.specs.Examples.{X, on}
 use Rattle.theory.specs.Applied.{w6, w7, w13, w6-misses, w7-meets, w6-plan, w6-file, w6-reads}
-use Rattle.checker.specs.declared.answer.Verdict.{Verdict}
-use Rattle.checker.specs.declared.answer.Verdict.the-variants.{Meets, Miss}
-use Rattle.checker.specs.Told.{toldVerdict}
-use Rattle.checker.specs.Determined.{verdict-determined}
+use Rattle.tables.specs.declared.answer.Verdict.{Verdict}
+use Rattle.tables.specs.declared.answer.Verdict.the-variants.{Meets, Miss}
+use Rattle.tables.specs.Told.{toldVerdict}
+use Rattle.tables.specs.Determined.{verdict-determined}
 use Rattle.machine.specs.declared.run.Ran.{Ran}
 use Rattle.machine.specs.declared.run.Ran.the-variants.{Met}
 use Rattle.machine.specs.Told.{toldRan}

@@ -17,13 +17,13 @@ use Rattle.scope.specs.Plan.{Plan, planOf, planAnswer, andThen, writeAnswer, wr
 use Rattle.scope.specs.Line.{lineAnswer, lineOut}
 use Rattle.scope.specs.Demands.{LeastMiss, Under, Way, Served}
 use Rattle.theory.specs.Refused.{line-kept, write-kept}
-use Rattle.checker.specs.declared.board.Board.{Board}
-use Rattle.checker.specs.declared.answer.Refusal.{Refusal}
-use Rattle.checker.specs.declared.answer.Amount.{Amount}
-use Rattle.checker.specs.declared.answer.Amount.the-variants.{Refused}
-use Rattle.checker.specs.declared.answer.Verdict.{Verdict}
-use Rattle.checker.specs.declared.answer.Verdict.the-variants.{Meets, Miss}
-use Rattle.checker.specs.Told.{number, place, boardOf, toldAmount, toldVerdict}
+use Rattle.tables.specs.declared.board.Board.{Board}
+use Rattle.tables.specs.declared.answer.Refusal.{Refusal}
+use Rattle.tables.specs.declared.answer.Amount.{Amount}
+use Rattle.tables.specs.declared.answer.Amount.the-variants.{Refused}
+use Rattle.tables.specs.declared.answer.Verdict.{Verdict}
+use Rattle.tables.specs.declared.answer.Verdict.the-variants.{Meets, Miss}
+use Rattle.tables.specs.Told.{number, place, boardOf, toldAmount, toldVerdict}
 use Rattle.machine.specs.declared.run.Ran.{Ran}
 use Rattle.machine.specs.declared.run.Ran.the-variants.{Met}
 use Rattle.machine.specs.Told.{toldRan}

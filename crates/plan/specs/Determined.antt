@@ -2,7 +2,7 @@
 use Prim.Native.Nat.{ℕ}
 use mathlib.Core.Path.{_≡_, refl}
 use Rattle.scope.specs.Plan.{Read, Read.read, Read.bad}
-use Rattle.checker.specs.Determined.{undone}
+use Rattle.tables.specs.Determined.{undone}
 use Rattle.plan.specs.declared.number.Number.{Number}
 use Rattle.plan.specs.declared.number.Number.the-variants.{Is, Bad}
 use Rattle.plan.specs.Told.{toldNumber}

@@ -10,11 +10,11 @@ use Rattle.scope.specs.Plan.{planAnswer}
 use Rattle.scope.specs.Line.{bytes, line, lineAnswer, lineOut}
 use Rattle.scope.specs.Examples.{Reply.text, reply, table, examples}
 use Rattle.theory.specs.Applied.{w6-file}
-use Rattle.checker.specs.declared.answer.Verdict.{Verdict}
-use Rattle.checker.specs.declared.answer.Amount.{Amount}
-use Rattle.checker.specs.declared.answer.Amount.the-variants.{Of}
-use Rattle.checker.specs.Told.{toldAmount, toldVerdict}
-use Rattle.checker.specs.Determined.{amount-determined}
+use Rattle.tables.specs.declared.answer.Verdict.{Verdict}
+use Rattle.tables.specs.declared.answer.Amount.{Amount}
+use Rattle.tables.specs.declared.answer.Amount.the-variants.{Of}
+use Rattle.tables.specs.Told.{toldAmount, toldVerdict}
+use Rattle.tables.specs.Determined.{amount-determined}
 
 abbrev printed : List ℕ
 printed = bytes "MISS length 6 start 2 demand 3 supply 2\n"

@@ -2,19 +2,19 @@ use crate::number::Number;
 use crate::number::Numbers;
 use crate::number::read_number;
 use crate::number::read_numbers;
-use checker::answer::Refusal;
-use checker::answer::Verdict;
-use checker::board::Board;
-use checker::task::Task;
 use checker::verdict::verdict;
-use checker::window::Window;
+use tables::answer::Refusal;
+use tables::answer::Verdict;
+use tables::board::Board;
+use tables::task::Task;
+use tables::window::Window;
 ghost use mathlib.Core.Path.{_≡_};
 ghost use Prim.Native.Nat.{_+_};
 ghost use lib.ListN.{replicate};
 ghost use Rattle.scope.specs.Answers.{Answer.refused};
 ghost use Rattle.scope.specs.Plan.{andThen, windowsFrom, tasksFrom, planAnswer};
 ghost use Rattle.theory.specs.Plan.{mostPlanBytes};
-ghost use Rattle.checker.specs.Told.{toldVerdict};
+ghost use Rattle.tables.specs.Told.{toldVerdict};
 ghost use Rattle.plan.specs.Parts.{judged};
 
 // The bytes of the longest plan: P has at most five, the two counts have one each, and each number of a window or a task has at most five.

@@ -2,9 +2,9 @@
 use crate::text::deliver;
 use crate::text::put;
 use crate::text::put_decimal;
-use checker::answer::Amount;
-use checker::answer::Refusal;
-use checker::answer::Verdict;
+use tables::answer::Amount;
+use tables::answer::Refusal;
+use tables::answer::Verdict;
 ghost use mathlib.Core.Path.{_≡_};
 ghost use mathlib.Core.List.{_++_};
 ghost use Prim.Native.Nat.{_+_, _≤_};
@@ -12,7 +12,7 @@ ghost use lib.ListN.{length};
 ghost use Rattle.scope.specs.Verdict as Verdicts;
 ghost use Rattle.scope.specs.Answers.{Answer.given};
 ghost use Rattle.scope.specs.Line.{decimal, line as lineBy, lineAnswer, lineOut};
-ghost use Rattle.checker.specs.Told.{no, toldAmount, toldVerdict};
+ghost use Rattle.tables.specs.Told.{no, toldAmount, toldVerdict};
 ghost use Rattle.plan.specs.Put.{Put};
 
 // A line has at most 36 bytes of words and four numbers of 20 digits.

@@ -1,13 +1,13 @@
 // Text in a buffer: each writer stores its bytes from an offset on and answers the offset after them.
-use checker::answer::Amount;
-use checker::answer::Refusal;
+use tables::answer::Amount;
+use tables::answer::Refusal;
 ghost use mathlib.Core.Path.{_≡_};
 ghost use Prim.Native.Nat.{_+_, _≤_};
 ghost use lib.ListN.{length};
 ghost use Rattle.scope.specs.Numbers.{written};
 ghost use Rattle.scope.specs.Line.{decimal};
 ghost use Rattle.scope.specs.Answers.{roomFault, unless, unlessKept};
-ghost use Rattle.checker.specs.Told.{toldAmount};
+ghost use Rattle.tables.specs.Told.{toldAmount};
 ghost use Rattle.plan.specs.Put.{Put};
 
 pub(crate) fn put(out: &mut [u8], at: usize, text: &[u8]) -> usize

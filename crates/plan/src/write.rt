@@ -1,18 +1,18 @@
 // The bytes of a plan. Document 01, "The plan file and its line".
 use crate::check::LONGEST;
 use crate::text::deliver;
-use checker::answer::Amount;
-use checker::answer::Checked;
-use checker::task::Task;
-use checker::task::check_task_list;
-use checker::window::Window;
-use checker::window::check_window_list;
+use tables::answer::Amount;
+use tables::answer::Checked;
+use tables::task::Task;
+use tables::task::check_task_list;
+use tables::window::Window;
+use tables::window::check_window_list;
 ghost use mathlib.Core.Path.{_≡_};
 ghost use mathlib.Core.List.{_++_};
 ghost use Prim.Native.Nat.{_+_, _*_, _/_, _≤_, _<_};
 ghost use lib.ListN.{length};
 ghost use Rattle.scope.specs.Plan.{numberBytes, numbersBytes, planBytes, writeAnswer, writeOut};
-ghost use Rattle.checker.specs.Told.{toldAmount};
+ghost use Rattle.tables.specs.Told.{toldAmount};
 ghost use Rattle.plan.specs.Put.{Put};
 
 // Seven bits a byte, the low ones first, the top bit set on every byte but the last.

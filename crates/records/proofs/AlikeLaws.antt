@@ -10,9 +10,9 @@ use lib.Seq.{length-take-le, take-all}
 use Rattle.scope.specs.Limits.{mostTasks}
 use Rattle.scope.specs.Windows.{Board}
 use Rattle.scope.specs.Answers.{Fault, Fault.fine, Fault.fault, _orElse_, unless, unlessKept, taskListFault, tableFault, groupFault, demandAnswer, marginAnswer, verdictAnswer, boundAnswer, runFault, runAnswer, runOut}
-use Rattle.checker.specs.declared.task.Task.{Task}
-use Rattle.checker.proofs.FaultLaws.{or-fault}
-use Rattle.checker.proofs.TaskLaws.{too-many}
+use Rattle.tables.specs.declared.task.Task.{Task}
+use Rattle.tables.proofs.FaultLaws.{or-fault}
+use Rattle.tables.proofs.TaskLaws.{too-many}
 use Rattle.records.specs.declared.flat.Flat.{Flat}
 use Rattle.records.specs.Numbers.{numbersOf, enoughNumbers}
 use Rattle.records.proofs.NumberLaws.{numbers-length}

@@ -33,10 +33,10 @@ use denote.Triple.Statement.{Contract, Triple}
 use denote.Triple.Clauses.{Ended, Clauses, ensured, lasts, closing}
 use denote.Triple.Walked.{Stays, stay-none, stay-none-slice, walkOf, goes-none, goes-none-slice, Walks, ends-at, walked, walk-meets}
 use denote.Exit.{yes}
-use Rattle.checker.specs.declared.board.Board.{Board}
-use Rattle.checker.proofs.board.Board as B
-use Rattle.checker.proofs.board.Board.Laws as B′
-use Rattle.checker.proofs.task.Task as tasks
+use Rattle.tables.specs.declared.board.Board.{Board}
+use Rattle.tables.proofs.board.Board as B
+use Rattle.tables.proofs.board.Board.Laws as B′
+use Rattle.tables.proofs.task.Task as tasks
 use Rattle.records.specs.Numbers.{numbersOf, enoughNumbers}
 use Rattle.records.proofs.FlatLaws.{front}
 use Rattle.records.proofs.AlikeLaws.{Alike, flattened-alike}

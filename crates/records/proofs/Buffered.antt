@@ -24,8 +24,8 @@ use denote.Ref.{RefT}
 use denote.Slice.{ShrSlice, MutSlice, sliceTy, sliceVal, finally, shr-slice-copy}
 use denote.Steps.{owned, heard, nothing}
 use Rattle.scope.specs.Answers.{runAnswer, runOut}
-use Rattle.checker.specs.declared.board.Board.{Board}
-use Rattle.checker.specs.Told.{boardOf}
+use Rattle.tables.specs.declared.board.Board.{Board}
+use Rattle.tables.specs.Told.{boardOf}
 use Rattle.machine.specs.declared.run.Ran.{Ran}
 use Rattle.machine.specs.Told.{toldRan}
 use Rattle.records.proofs.Carried.{Carried}

@@ -10,7 +10,7 @@ use lib.Seq.{length-take-le, take-suc-set, take-all, take-nil}
 use mir.Val.{Val}
 use denote.Laws.{Is}
 use denote.Struct.Laws as LL
-use Rattle.checker.specs.declared.task.Task.{Task}
+use Rattle.tables.specs.declared.task.Task.{Task}
 use Rattle.records.specs.declared.flat.Flat.{Flat}
 use Rattle.records.specs.Numbers.{numbersOf, enoughRecords, enoughNumbers}
 use Rattle.records.proofs.flat.Flat as F

@@ -10,8 +10,8 @@ use Rattle.scope.specs.Limits.{mostTasks}
 use Rattle.scope.specs.Tasks.{task, tasksOf, taskAt}
 use Rattle.scope.specs.Answers.{faultIf, taskListFault}
 use Rattle.theory.specs.Lists.{pieces-length, whole-count}
-use Rattle.checker.specs.Told.{taskOf}
-use Rattle.checker.specs.declared.task.Task.{Task}
+use Rattle.tables.specs.Told.{taskOf}
+use Rattle.tables.specs.declared.task.Task.{Task}
 use Rattle.records.specs.Numbers.{numbersOf}
 
 -- what lies past the end

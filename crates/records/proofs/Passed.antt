@@ -33,11 +33,11 @@ use denote.Triple.Spec.{tripleOf}
 use denote.Triple.Statement.{Contract}
 use denote.Triple.Clauses.{ensured, lasts}
 use denote.Triple.Walked.{says}
-use Rattle.checker.specs.declared.board.Board.{Board}
-use Rattle.checker.specs.declared.task.Task.{Task}
-use Rattle.checker.proofs.board.Board as B
-use Rattle.checker.proofs.board.Board.Laws as B′
-use Rattle.checker.proofs.task.Task as T
+use Rattle.tables.specs.declared.board.Board.{Board}
+use Rattle.tables.specs.declared.task.Task.{Task}
+use Rattle.tables.proofs.board.Board as B
+use Rattle.tables.proofs.board.Board.Laws as B′
+use Rattle.tables.proofs.task.Task as T
 use Rattle.records.specs.declared.flat.Flat.{Flat}
 use Rattle.records.specs.Numbers.{enoughNumbers}
 use Rattle.records.proofs.FlatLaws.{Flattened}

@@ -14,8 +14,8 @@ use Rattle.scope.specs.Answers.{Fault, Fault.fine, Fault.fault, Answer, faultIf
 use Rattle.theory.specs.Numbers.{sum-le, sum-same, first-none, first-some, some-first}
 use Rattle.theory.specs.Answers.{task-list-legal}
 use Rattle.theory.specs.Tasks.{demand-sum}
-use Rattle.checker.specs.Told.{taskOf}
-use Rattle.checker.specs.declared.task.Task as records
+use Rattle.tables.specs.Told.{taskOf}
+use Rattle.tables.specs.declared.task.Task as records
 use Rattle.records.specs.Numbers.{numbersOf}
 use Rattle.records.specs.Sums.{beginOf, addOf, finishOf, Roomy}
 use Rattle.records.proofs.NumberLaws as numbers

@@ -14,16 +14,16 @@ use Rattle.scope.specs.Jobs.{Job, jobsOf, taskOf, deadline, badJob}
 use Rattle.scope.specs.Run.{countOf}
 use Rattle.scope.specs.Answers.{Answer.given, Fault.fine, _orElse_, jobListFault, jobFault, roomFault, demandAnswer, marginAnswer, verdictAnswer, boundAnswer, runAnswer, runOut}
 use Rattle.scope.specs.Demands.{LeastMiss, Under, Way, Served}
-use Rattle.checker.specs.declared.board.Board.{Board}
-use Rattle.checker.specs.declared.task.Task.{Task}
-use Rattle.checker.specs.declared.answer.Refusal.{Refusal}
-use Rattle.checker.specs.declared.answer.Amount.{Amount}
-use Rattle.checker.specs.declared.answer.Margin.{Margin}
-use Rattle.checker.specs.declared.answer.Bound.{Bound}
-use Rattle.checker.specs.declared.answer.Verdict.{Verdict}
-use Rattle.checker.specs.declared.answer.Verdict.the-variants.{Meets, Miss}
-use Rattle.checker.specs.Told.{boardOf, toldAmount, toldMargin, toldVerdict, toldBound}
-use Rattle.checker.specs.Determined.{amount-determined, margin-determined, verdict-determined, bound-determined}
+use Rattle.tables.specs.declared.board.Board.{Board}
+use Rattle.tables.specs.declared.task.Task.{Task}
+use Rattle.tables.specs.declared.answer.Refusal.{Refusal}
+use Rattle.tables.specs.declared.answer.Amount.{Amount}
+use Rattle.tables.specs.declared.answer.Margin.{Margin}
+use Rattle.tables.specs.declared.answer.Bound.{Bound}
+use Rattle.tables.specs.declared.answer.Verdict.{Verdict}
+use Rattle.tables.specs.declared.answer.Verdict.the-variants.{Meets, Miss}
+use Rattle.tables.specs.Told.{boardOf, toldAmount, toldMargin, toldVerdict, toldBound}
+use Rattle.tables.specs.Determined.{amount-determined, margin-determined, verdict-determined, bound-determined}
 use Rattle.machine.specs.declared.run.Ran.{Ran}
 use Rattle.machine.specs.declared.run.Ran.the-variants.{Met, Refused}
 use Rattle.machine.specs.Told.{toldRan}

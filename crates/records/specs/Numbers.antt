@@ -2,7 +2,7 @@
 use Prim.Native.Nat.{ℕ, suc, _*_}
 use mathlib.Core.List.{List, [], _∷_}
 use Rattle.scope.specs.Limits.{mostTasks}
-use Rattle.checker.specs.declared.task.Task.{Task}
+use Rattle.tables.specs.declared.task.Task.{Task}
 
 unfoldable pub numbersOf : List Task → List ℕ
 numbersOf [] = []

@@ -1,19 +1,19 @@
 use crate::flat::Flat;
 use crate::flat::flatten;
-use checker::answer::Amount;
-use checker::answer::Margin;
-use checker::answer::Refusal;
-use checker::board::Board;
-use checker::length::Length;
-use checker::length::MadeLength;
-use checker::task::Task;
-use checker::task::is_task;
+use tables::answer::Amount;
+use tables::answer::Margin;
+use tables::answer::Refusal;
+use tables::board::Board;
+use tables::length::Length;
+use tables::length::MadeLength;
+use tables::task::Task;
+use tables::task::is_task;
 ghost use mathlib.Core.Path.{_≡_};
 ghost use Prim.Native.Nat.{_≤_};
 ghost use lib.ListN.{take};
 ghost use Rattle.scope.specs.Tasks.{task, taskDemand};
 ghost use Rattle.scope.specs.Answers.{demandAnswer, marginAnswer};
-ghost use Rattle.checker.specs.Told.{boardOf, toldAmount, toldMargin};
+ghost use Rattle.tables.specs.Told.{boardOf, toldAmount, toldMargin};
 ghost use Rattle.records.specs.Numbers.{numbersOf, enoughNumbers};
 ghost use Rattle.records.specs.Sums.{beginOf, addOf, finishOf, Roomy};
 

@@ -1,13 +1,13 @@
 use crate::flat::Flat;
 use crate::flat::flatten;
-use checker::answer::Verdict;
-use checker::board::Board;
-use checker::task::Task;
+use tables::answer::Verdict;
+use tables::board::Board;
+use tables::task::Task;
 ghost use mathlib.Core.Path.{_≡_};
 ghost use Prim.Native.Nat.{_≤_};
 ghost use lib.ListN.{take};
 ghost use Rattle.scope.specs.Answers.{verdictAnswer};
-ghost use Rattle.checker.specs.Told.{boardOf, toldVerdict};
+ghost use Rattle.tables.specs.Told.{boardOf, toldVerdict};
 ghost use Rattle.records.specs.Numbers.{numbersOf, enoughNumbers};
 
 // The verdict of a group's first numbers.

@@ -9,7 +9,7 @@ use native.Mathlib.Numerals.{add-one}
 use native.Mathlib.Nat.{add-div-right, div-eq-of-lt, div-zero, mod-zero}
 use native.Mathlib.Decide.{decLt}
 use lib.Dec.{ltb, eqb}
-use lib.ListN.{length, getD, take, drop, length-append, length-drop, take-append-drop, List·getD-append}
+use lib.ListN.{length, getD, take, drop, length-append, length-drop, take-append-drop, List·getD-append, List·getD-eq-default}
 use lib.Seq.{getD-at, length-take-le}
 use borrow.Author.Tests.{lt-ltb, le-ltb, ltb-false, eqb-true, eq-eqb, ne-eqb, not-false}
 use Rattle.scope.specs.Numbers.{Of, piecesFrom, pieces, badCount, keep}
@@ -88,6 +88,10 @@ pieces-length A zero f (a ∷ l) = sym (div-zero (suc (length l)))
 pieces-length A (suc k) f l =
     let e : length l + (suc k - suc k) ≡ length l = omega arith in
     from-length A (suc k) f l (suc k) f (omega arith) (omega arith) ∙ ap (λ (n : ℕ). n / suc k) e
+
+-- past the last of them
+pub piece-past : {A : Type 0} (k : ℕ) (f : Of k A) (d : A) (l : List ℕ) (i : ℕ) → length l / k ≤ i → getD (pieces k f l) i d ≡ d
+piece-past {A} k f d l i h = List·getD-eq-default (pieces k f l) d (omega (arith, pieces-length A k f l))
 
 module _ (A : Type 0) (k : ℕ) (f : Of k A) (some : 0 < k) where
   -- piece i is made of the k numbers from place k · i on

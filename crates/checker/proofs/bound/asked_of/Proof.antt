@@ -3,8 +3,8 @@ use Rattle.scope.specs.Limits.{mostTasks, mostOfTask, mostLength}
 use Rattle.scope.specs.Tasks.{Task, task, tasksOf, taskAt}
 use Rattle.theory.specs.Lists.{pieces-length}
 use Rattle.theory.specs.Tasks.{TaskRule}
-use Rattle.checker.specs.Told.{taskOf}
-use Rattle.checker.proofs.TaskLaws.{read-rule}
+use Rattle.tables.specs.Told.{taskOf}
+use Rattle.tables.proofs.TaskLaws.{read-rule}
 use Rattle.checker.proofs.BoundLaws.{askedBy, askedTo, askedTo-none, askedTo-next, askedTo-whole, asked-most, askedTo-most}
 use native.Mathlib.Omega.{arith}
 use Prim.Native.Nat.{ℕ, _+_, _-_, _*_, _≤_}
@@ -14,7 +14,7 @@ use Rattle.checker.proofs.bound.asked_of.Tie as tie
 use Rattle.checker.proofs.bound.asked_of.Reads as reads
 use Rattle.checker.proofs.bound.asked_of.Lts as lts
 use Rattle.checker.proofs.bound.rounded_up.Reads as rounded-up-reads
-use Rattle.checker.proofs.task.task_at.Reads as task-at-reads
+use Rattle.tables.proofs.task.task_at.Reads as task-at-reads
 
 abbrev Inv-loop : tie.InvT-loop
 Inv-loop tasks index length sum₀ j₀ sum j = (j ≤ index) × (sum ≡ askedTo (tasksOf tasks) index length j)
@@ -23,7 +23,7 @@ abbrev μ-loop : tie.MeasureT-loop
 μ-loop tasks index length sum₀ j₀ sum j = index - j
 
 task-at-requires : tie.Need-task-at-requires Inv-loop μ-loop
-task-at-requires c κs = omega (arith, pieces-length _ 3 task (c .before .args .tasks .now))
+task-at-requires c κs = search needs
 
 cast-sum : tie.Need-cast-sum Inv-loop μ-loop
 cast-sum c = search needs
@@ -32,7 +32,7 @@ loop-holds : tie.Need-loop-holds Inv-loop μ-loop
 loop-holds c = (omega arith, ap (λ (x : Task). x .C) (c .before .task-at .ensures) ∙ sym (askedTo-none _ _ _))
 
 task-at-requires-2 : tie.Need-task-at-requires-2 Inv-loop μ-loop
-task-at-requires-2 c κs = omega (arith, pieces-length _ 3 task (c .before .before .before .before .before .args .tasks .now))
+task-at-requires-2 c κs = search needs
 
 -- the task just read keeps its rule
 rule : (c : tie.After-task-at2 Inv-loop μ-loop) → TaskRule (taskOf (c .task-at2 .result))

@@ -1,5 +1,5 @@
 use Rattle.checker.proofs.BoundLaws.{bound-refused, bound-absent, bound-given}
-use Rattle.checker.specs.Told.{boardOf, faultOf}
+use Rattle.tables.specs.Told.{boardOf, faultOf}
 use Rattle.theory.specs.Answers.{checked-legal}
 use Rattle.theory.specs.Lists.{pieces-length}
 use Rattle.scope.specs.Answers.{Fault.fine, _orElse_, tableFault, groupFault}
@@ -12,7 +12,7 @@ use Rattle.checker.proofs.bound.bound.Tie as tie
 use Rattle.checker.proofs.bound.bound.Reads as reads
 use Rattle.checker.proofs.bound.bound.Lts as lts
 use Rattle.checker.proofs.bound.response_of.Reads as response-of-reads
-use Rattle.checker.proofs.task.check_group.Reads as check-group-reads
+use Rattle.tables.proofs.task.check_group.Reads as check-group-reads
 
 check-group-requires : tie.Need-check-group-requires
 check-group-requires c κs = search needs
@@ -31,7 +31,7 @@ group-fine c = sym (c .before .before .check-group .ensures) ∙ ap faultOf (c .
 response-of-requires : tie.Need-response-of-requires
 response-of-requires c κs =
     let k = checked-legal _ _ _ (group-fine (c .before)) in
-    (k .0 .frame, k .0 .frame-most, k .1, omega (arith, pieces-length _ 3 task (c .before .before .before .before .before .before .args .tasks .now)))
+    (k .1, omega (arith, pieces-length _ 3 task (c .before .before .before .before .before .before .args .tasks .now)))
 
 returns : tie.Need-returns
 returns c = bound-refused _ _ _ _ (sym (c .before .before .before .check-group .ensures) ∙ ap faultOf (c .before .r .given .1))

@@ -4,8 +4,8 @@ use Rattle.scope.specs.Windows.{suppliedBy}
 use Rattle.scope.specs.Tasks.{Task, task, tasksOf, taskAt}
 use Rattle.scope.specs.Answers.{Answer.given}
 use Rattle.theory.specs.Lists.{pieces-length}
-use Rattle.checker.specs.Told.{boardOf}
-use Rattle.checker.proofs.TaskLaws.{read-rule}
+use Rattle.tables.specs.Told.{boardOf}
+use Rattle.tables.proofs.TaskLaws.{read-rule}
 use Rattle.checker.proofs.BoundLaws.{Short, short-first, short-next, bound-found, no-bound-found}
 use native.Mathlib.Omega.{arith}
 use Prim.Native.Nat.{_+_, _-_, _≤_}
@@ -15,8 +15,8 @@ use Rattle.checker.proofs.bound.response_of.Tie as tie
 use Rattle.checker.proofs.bound.response_of.Reads as reads
 use Rattle.checker.proofs.bound.response_of.Lts as lts
 use Rattle.checker.proofs.bound.asked_of.Reads as asked-of-reads
-use Rattle.checker.proofs.supply.least_of.Reads as least-of-reads
-use Rattle.checker.proofs.task.task_at.Reads as task-at-reads
+use Rattle.supply.proofs.supply.least_of.Reads as least-of-reads
+use Rattle.tables.proofs.task.task_at.Reads as task-at-reads
 
 abbrev Inv-loop : tie.InvT-loop
 Inv-loop board windows tasks index deadline length₀ length =
@@ -26,7 +26,7 @@ abbrev μ-loop : tie.MeasureT-loop
 μ-loop board windows tasks index deadline length₀ length = deadline + 1 - length
 
 task-at-requires : tie.Need-task-at-requires Inv-loop μ-loop
-task-at-requires c κs = omega (arith, pieces-length _ 3 task (c .before .before .args .tasks .now))
+task-at-requires c κs = search needs
 
 -- the deadline is the task's, and small
 due : (c : tie.After-task-at Inv-loop μ-loop) → let a = c .before .before .before .args in
@@ -34,21 +34,20 @@ due : (c : tie.After-task-at Inv-loop μ-loop) → let a = c .before .before .be
 due c =
     let a = c .before .before .before in (
       ap (λ (x : Task). x .D) (c .task-at .ensures),
-      read-rule (a .args .tasks .now) (a .args .index) _ (a .pre .2) (omega (arith, pieces-length _ 3 task (a .args .tasks .now))) (c .task-at .ensures) .due-most,
+      read-rule (a .args .tasks .now) (a .args .index) _ (a .pre .0)
+          (omega (arith, pieces-length _ 3 task (a .args .tasks .now))) (c .task-at .ensures) .due-most,
     )
 
 loop-holds : tie.Need-loop-holds Inv-loop μ-loop
 loop-holds c = (omega arith, omega arith, short-first _ _ _ _)
 
 least-of-requires : tie.Need-least-of-requires Inv-loop μ-loop
-least-of-requires c κs =
-    let p = c .before .before .before .before .before .pre in
-    (p .0, p .1, omega (arith, due (c .before .before)))
+least-of-requires c κs = search needs
 
 asked-of-requires : tie.Need-asked-of-requires Inv-loop μ-loop
 asked-of-requires c κs =
     let p = c .before .before .before .before .before .before .pre in
-    (p .2, p .3, omega (arith, due (c .before .before .before)))
+    (p .0, p .1, omega (arith, due (c .before .before .before)))
 
 cast-if1 : tie.Need-cast-if1 Inv-loop μ-loop
 cast-if1 c = search needs

@@ -5,7 +5,7 @@ use Rattle.scope.specs.Limits.{mostOfTask, mostCycle}
 use Rattle.scope.specs.Tasks.{tasksOf}
 use Rattle.scope.specs.Cycle.{cycle}
 use Rattle.theory.specs.Cycle.{gcd-pos}
-use Rattle.checker.proofs.TaskLaws.{read-rule}
+use Rattle.tables.proofs.TaskLaws.{read-rule}
 use Rattle.checker.proofs.CycleLaws.{cycle-turn, cycle-end, product-most, cycle-over, cycle-found}
 use borrow.Author.Needs.{needs}
 use native.Mathlib.Omega.{arith}
@@ -14,7 +14,7 @@ use Rattle.checker.proofs.cycle.cycle_of.Tie as tie
 use Rattle.checker.proofs.cycle.cycle_of.Reads as reads
 use Rattle.checker.proofs.cycle.cycle_of.Lts as lts
 use Rattle.checker.proofs.cycle.gcd.Reads as gcd-reads
-use Rattle.checker.proofs.task.task_at.Reads as task-at-reads
+use Rattle.tables.proofs.task.task_at.Reads as task-at-reads
 
 abbrev Inv-loop : tie.InvT-loop
 Inv-loop tasks frame count h₀ i₀ h i = (i ≤ count) × (count ≡ length tasks / 3) × (h ≤ mostCycle) × (cycle frame (tasksOf tasks) ≡ cycle h (drop i (tasksOf tasks)))
@@ -29,7 +29,7 @@ loop-holds : tie.Need-loop-holds Inv-loop μ-loop
 loop-holds c = (omega arith, refl, omega arith, refl)
 
 task-at-requires : tie.Need-task-at-requires Inv-loop μ-loop
-task-at-requires c κs = omega arith
+task-at-requires c κs = search needs
 
 cast-period : tie.Need-cast-period Inv-loop μ-loop
 cast-period c = search needs

@@ -1,16 +1,16 @@
 use mathlib.Core.Path.{_≡_, sym, ap, _∙_}
 use Rattle.scope.specs.Answers.{Fault.fine, Answer.given, groupFault, lengthFault, demandAnswer}
 use Rattle.theory.specs.Answers.{group-legal, length-legal}
-use Rattle.checker.specs.Told.{faultOf}
-use Rattle.checker.proofs.FaultLaws.{or-fault, or-fine, refused-by, given-by}
+use Rattle.tables.specs.Told.{faultOf}
+use Rattle.tables.proofs.FaultLaws.{or-fault, or-fine, refused-by, given-by}
 use borrow.Author.Needs.{needs}
 use Rattle.checker.proofs.demand.demand.Statement.{statement}
 use Rattle.checker.proofs.demand.demand.Tie as tie
 use Rattle.checker.proofs.demand.demand.Reads as reads
 use Rattle.checker.proofs.demand.demand.Lts as lts
 use Rattle.checker.proofs.demand.demand_of.Reads as demand-of-reads
-use Rattle.checker.proofs.length.check_length.Reads as check-length-reads
-use Rattle.checker.proofs.task.check_tasks.Reads as check-tasks-reads
+use Rattle.tables.proofs.length.check_length.Reads as check-length-reads
+use Rattle.tables.proofs.task.check_tasks.Reads as check-tasks-reads
 
 check-tasks-requires : tie.Need-check-tasks-requires
 check-tasks-requires c κs = search needs

@@ -2,7 +2,6 @@ use mathlib.Core.Path.{_≡_, refl, sym, ap, _∙_}
 use Prim.Native.Nat.{_+_, _-_, _/_, _≤_}
 use lib.ListN as lists
 use Rattle.scope.specs.Tasks.{Task, tasksOf, taskDemand}
-use Rattle.checker.proofs.TaskLaws.{read-rule}
 use Rattle.checker.proofs.DemandLaws.{demandTo, demandTo-none, demandTo-next, demandTo-whole, demandTo-most}
 use borrow.Author.Needs.{needs}
 use native.Mathlib.Omega.{arith}
@@ -10,8 +9,8 @@ use Rattle.checker.proofs.demand.demand_of.Statement.{statement}
 use Rattle.checker.proofs.demand.demand_of.Tie as tie
 use Rattle.checker.proofs.demand.demand_of.Reads as reads
 use Rattle.checker.proofs.demand.demand_of.Lts as lts
-use Rattle.checker.proofs.task.Task.demand.Reads as demand-reads
-use Rattle.checker.proofs.task.task_at.Reads as task-at-reads
+use Rattle.tables.proofs.task.Task.demand.Reads as demand-reads
+use Rattle.tables.proofs.task.task_at.Reads as task-at-reads
 
 abbrev Inv-loop : tie.InvT-loop
 Inv-loop tasks length count sum₀ i₀ sum i = (i ≤ count) × (count ≡ lists.length tasks / 3) × (sum ≡ demandTo (tasksOf tasks) length i)
@@ -23,13 +22,10 @@ loop-holds : tie.Need-loop-holds Inv-loop μ-loop
 loop-holds c = (omega arith, refl, sym (demandTo-none _ _))
 
 task-at-requires : tie.Need-task-at-requires Inv-loop μ-loop
-task-at-requires c κs = omega arith
+task-at-requires c κs = search needs
 
 demand-requires : tie.Need-demand-requires Inv-loop μ-loop
-demand-requires c κs =
-    let b = c .before .before .before .before in
-    let r = read-rule _ _ _ (b .pre .0) (omega arith) (c .task-at .ensures) in
-    r .period
+demand-requires c κs = search needs
 
 -- the sum with task i in it
 more : (c : tie.After-demand Inv-loop μ-loop) → let a = c .before .before .before .before .before .args in let l = c .before .before .before .loop in

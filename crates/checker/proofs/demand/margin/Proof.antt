@@ -1,9 +1,7 @@
 use mathlib.Core.Path.{_≡_, sym, ap, _∙_}
-use Prim.Native.Nat.{_≤_}
-use Rattle.scope.specs.Limits.{mostLength}
 use Rattle.scope.specs.Answers.{Fault.fine, _orElse_, Answer.given, tableFault, groupFault, lengthFault}
-use Rattle.theory.specs.Answers.{LegalTable, LegalGroup, checked-legal, length-legal}
-use Rattle.checker.specs.Told.{boardOf, faultOf}
+use Rattle.theory.specs.Answers.{checked-legal, length-legal}
+use Rattle.tables.specs.Told.{boardOf, faultOf}
 use Rattle.checker.proofs.DemandLaws.{margin-is, margin-refused, margin-late, margin-given}
 use native.Mathlib.Omega.{arith}
 use borrow.Author.Needs.{needs}
@@ -13,9 +11,9 @@ use Rattle.checker.proofs.demand.margin.Reads as reads
 use Rattle.checker.proofs.demand.margin.Lts as lts
 use Rattle.checker.proofs.demand.demand_of.Reads as demand-of-reads
 use Rattle.checker.proofs.demand.difference.Reads as difference-reads
-use Rattle.checker.proofs.length.check_length.Reads as check-length-reads
-use Rattle.checker.proofs.supply.least_of.Reads as least-of-reads
-use Rattle.checker.proofs.task.check_group.Reads as check-group-reads
+use Rattle.tables.proofs.length.check_length.Reads as check-length-reads
+use Rattle.supply.proofs.supply.least_of.Reads as least-of-reads
+use Rattle.tables.proofs.task.check_group.Reads as check-group-reads
 
 check-group-requires : tie.Need-check-group-requires
 check-group-requires c κs = search needs
@@ -43,17 +41,12 @@ group-fine c = sym (c .before .before .check-group .ensures) ∙ ap faultOf (c .
 length-fine : (c : tie.After-enum-told2) → lengthFault (c .before .before .before .before .before .before .before .before .args .length) ≡ fine
 length-fine c = sym (c .before .before .check-length .ensures) ∙ ap faultOf (c .enum-told2 .given .1)
 
--- what they say of the table, the group and the length
-known : (c : tie.After-enum-told2) → let a = c .before .before .before .before .before .before .before .before .args in
-    LegalTable (boardOf (a .board)) (a .windows .now) × LegalGroup (a .tasks .now) × (a .length ≤ mostLength)
-known c =
-    let p = checked-legal _ _ _ (group-fine (c .before .before .before)) in (p .0, p .1, length-legal _ (length-fine c))
-
 least-of-requires : tie.Need-least-of-requires
-least-of-requires c κs = let k = known c in (k .0 .frame, k .0 .frame-most, k .2)
+least-of-requires c κs = search needs
 
 demand-of-requires : tie.Need-demand-of-requires
-demand-of-requires c κs = let k = known (c .before) in (k .1, k .2)
+demand-of-requires c κs =
+    (checked-legal _ _ _ (group-fine (c .before .before .before .before)) .1, length-legal _ (length-fine (c .before)))
 
 difference-requires : tie.Need-difference-requires
 difference-requires c κs = c .demand-of .ensures .1

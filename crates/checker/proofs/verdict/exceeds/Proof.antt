@@ -1,4 +1,4 @@
-use Rattle.checker.specs.Told.{boardOf}
+use Rattle.tables.specs.Told.{boardOf}
 use Rattle.scope.specs.Windows.{suppliedBy}
 use lib.Dec.{ltb}
 use Rattle.scope.specs.Ticks.{leastSupply}
@@ -12,7 +12,7 @@ use Rattle.checker.proofs.verdict.exceeds.Statement.{statement}
 use Rattle.checker.proofs.verdict.exceeds.Tie as tie
 use Rattle.checker.proofs.verdict.exceeds.Reads as reads
 use Rattle.checker.proofs.verdict.exceeds.Lts as lts
-use Rattle.checker.proofs.supply.least_of.Reads as least-of-reads
+use Rattle.supply.proofs.supply.least_of.Reads as least-of-reads
 
 returns : tie.Need-returns
 returns c =

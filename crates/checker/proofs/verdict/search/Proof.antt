@@ -4,8 +4,9 @@ use Rattle.scope.specs.Ticks.{leastSupply, supply as supplyOf}
 use Rattle.scope.specs.Windows.{windowsOf, suppliedBy}
 use Rattle.scope.specs.Tasks.{tasksOf}
 use Rattle.theory.specs.Windows.{supplied-periodic}
-use Rattle.checker.specs.declared.answer.Verdict.the-variants.{Meets}
-use Rattle.checker.specs.Told.{boardOf, toldVerdict}
+use Rattle.supply.specs.Slid.{supply-slid}
+use Rattle.tables.specs.declared.answer.Verdict.the-variants.{Meets}
+use Rattle.tables.specs.Told.{boardOf, toldVerdict}
 use Rattle.checker.proofs.VerdictLaws.{Carried, carried-first, carried-next, carried-on, search-meets, Above, above-next, not-all-above, search-misses}
 use borrow.Author.Needs.{needs}
 use native.Mathlib.Omega.{arith}
@@ -16,9 +17,9 @@ use Rattle.checker.proofs.verdict.search.Tie as tie
 use Rattle.checker.proofs.verdict.search.Reads as reads
 use Rattle.checker.proofs.verdict.search.Lts as lts
 use Rattle.checker.proofs.demand.demand_of.Reads as demand-of-reads
-use Rattle.checker.proofs.supply.least_of.Reads as least-of-reads
-use Rattle.checker.proofs.supply.slid.Reads as slid-reads
-use Rattle.checker.proofs.supply.supply_from.Reads as supply-from-reads
+use Rattle.supply.proofs.supply.least_of.Reads as least-of-reads
+use Rattle.supply.proofs.supply.supply_from.Reads as supply-from-reads
+use Rattle.supply.proofs.supply.tick_of.Reads as tick-of-reads
 use Rattle.checker.proofs.verdict.exceeds.Reads as exceeds-reads
 
 abbrev Inv-loop : tie.InvT-loop
@@ -41,15 +42,14 @@ abbrev μ-search : tie.MeasureT-search
 search-holds : tie.Need-search-holds Inv-loop μ-loop Inv-search μ-search
 search-holds c =
     let a = c .before .before in
-    (omega arith, omega arith, refl, omega arith, carried-first _ _ (supplied-periodic (boardOf (a .args .board)) (windowsOf (a .args .windows .now)) (a .pre .0)) _ (a .pre .2 .rules))
+    let per = supplied-periodic (boardOf (a .args .board)) (windowsOf (a .args .windows .now)) (a .pre .0) in
+    (omega arith, omega arith, refl, omega arith, carried-first _ _ per _ (a .pre .1 .rules))
 
 demand-of-requires : tie.Need-demand-of-requires Inv-loop μ-loop Inv-search μ-search
 demand-of-requires c κs = search needs
 
 exceeds-requires : tie.Need-exceeds-requires Inv-loop μ-loop Inv-search μ-search
-exceeds-requires c κs =
-    let p = c .before .before .before .before .before .pre in
-    (p .0, p .1, omega arith, c .before .before .search .inv .3)
+exceeds-requires c κs = c .before .before .search .inv .3
 
 least-of-requires : tie.Need-least-of-requires Inv-loop μ-loop Inv-search μ-search
 least-of-requires c κs = search needs
@@ -61,9 +61,44 @@ loop-holds : tie.Need-loop-holds Inv-loop μ-loop Inv-search μ-search
 loop-holds c =
     (omega arith, c .before .before .before .before .before .before .search .inv .2, c .supply-from .ensures, λ r l. absurd (omega arith))
 
-slid-requires : tie.Need-slid-requires Inv-loop μ-loop Inv-search μ-search
-slid-requires c κs =
-    (c .before .before .before .before .before .before .before .before .before .before .before .before .pre .0, omega arith, c .before .before .loop .inv .2)
+cast-tick-of : tie.Need-cast-tick-of Inv-loop μ-loop Inv-search μ-search
+cast-tick-of c = search needs
+
+cast-tick-of-2 : tie.Need-cast-tick-of-2 Inv-loop μ-loop Inv-search μ-search
+cast-tick-of-2 c = search needs
+
+add-tick-of : tie.Need-add-tick-of Inv-loop μ-loop Inv-search μ-search
+add-tick-of c = search needs
+
+tick-of-requires : tie.Need-tick-of-requires Inv-loop μ-loop Inv-search μ-search
+tick-of-requires c κs = search needs
+
+cast-tick-of-3 : tie.Need-cast-tick-of-3 Inv-loop μ-loop Inv-search μ-search
+cast-tick-of-3 c = search needs
+
+tick-of-requires-2 : tie.Need-tick-of-requires-2 Inv-loop μ-loop Inv-search μ-search
+tick-of-requires-2 c κs = search needs
+
+-- the start moves on by a tick
+slid : (c : tie.After-tick-of2 Inv-loop μ-loop Inv-search μ-search) →
+    let d = c .before .before .before .before in
+    let s = d .before .before .before .before .before .before .before in
+    let a = s .before .before .before .args in
+    let sum = d .loop .n + c .before .tick-of .result in
+    (sum ≤ s .search .length + 1) × (c .tick-of2 .result ≤ sum)
+    × (sum - c .tick-of2 .result ≡ supplyOf (suppliedBy (boardOf (a .board)) (a .windows .now)) (d .loop .start + 1) (s .search .length))
+slid c =
+    let d = c .before .before .before .before in
+    let s = d .before .before .before .before .before .before .before in
+    let a = s .before .before .before .args in
+    supply-slid (suppliedBy (boardOf (a .board)) (a .windows .now)) (d .loop .start) (s .search .length) _ _ _
+    (d .loop .inv .2) (c .before .tick-of .ensures) (c .tick-of2 .ensures)
+
+add-n : tie.Need-add-n Inv-loop μ-loop Inv-search μ-search
+add-n c = omega (arith, slid c)
+
+sub-n : tie.Need-sub-n Inv-loop μ-loop Inv-search μ-search
+sub-n c = omega (arith, slid c)
 
 add-start : tie.Need-add-start Inv-loop μ-loop Inv-search μ-search
 add-start c = search needs
@@ -73,13 +108,14 @@ loop-less c = search needs
 
 loop-again : tie.Need-loop-again Inv-loop μ-loop Inv-search μ-search
 loop-again c =
-    let d = c .before .before .before in
+    let d = c .before .before .before .before in
     let a = d .before .before .before .before .before .before .before .before .before .before in
     let per = supplied-periodic (boardOf (a .args .board)) (windowsOf (a .args .windows .now)) (a .pre .0) in (
       omega arith,
       d .loop .inv .1,
-      c .slid .ensures,
-      above-next _ _ per (tasksOf (a .args .tasks .now)) _ _ _ _ (d .before .before .least-of .ensures) (d .loop .inv .2) (c .before .if2 .left) (d .loop .inv .3),
+      slid c .2,
+      above-next _ _ per (tasksOf (a .args .tasks .now)) _ _ _ _ (d .before .before .least-of .ensures)
+          (d .loop .inv .2) (c .before .before .if2 .left) (d .loop .inv .3),
     )
 
 add-length : tie.Need-add-length Inv-loop μ-loop Inv-search μ-search
@@ -132,7 +168,14 @@ search-spec =
     least-of-requires
     supply-from-requires
     loop-holds
-    slid-requires
+    cast-tick-of
+    cast-tick-of-2
+    add-tick-of
+    tick-of-requires
+    cast-tick-of-3
+    tick-of-requires-2
+    add-n
+    sub-n
     add-start
     loop-less
     loop-again

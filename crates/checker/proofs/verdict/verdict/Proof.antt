@@ -1,7 +1,7 @@
 use Rattle.scope.specs.Limits.{mostCycle}
 use Rattle.checker.proofs.VerdictLaws.{verdict-refused, verdict-over, verdict-given}
 use Rattle.checker.proofs.CycleLaws.{was-over, was-found}
-use Rattle.checker.specs.Told.{boardOf, faultOf}
+use Rattle.tables.specs.Told.{boardOf, faultOf}
 use Rattle.theory.specs.Answers.{checked-legal}
 use Rattle.scope.specs.Windows.{suppliedBy}
 use Rattle.scope.specs.Tasks.{tasksOf}
@@ -17,7 +17,7 @@ use Rattle.checker.proofs.verdict.verdict.Tie as tie
 use Rattle.checker.proofs.verdict.verdict.Reads as reads
 use Rattle.checker.proofs.verdict.verdict.Lts as lts
 use Rattle.checker.proofs.cycle.cycle_of.Reads as cycle-of-reads
-use Rattle.checker.proofs.task.check_group.Reads as check-group-reads
+use Rattle.tables.proofs.task.check_group.Reads as check-group-reads
 use Rattle.checker.proofs.verdict.search.Reads as search-reads
 
 check-group-requires : tie.Need-check-group-requires
@@ -52,7 +52,7 @@ search-requires : tie.Need-search-requires
 search-requires c κs =
     let k = checked-legal _ _ _ (group-fine (c .before .before .before .before)) in
     let h = cycle-fine c in
-    (k .0 .frame, k .0 .frame-most, k .1, omega (arith, h))
+    (k .0 .frame, k .1, omega (arith, h))
 
 returns : tie.Need-returns
 returns c = verdict-refused _ _ _ (sym (c .before .before .before .check-group .ensures) ∙ ap faultOf (c .before .r .given .1))
@@ -66,7 +66,8 @@ returns-3 c =
     let d = c .before in
     let h = cycle-fine d in
     let a = d .before .before .before .before .before .before .before .before .before .args in
-    c .search .ensures ∙ ap (λ (n : ℕ). given (verdict (suppliedBy (boardOf (a .board)) (a .windows .now)) (a .board .frame) (tasksOf (a .tasks .now)) n)) (sym (h .0))
+    c .search .ensures
+    ∙ ap (λ (n : ℕ). given (verdict (suppliedBy (boardOf (a .board)) (a .windows .now)) (a .board .frame) (tasksOf (a .tasks .now)) n)) (sym (h .0))
     ∙ verdict-given _ _ _ (group-fine (d .before .before .before .before)) (h .1)
 
 pub verdict-spec : {M : Type 1} → statement M

@@ -31,11 +31,11 @@ use denote.Triple.Table.{entered, cited}
 use denote.Triple.Walked.{says, Stays, needs, stay-none, walkOf, goes-none, Walks, ends-at, walked, walk-meets}
 use denote.Exit.{yes}
 use Rattle.scope.specs.Answers.{demandAnswer}
-use Rattle.checker.specs.declared.task.Task.{Task}
-use Rattle.checker.specs.declared.answer.Amount.{Amount}
-use Rattle.checker.specs.Told.{toldAmount}
-use Rattle.checker.proofs.answer.Amount as U
-use Rattle.checker.proofs.answer.Amount.Laws as U′
+use Rattle.tables.specs.declared.task.Task.{Task}
+use Rattle.tables.specs.declared.answer.Amount.{Amount}
+use Rattle.tables.specs.Told.{toldAmount}
+use Rattle.tables.proofs.answer.Amount as U
+use Rattle.tables.proofs.answer.Amount.Laws as U′
 use Rattle.records.specs.Numbers.{numbersOf, enoughRecords}
 use Rattle.records.proofs.Passed.{records-val, Token}
 use Rattle.records.proofs.demand.demand as entry

@@ -8,11 +8,11 @@ use denote.Enum.Laws as EL
 use denote.Triple.Spec.{tripleOf}
 use denote.Triple.Table.{entered, cited}
 use Rattle.scope.specs.Answers.{marginAnswer}
-use Rattle.checker.specs.declared.board.Board.{Board}
-use Rattle.checker.specs.declared.answer.Margin.{Margin}
-use Rattle.checker.specs.Told.{boardOf, toldMargin}
-use Rattle.checker.proofs.answer.Margin as U
-use Rattle.checker.proofs.answer.Margin.Laws as U′
+use Rattle.tables.specs.declared.board.Board.{Board}
+use Rattle.tables.specs.declared.answer.Margin.{Margin}
+use Rattle.tables.specs.Told.{boardOf, toldMargin}
+use Rattle.tables.proofs.answer.Margin as U
+use Rattle.tables.proofs.answer.Margin.Laws as U′
 use Rattle.records.proofs.demand.margin as entry
 use Rattle.records.proofs.demand.margin.Symbol as entry-def
 use Rattle.records.proofs.demand.margin.Symbol.{name as #entry}

@@ -35,10 +35,10 @@ use denote.Triple.Clauses.{Lasts, ensured}
 use denote.Triple.Table.{entered, cited}
 use denote.Triple.Walked.{says, Stays, needs, stay-none, stay-none-slice, gave-slice, onExit, walkOf, AllGo, goes-none, goes-none-slice, goes-gave-slice, Walks, ends-at, walked, walk-meets}
 use denote.Exit.{yes}
-use Rattle.checker.specs.declared.board.Board.{Board}
-use Rattle.checker.specs.declared.task.Task.{Task}
-use Rattle.checker.proofs.board.Board as B
-use Rattle.checker.proofs.board.Board.Laws as B′
+use Rattle.tables.specs.declared.board.Board.{Board}
+use Rattle.tables.specs.declared.task.Task.{Task}
+use Rattle.tables.proofs.board.Board as B
+use Rattle.tables.proofs.board.Board.Laws as B′
 use Rattle.machine.specs.declared.run.Ran.{Ran}
 use Rattle.machine.proofs.run.Ran as U
 use Rattle.machine.proofs.run.Ran.Laws as U′

@@ -32,14 +32,14 @@ use denote.Triple.Clauses.{ensured, lasts}
 use denote.Triple.Table.{entered, cited}
 use denote.Triple.Walked.{Stays, needs, walkOf, Walks, ends-at, walked, walk-meets}
 use Rattle.scope.specs.Answers.{verdictAnswer}
-use Rattle.checker.specs.declared.board.Board.{Board}
-use Rattle.checker.specs.declared.task.Task.{Task}
-use Rattle.checker.specs.declared.answer.Verdict.{Verdict}
-use Rattle.checker.specs.Told.{boardOf, toldVerdict}
-use Rattle.checker.proofs.board.Board as B
-use Rattle.checker.proofs.board.Board.Laws as B′
-use Rattle.checker.proofs.answer.Verdict as U
-use Rattle.checker.proofs.answer.Verdict.Laws as U′
+use Rattle.tables.specs.declared.board.Board.{Board}
+use Rattle.tables.specs.declared.task.Task.{Task}
+use Rattle.tables.specs.declared.answer.Verdict.{Verdict}
+use Rattle.tables.specs.Told.{boardOf, toldVerdict}
+use Rattle.tables.proofs.board.Board as B
+use Rattle.tables.proofs.board.Board.Laws as B′
+use Rattle.tables.proofs.answer.Verdict as U
+use Rattle.tables.proofs.answer.Verdict.Laws as U′
 use Rattle.records.specs.Numbers.{numbersOf, enoughRecords}
 use Rattle.records.proofs.Passed.{windows-mir, Windows, windows-val, records-val, WindowsOwn, board-vals, Token}
 use Rattle.records.proofs.verdict.verdict as entry

@@ -1,6 +1,6 @@
 use mathlib.Core.Path.{sym, ap, _∙_}
-use Rattle.checker.specs.Told.{toldAmount}
-use Rattle.checker.specs.declared.answer.Amount.{Amount}
+use Rattle.tables.specs.Told.{toldAmount}
+use Rattle.tables.specs.declared.answer.Amount.{Amount}
 use Rattle.host.specs.Told.{cAmount}
 use borrow.Author.Needs.{needs}
 use Rattle.host.proofs.answer.amount_answer.Statement.{statement}

@@ -1,6 +1,6 @@
 use mathlib.Core.Path.{sym, ap, _∙_}
-use Rattle.checker.specs.Told.{toldBound}
-use Rattle.checker.specs.declared.answer.Bound.{Bound}
+use Rattle.tables.specs.Told.{toldBound}
+use Rattle.tables.specs.declared.answer.Bound.{Bound}
 use Rattle.host.specs.Told.{cBound}
 use borrow.Author.Needs.{needs}
 use Rattle.host.proofs.bound.bound_answer.Statement.{statement}

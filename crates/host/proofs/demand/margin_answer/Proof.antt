@@ -1,8 +1,8 @@
 use mathlib.Core.Path.{sym, ap, _∙_}
 use mir.Syntax.{w64}
 use mir.ValLaws.{toZ-ofZ}
-use Rattle.checker.specs.Told.{toldMargin}
-use Rattle.checker.specs.declared.answer.Margin.{Margin}
+use Rattle.tables.specs.Told.{toldMargin}
+use Rattle.tables.specs.declared.answer.Margin.{Margin}
 use Rattle.host.specs.Told.{signed, cMargin}
 use borrow.Author.Needs.{needs}
 use Rattle.host.proofs.demand.margin_answer.Statement.{statement}

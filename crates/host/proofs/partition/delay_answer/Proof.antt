@@ -1,6 +1,6 @@
 use mathlib.Core.Path.{sym, ap, _∙_}
-use Rattle.checker.specs.Told.{toldDelay}
-use Rattle.checker.specs.declared.answer.Delay.{Delay}
+use Rattle.tables.specs.Told.{toldDelay}
+use Rattle.tables.specs.declared.answer.Delay.{Delay}
 use Rattle.host.specs.Told.{cDelay}
 use borrow.Author.Needs.{needs}
 use Rattle.host.proofs.partition.delay_answer.Statement.{statement}

@@ -1,6 +1,6 @@
 use mathlib.Core.Path.{sym, ap, _∙_}
-use Rattle.checker.specs.Told.{toldVerdict}
-use Rattle.checker.specs.declared.answer.Verdict.{Verdict}
+use Rattle.tables.specs.Told.{toldVerdict}
+use Rattle.tables.specs.declared.answer.Verdict.{Verdict}
 use Rattle.host.specs.Told.{cVerdict}
 use borrow.Author.Needs.{needs}
 use Rattle.host.proofs.verdict.verdict_answer.Statement.{statement}

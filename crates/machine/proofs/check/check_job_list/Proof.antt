@@ -1,14 +1,14 @@
 use mathlib.Core.Path.{sym, ap, _∙_}
 use borrow.Author.Needs.{needs}
 use Rattle.scope.specs.Answers.{runTicksAnswer}
-use Rattle.checker.proofs.FaultLaws.{fault-of, none-of}
+use Rattle.tables.proofs.FaultLaws.{fault-of, none-of}
 use Rattle.machine.specs.Told.{toldRun}
 use Rattle.machine.proofs.Legality.{bad-list, good-list}
 use Rattle.machine.proofs.check.check_job_list.Statement.{statement}
 use Rattle.machine.proofs.check.check_job_list.Tie as tie
 use Rattle.machine.proofs.check.check_job_list.Reads as reads
 use Rattle.machine.proofs.check.check_job_list.Lts as lts
-use Rattle.checker.proofs.list.bad_count.Reads as bad-count-reads
+use Rattle.tables.proofs.list.bad_count.Reads as bad-count-reads
 use Rattle.machine.proofs.check.Run.new.Reads as new-reads
 
 bad-count-requires : tie.Need-bad-count-requires

@@ -4,7 +4,7 @@ use Rattle.scope.specs.Jobs.{job, jobsOf}
 use Rattle.scope.specs.Answers.{Fault.fine, Fault.fault, _orElse_, tableFault, groupFault, jobListFault, jobFault}
 use Rattle.theory.specs.Lists.{pieces-length}
 use Rattle.theory.specs.Answers.{checked-legal, job-list-legal}
-use Rattle.checker.specs.Told.{boardOf, faultOf}
+use Rattle.tables.specs.Told.{boardOf, faultOf}
 use Rattle.machine.proofs.Reading.{tasks-of}
 use Rattle.machine.proofs.RunLaws.{in-turn, no-room, has-room}
 use native.Mathlib.Omega.{arith}
@@ -13,7 +13,7 @@ use Rattle.machine.proofs.run.check_run.Statement.{statement}
 use Rattle.machine.proofs.run.check_run.Tie as tie
 use Rattle.machine.proofs.run.check_run.Reads as reads
 use Rattle.machine.proofs.run.check_run.Lts as lts
-use Rattle.checker.proofs.task.check_group.Reads as check-group-reads
+use Rattle.tables.proofs.task.check_group.Reads as check-group-reads
 use Rattle.machine.proofs.check.check_job_list.Reads as check-job-list-reads
 use Rattle.machine.proofs.check.check_jobs.Reads as check-jobs-reads
 

@@ -1,12 +1,12 @@
 use mathlib.Core.Path.{sym, ap, _∙_}
-use Rattle.checker.specs.Told.{toldSupplied}
+use Rattle.tables.specs.Told.{toldSupplied}
 use Rattle.machine.proofs.Reading.{answered-is, not-refused}
 use borrow.Author.Needs.{needs}
 use Rattle.machine.proofs.run.is_on.Statement.{statement}
 use Rattle.machine.proofs.run.is_on.Tie as tie
 use Rattle.machine.proofs.run.is_on.Reads as reads
 use Rattle.machine.proofs.run.is_on.Lts as lts
-use Rattle.checker.proofs.supply.supplied.Reads as supplied-reads
+use Rattle.supply.proofs.supply.supplied.Reads as supplied-reads
 
 supplied-requires : tie.Need-supplied-requires
 supplied-requires c κs = search needs

@@ -1,7 +1,7 @@
 use mathlib.Core.Path.{sym, ap, _∙_, _≡_}
 use Rattle.scope.specs.Answers.{Fault.fine, runFault, runAnswer, runOut}
-use Rattle.checker.specs.Told.{boardOf, faultOf}
-use Rattle.checker.proofs.FaultLaws.{refused-by, given-by, kept-by, written-by}
+use Rattle.tables.specs.Told.{boardOf, faultOf}
+use Rattle.tables.proofs.FaultLaws.{refused-by, given-by, kept-by, written-by}
 use Rattle.machine.proofs.RunLaws.{legal-run}
 use lib.ListN.{length}
 use borrow.Author.Needs.{needs}

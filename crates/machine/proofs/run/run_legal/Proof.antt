@@ -5,7 +5,7 @@ use Rattle.machine.specs.Slots.{tickOf}
 use Rattle.machine.specs.Relation.{Tasks, Jobs, Kept, zeros}
 use Rattle.scope.specs.Windows.{suppliedBy}
 use Rattle.scope.specs.Tasks.{tasksOf}
-use Rattle.checker.specs.Told.{boardOf}
+use Rattle.tables.specs.Told.{boardOf}
 use Rattle.machine.proofs.Running.{Going, ticked, going-first, going-length, run-met, can-note, noted-length, going-next, run-missed}
 use borrow.Author.Needs.{needs}
 use native.Mathlib.Omega.{arith}

@@ -6,8 +6,8 @@ use Rattle.plan.proofs.line.put_refused.Statement.{statement}
 use Rattle.plan.proofs.line.put_refused.Tie as tie
 use Rattle.plan.proofs.line.put_refused.Reads as reads
 use Rattle.plan.proofs.line.put_refused.Lts as lts
-use Rattle.checker.proofs.answer.Refusal.number.Reads as number-reads
-use Rattle.checker.proofs.answer.Refusal.place.Reads as place-reads
+use Rattle.tables.proofs.answer.Refusal.number.Reads as number-reads
+use Rattle.tables.proofs.answer.Refusal.place.Reads as place-reads
 use Rattle.plan.proofs.line.put_part.Reads as put-part-reads
 use Rattle.plan.proofs.text.put.Reads as put-reads
 

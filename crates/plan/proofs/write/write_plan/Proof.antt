@@ -3,8 +3,8 @@ use lib.ListN.{length}
 use lib.Seq.{length-take-le}
 use Rattle.scope.specs.Answers.{Fault.fine}
 use Rattle.scope.specs.Plan.{Plan, writeAnswer, writeOut}
-use Rattle.checker.specs.Told.{faultOf}
-use Rattle.checker.proofs.FaultLaws.{refused-by, kept-by}
+use Rattle.tables.specs.Told.{faultOf}
+use Rattle.tables.proofs.FaultLaws.{refused-by, kept-by}
 use native.Mathlib.Omega.{arith}
 use borrow.Author.Needs.{needs}
 use Rattle.plan.proofs.PutLaws.{put-length, front}
@@ -13,9 +13,9 @@ use Rattle.plan.proofs.write.write_plan.Statement.{statement}
 use Rattle.plan.proofs.write.write_plan.Tie as tie
 use Rattle.plan.proofs.write.write_plan.Reads as reads
 use Rattle.plan.proofs.write.write_plan.Lts as lts
-use Rattle.checker.proofs.answer.Checked.or_else.Reads as or-else-reads
-use Rattle.checker.proofs.task.check_task_list.Reads as check-task-list-reads
-use Rattle.checker.proofs.window.check_window_list.Reads as check-window-list-reads
+use Rattle.tables.proofs.answer.Checked.or_else.Reads as or-else-reads
+use Rattle.tables.proofs.task.check_task_list.Reads as check-task-list-reads
+use Rattle.tables.proofs.window.check_window_list.Reads as check-window-list-reads
 use Rattle.plan.proofs.text.deliver.Reads as deliver-reads
 use Rattle.plan.proofs.write.put_plan.Reads as put-plan-reads
 

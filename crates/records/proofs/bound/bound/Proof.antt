@@ -8,11 +8,11 @@ use denote.Enum.Laws as EL
 use denote.Triple.Spec.{tripleOf}
 use denote.Triple.Table.{entered, cited}
 use Rattle.scope.specs.Answers.{boundAnswer}
-use Rattle.checker.specs.declared.board.Board.{Board}
-use Rattle.checker.specs.declared.answer.Bound.{Bound}
-use Rattle.checker.specs.Told.{boardOf, toldBound}
-use Rattle.checker.proofs.answer.Bound as U
-use Rattle.checker.proofs.answer.Bound.Laws as U′
+use Rattle.tables.specs.declared.board.Board.{Board}
+use Rattle.tables.specs.declared.answer.Bound.{Bound}
+use Rattle.tables.specs.Told.{boardOf, toldBound}
+use Rattle.tables.proofs.answer.Bound as U
+use Rattle.tables.proofs.answer.Bound.Laws as U′
 use Rattle.records.proofs.AlikeLaws.{alike-bound}
 use Rattle.records.proofs.Passed.{Flatten}
 use Rattle.records.proofs.Asked.{meets}

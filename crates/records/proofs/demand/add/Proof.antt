@@ -1,7 +1,7 @@
 use mathlib.Core.Path.{sym, subst, _∙_}
 use Rattle.scope.specs.Tasks.{task}
 use Rattle.theory.specs.Tasks.{task-rule}
-use Rattle.checker.specs.Told.{toldAmount}
+use Rattle.tables.specs.Told.{toldAmount}
 use Rattle.records.specs.Sums.{addOf, Roomy}
 use Rattle.records.proofs.TaskLaws.{task-most}
 use native.Mathlib.Omega.{arith}

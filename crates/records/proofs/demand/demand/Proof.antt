@@ -50,17 +50,17 @@ use denote.Triple.Walked.{says, Stays, stay-none, stay-none-slice, walkOf, AllGo
 use denote.Exit.{yes}
 use Rattle.scope.specs.Tasks.{task}
 use Rattle.scope.specs.Answers.{Answer, demandAnswer}
-use Rattle.checker.specs.declared.task.Task.{Task}
-use Rattle.checker.specs.declared.answer.Amount.{Amount}
-use Rattle.checker.specs.Told.{taskOf, toldAmount}
+use Rattle.tables.specs.declared.task.Task.{Task}
+use Rattle.tables.specs.declared.answer.Amount.{Amount}
+use Rattle.tables.specs.Told.{taskOf, toldAmount}
 use Rattle.records.specs.Numbers.{numbersOf}
 use Rattle.records.specs.Sums.{beginOf, addOf, finishOf, Roomy}
 use Rattle.records.proofs.NumberLaws.{none}
 use Rattle.records.proofs.SumLaws.{soFar, begin-is, add-is, finish-is, roomy}
-use Rattle.checker.proofs.task.Task as T
-use Rattle.checker.proofs.task.Task.Laws as T′
-use Rattle.checker.proofs.answer.Amount as U
-use Rattle.checker.proofs.answer.Amount.Laws as U′
+use Rattle.tables.proofs.task.Task as T
+use Rattle.tables.proofs.task.Task.Laws as T′
+use Rattle.tables.proofs.answer.Amount as U
+use Rattle.tables.proofs.answer.Amount.Laws as U′
 use Rattle.records.proofs.demand.begin as begin
 use Rattle.records.proofs.demand.begin.Symbol as begin-def
 use Rattle.records.proofs.demand.begin.Symbol.{name as #begin}

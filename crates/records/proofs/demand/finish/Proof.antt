@@ -1,14 +1,14 @@
 use mathlib.Core.Path.{sym, ap, _∙_}
 use borrow.Author.Needs.{needs}
 use Rattle.scope.specs.Answers.{lengthAnswer, lengthFault}
-use Rattle.checker.specs.Told.{toldLength}
-use Rattle.checker.proofs.FaultLaws.{refused-by, given-by, fault-of, none-of}
+use Rattle.tables.specs.Told.{toldLength}
+use Rattle.tables.proofs.FaultLaws.{refused-by, given-by, fault-of, none-of}
 use Rattle.records.specs.Sums.{finishOf}
 use Rattle.records.proofs.demand.finish.Statement.{statement}
 use Rattle.records.proofs.demand.finish.Tie as tie
 use Rattle.records.proofs.demand.finish.Reads as reads
 use Rattle.records.proofs.demand.finish.Lts as lts
-use Rattle.checker.proofs.length.Length.new.Reads as new-reads
+use Rattle.tables.proofs.length.Length.new.Reads as new-reads
 
 enum-known-sum : tie.Need-enum-known-sum
 enum-known-sum c = search needs

@@ -1,6 +1,6 @@
 use native.Mathlib.Nat.{div-le-self}
 use Rattle.scope.specs.Tasks.{task}
-use Rattle.checker.proofs.TaskLaws.{demand-short, demand-long, work-most}
+use Rattle.tables.proofs.TaskLaws.{demand-short, demand-long, work-most}
 use native.Mathlib.Omega.{arith}
 use Prim.Native.Nat.{_-_}
 use lib.ListN.{length}

@@ -47,13 +47,13 @@ use denote.Triple.Clauses.{ensured, lasts}
 use denote.Triple.Table.{entered, cited}
 use denote.Triple.Walked.{says, Stays, stay-none-slice, walkOf, goes-none-slice, Walks, ends-at, walked, walk-meets}
 use denote.Exit.{yes}
-use Rattle.checker.specs.declared.task.Task.{Task}
+use Rattle.tables.specs.declared.task.Task.{Task}
 use Rattle.records.specs.declared.flat.Flat.{Flat}
 use Rattle.records.specs.Numbers.{numbersOf, enoughRecords, enoughNumbers}
 use Rattle.records.proofs.NumberLaws.{none}
 use Rattle.records.proofs.FlatLaws.{before, numbers-more, enough-is, flat-vals, front, Flattened}
-use Rattle.checker.proofs.task.Task as T
-use Rattle.checker.proofs.task.Task.Laws as T′
+use Rattle.tables.proofs.task.Task as T
+use Rattle.tables.proofs.task.Task.Laws as T′
 use Rattle.records.proofs.flat.Flat as U
 use Rattle.records.proofs.flat.Flat.Laws as U′
 use Rattle.records.proofs.flat.enough as enough

@@ -31,11 +31,11 @@ use denote.Triple.Table.{entered, cited}
 use denote.Triple.Clauses.{ensured, Lasts}
 use denote.Triple.Walked.{Stays, stay-none, stay-none-slice, walkOf, goes-none, goes-none-slice, Walks, ends-at, walked, walk-meets, says, gave-slice, onExit, AllGo, goes-gave-slice}
 use denote.Exit.{yes}
-use Rattle.checker.specs.declared.board.Board.{Board}
-use Rattle.checker.specs.Told.{boardOf}
-use Rattle.checker.proofs.board.Board as B
-use Rattle.checker.proofs.board.Board.Laws as B′
-use Rattle.checker.proofs.task.Task as tasks
+use Rattle.tables.specs.declared.board.Board.{Board}
+use Rattle.tables.specs.Told.{boardOf}
+use Rattle.tables.proofs.board.Board as B
+use Rattle.tables.proofs.board.Board.Laws as B′
+use Rattle.tables.proofs.task.Task as tasks
 use Rattle.records.specs.Numbers.{numbersOf}
 use Rattle.records.proofs.FlatLaws.{front, Flattened}
 use Rattle.records.proofs.AlikeLaws.{flattened-alike, alike-run, alike-out}

@@ -31,14 +31,14 @@ use denote.Triple.Clauses.{ensured, lasts}
 use denote.Triple.Walked.{Stays, stay-none, stay-none-slice, walkOf, goes-none, goes-none-slice, Walks, ends-at, walked, walk-meets}
 use denote.Exit.{yes}
 use Rattle.scope.specs.Answers.{verdictAnswer}
-use Rattle.checker.specs.declared.board.Board.{Board}
-use Rattle.checker.specs.declared.answer.Verdict.{Verdict}
-use Rattle.checker.specs.Told.{boardOf, toldVerdict}
-use Rattle.checker.proofs.answer.Verdict as U
-use Rattle.checker.proofs.answer.Verdict.Laws as U′
-use Rattle.checker.proofs.board.Board as B
-use Rattle.checker.proofs.board.Board.Laws as B′
-use Rattle.checker.proofs.task.Task as tasks
+use Rattle.tables.specs.declared.board.Board.{Board}
+use Rattle.tables.specs.declared.answer.Verdict.{Verdict}
+use Rattle.tables.specs.Told.{boardOf, toldVerdict}
+use Rattle.tables.proofs.answer.Verdict as U
+use Rattle.tables.proofs.answer.Verdict.Laws as U′
+use Rattle.tables.proofs.board.Board as B
+use Rattle.tables.proofs.board.Board.Laws as B′
+use Rattle.tables.proofs.task.Task as tasks
 use Rattle.records.specs.Numbers.{numbersOf}
 use Rattle.records.proofs.FlatLaws.{front}
 use Rattle.records.proofs.AlikeLaws.{flattened-alike, alike-verdict}

@@ -1,0 +1,2 @@
+pub mod SupplyLaws
+pub mod PartitionLaws

@@ -1,0 +1,163 @@
+-- The loops over the ticks of a frame, turn by turn: the critical partition, the delay and the longest outage
+use mathlib.Core.Path.{_≡_, refl, sym, ap, _∙_}
+use mathlib.Core.Bool.{Bool, true, false, cond, not, _&&_, Bool·beq}
+use mathlib.Core.List.{List, [], _∷_, _++_}
+use mathlib.Core.Logic.{inl, inr}
+use Prim.Native.Nat.{ℕ, zero, suc, _+_, _-_, _≤_, _<_, max}
+use native.Mathlib.Nat.{add-zero}
+use native.Mathlib.Numerals.{add-one}
+use native.Mathlib.Omega.{arith}
+use lib.Dec.{ltb}
+use lib.ListN.{length, set, length-append}
+use borrow.Author.Tests.{lt-ltb, le-ltb}
+use Rattle.scope.specs.Numbers.{greatest, keep, written}
+use Rattle.scope.specs.Ticks.{leastSupply}
+use Rattle.scope.specs.Windows.{Board, suppliedBy}
+use Rattle.scope.specs.Partition.{rises, within, edge, maximalRuns, critical, outageBefore}
+use Rattle.scope.specs.Answers.{Fault.fine, Fault.fault, tableFault, roomFault, criticalOf, criticalFault}
+use Rattle.theory.specs.Numbers.{bool-cases}
+use Rattle.theory.specs.Lists.{keep-hit, keep-miss}
+use Rattle.theory.specs.MaximalRuns.{within-in}
+use Rattle.theory.specs.Buffers.{written-more}
+use Rattle.tables.proofs.FaultLaws.{if-true, if-false, or-fault, or-fine}
+
+-- ---- the numbers kept among 0, 1, .., n − 1
+
+module _ (p : ℕ → Bool) where
+  pub kept-none : keep p 0 ≡ []
+  unfolding keep
+  kept-none = refl
+
+  kept-hit : (n : ℕ) → p n ≡ true → keep p (n + 1) ≡ keep p n ++ (n ∷ [])
+  kept-hit n e = rw add-one (keep-hit p n e)
+
+  kept-miss : (n : ℕ) → p n ≡ false → keep p (n + 1) ≡ keep p n
+  kept-miss n e = rw add-one (keep-miss p n e)
+
+  pub count-hit : (n : ℕ) → p n ≡ true → length (keep p (n + 1)) ≡ length (keep p n) + 1
+  count-hit n e = ap length (kept-hit n e) ∙ length-append (keep p n) (n ∷ [])
+
+  pub count-miss : (n : ℕ) → p n ≡ false → length (keep p (n + 1)) ≡ length (keep p n)
+  count-miss n e = ap length (kept-miss n e)
+
+  -- a number more keeps at most one more, and no fewer
+  count-turn : (n : ℕ) → (length (keep p n) ≤ length (keep p (n + 1))) × (length (keep p (n + 1)) ≤ length (keep p n) + 1)
+  count-turn n =
+      elim (bool-cases (p n)) [ inl e ↦ omega (arith, count-hit n e) | inr e ↦ omega (arith, count-miss n e) ]
+
+  pub count-le : (n : ℕ) → length (keep p n) ≤ n
+  count-le zero = omega (arith, ap length kept-none)
+  count-le (suc n) = rw (← add-one) (omega (arith, count-turn n, count-le n))
+
+  count-add : (n m : ℕ) → length (keep p n) ≤ length (keep p (n + m))
+  count-add n zero = rw (add-zero n) (omega arith)
+  count-add n (suc m) = let e : n + suc m ≡ n + m + 1 = omega arith in rw e (omega (arith, count-turn (n + m), count-add n m))
+
+  pub count-up : (n m : ℕ) → n ≤ m → length (keep p n) ≤ length (keep p m)
+  count-up n m h = let e : n + (m - n) ≡ m = omega arith in omega (arith, count-add n (m - n), ap (λ (k : ℕ). length (keep p k)) e)
+
+  -- a loop that writes what it keeps: a turn that writes, and one that does not
+  module _ (k at : ℕ) (out d : List ℕ) (len : at ≡ length (keep p k)) (is : out ≡ written (keep p k) d) where
+    pub keep-write : p k ≡ true → at < length d → set out at k ≡ written (keep p (k + 1)) d
+    keep-write e h =
+        let l : length (keep p k) < length d = omega arith in
+        rw (len, is, kept-hit k e) (written-more (keep p k) d k l)
+
+    pub keep-skip : p k ≡ false → out ≡ written (keep p (k + 1)) d
+    keep-skip e = rw (kept-miss k e) is
+
+-- ---- the edges of a pattern, met by a loop that carries what the pattern was just before
+
+module _ (q : ℕ → Bool) where
+  -- false before tick 0
+  unfoldable pub was : ℕ → Bool
+  was k = ltb 0 k && q (k - 1)
+
+  pub was-none : false ≡ was 0
+  unfolding was
+  was-none = refl
+
+  pub was-more : (k : ℕ) → q k ≡ was (k + 1)
+  unfolding was
+  was-more k = let e : k + 1 - 1 ≡ k = omega arith in let l : 0 < k + 1 = omega arith in rw (lt-ltb 0 (k + 1) l, e)
+
+  -- an edge is where what the pattern is differs from what it was
+  pub edge-is : (k : ℕ) (here before : Bool) → here ≡ q k → before ≡ was k → edge q k ≡ not (Bool·beq here before)
+  unfolding was edge
+  edge-is k here before h b = rw (← h, ← b) (differ here before)
+    where
+      differ : (x y : Bool) → cond x (not y) y ≡ not (Bool·beq x y)
+      differ true true = refl
+      differ true false = refl
+      differ false true = refl
+      differ false false = refl
+
+-- ---- the critical partition
+
+-- the ticks of one frame at which the least supply rises
+abbrev pub risen : Board → List ℕ → ℕ → Bool
+risen b ws = within (rises (suppliedBy b ws) (b .frame)) (b .frame)
+
+-- where it rises or stops to rise, among the ticks 0 to k − 1
+abbrev pub edges : Board → List ℕ → ℕ → List ℕ
+edges b ws k = keep (edge (risen b ws)) k
+
+-- at the end of the frame these are the critical partition
+pub edges-critical : (b : Board) (ws : List ℕ) → edges b ws (b .frame + 1) ≡ criticalOf b ws
+unfolding critical maximalRuns
+edges-critical b ws = refl
+
+-- inside the frame the code's comparison of two least supplies tells it
+pub risen-in : (b : Board) (ws : List ℕ) (k : ℕ) → k < b .frame →
+    ltb (leastSupply (suppliedBy b ws) (b .frame) k) (leastSupply (suppliedBy b ws) (b .frame) (k + 1)) ≡ risen b ws k
+unfolding rises
+risen-in b ws k h = sym (within-in (rises (suppliedBy b ws) (b .frame)) (b .frame) k h)
+
+-- what its entry refuses: a table that has a fault, then a buffer that is too short
+module _ (b : Board) (ws : List ℕ) (room : ℕ) where
+  pub critical-table : {n p : ℕ} → tableFault b ws ≡ fault n p → criticalFault b ws room ≡ fault n p
+  unfolding criticalFault
+  critical-table e = or-fault (tableFault b ws) (roomFault (length (criticalOf b ws)) room) e
+
+  module _ (e : tableFault b ws ≡ fine) where
+    only-room : criticalFault b ws room ≡ roomFault (length (criticalOf b ws)) room
+    unfolding criticalFault
+    only-room = or-fine (tableFault b ws) (roomFault (length (criticalOf b ws)) room) e
+
+    pub critical-short : room < length (criticalOf b ws) → criticalFault b ws room ≡ fault 8 (length (criticalOf b ws))
+    unfolding roomFault
+    critical-short h = only-room ∙ sym (if-true _ 8 (length (criticalOf b ws)) (lt-ltb room (length (criticalOf b ws)) h))
+
+    pub critical-fine : length (criticalOf b ws) ≤ room → criticalFault b ws room ≡ fine
+    unfolding roomFault
+    critical-fine h = only-room ∙ sym (if-false _ 8 (length (criticalOf b ws)) (le-ltb room (length (criticalOf b ws)) h))
+
+-- ---- the greatest of a function's values, and the longest outage
+
+module _ (f : ℕ → ℕ) where
+  pub greatest-none : greatest f 0 ≡ 0
+  unfolding greatest
+  greatest-none = refl
+
+  pub greatest-more : (n : ℕ) → greatest f (n + 1) ≡ max (greatest f n) (f n)
+  unfolding greatest
+  greatest-more n = rw add-one
+
+module _ (σ : ℕ → Bool) where
+  pub outage-none : outageBefore σ 0 ≡ 0
+  unfolding outageBefore
+  outage-none = refl
+
+  pub longest-none : greatest (outageBefore σ) 1 ≡ 0
+  unfolding greatest outageBefore
+  longest-none = refl
+
+  pub outage-more : (k : ℕ) → outageBefore σ (k + 1) ≡ cond (σ k) 0 (outageBefore σ k + 1)
+  unfolding outageBefore
+  outage-more k = let e : k + 1 ≡ suc k = omega arith in ap (outageBefore σ) e
+
+  -- so a run counts no further than the ticks
+  pub outage-le : (k : ℕ) → outageBefore σ k ≤ k
+  unfolding outageBefore
+  outage-le zero = omega arith
+  outage-le (suc k) = elim (bool-cases (σ k)) [ inl e ↦ rw e (omega arith) | inr e ↦ rw e (omega (arith, outage-le k)) ]

@@ -1,0 +1,104 @@
+use mathlib.Core.Path.{_≡_, sym, ap, _∙_}
+use Prim.Native.Nat.{ℕ, _/_, _≤_, _<_}
+use lib.ListN.{length}
+use Rattle.scope.specs.Answers.{Fault.fine, Answer.given, Answer.refused, tableFault, criticalOf, criticalAnswer, criticalOut}
+use Rattle.theory.specs.Answers.{table-legal}
+use Rattle.tables.specs.Told.{boardOf, faultOf}
+use native.Mathlib.Omega.{arith}
+use borrow.Author.Needs.{needs}
+use Rattle.tables.proofs.FaultLaws.{refused-by, given-by, kept-by, written-by}
+use Rattle.supply.proofs.PartitionLaws.{critical-table, critical-short, critical-fine}
+use Rattle.supply.proofs.partition.critical.Statement.{statement}
+use Rattle.supply.proofs.partition.critical.Tie as tie
+use Rattle.supply.proofs.partition.critical.Reads as reads
+use Rattle.supply.proofs.partition.critical.Lts as lts
+use Rattle.supply.proofs.partition.count_edges.Reads as count-edges-reads
+use Rattle.supply.proofs.partition.refuse.Reads as refuse-reads
+use Rattle.supply.proofs.partition.write_edges.Reads as write-edges-reads
+use Rattle.tables.proofs.window.check_table.Reads as check-table-reads
+
+-- past the match the table has no fault
+fine-at : (c : tie.After-enum-told) → let a = c .before .before .before .before .before .args in tableFault (boardOf (a .board)) (a .windows .now) ≡ fine
+fine-at c = sym (c .before .before .check-table .ensures) ∙ ap faultOf (c .enum-told .given .1)
+
+check-table-requires : tie.Need-check-table-requires
+check-table-requires c κs = search needs
+
+enum-known-r : tie.Need-enum-known-r
+enum-known-r c = search needs
+
+refuse-requires : tie.Need-refuse-requires
+refuse-requires c κs = search needs
+
+enum-told : tie.Need-enum-told
+enum-told c = search needs
+
+count-edges-requires : tie.Need-count-edges-requires
+count-edges-requires c κs = let w = table-legal _ _ (fine-at c) in omega arith
+
+cast-numbers : tie.Need-cast-numbers
+cast-numbers c = search needs
+
+refuse-requires-2 : tie.Need-refuse-requires-2
+refuse-requires-2 c κs = search needs
+
+write-edges-requires : tie.Need-write-edges-requires
+write-edges-requires c κs =
+    let w = table-legal _ _ (fine-at (c .before .before .before)) in
+    (omega arith, omega (arith, c .before .before .count-edges .ensures, c .before .if1 .left))
+
+same-length : tie.Need-same-length
+same-length c = search needs
+
+returns : tie.Need-returns
+unfolding criticalAnswer criticalOut
+returns c =
+    let a = c .before .before .before .before .before .before .before .before .before .before .args in
+    let e = sym (c .before .before .before .before .before .before .before .check-table .ensures) ∙ ap faultOf (c .before .before .before .before .before .r .given .1) in
+    let f = critical-table (boardOf (a .board)) (a .windows .now) (length (a .out .now)) e in
+    let x = c .before .before .refuse .ensures in
+    (x .0 ∙ refused-by _ _ f, x .1 ∙ kept-by _ _ _ f)
+
+same-length-2 : tie.Need-same-length-2
+same-length-2 c = search needs
+
+returns-2 : tie.Need-returns-2
+unfolding criticalAnswer criticalOut
+returns-2 c =
+    let a = c .before .before .before .before .before .before .before .before .before .before .before .args in
+    let e = c .before .before .before .before .before .count-edges .ensures in
+    let h : length (a .out .now) < length (criticalOf (boardOf (a .board)) (a .windows .now)) = omega (arith, e, c .before .before .before .before .if1 .taken) in
+    let f = critical-short (boardOf (a .board)) (a .windows .now) (length (a .out .now)) (fine-at (c .before .before .before .before .before .before)) h in
+    let x = c .before .before .refuse2 .ensures in
+    (x .0 ∙ ap (refused 8) e ∙ refused-by _ _ f, x .1 ∙ kept-by _ _ _ f)
+
+same-length-3 : tie.Need-same-length-3
+same-length-3 c = search needs
+
+returns-3 : tie.Need-returns-3
+unfolding criticalAnswer criticalOut
+returns-3 c =
+    let a = c .before .before .before .before .before .before .before .before .before .before .before .args in
+    let e = c .before .before .before .before .before .count-edges .ensures in
+    let h : length (criticalOf (boardOf (a .board)) (a .windows .now)) ≤ length (a .out .now) = omega (arith, e, c .before .before .before .before .if1 .left) in
+    let f = critical-fine (boardOf (a .board)) (a .windows .now) (length (a .out .now)) (fine-at (c .before .before .before .before .before .before)) h in
+    (ap (λ (n : ℕ). given (n / 2)) e ∙ given-by _ _ f, c .before .before .write-edges .ensures ∙ written-by _ _ _ f)
+
+pub critical-spec : {M : Type 1} → statement M
+critical-spec =
+    tie.close
+    (tie.spec
+    check-table-requires
+    enum-known-r
+    refuse-requires
+    enum-told
+    count-edges-requires
+    cast-numbers
+    refuse-requires-2
+    write-edges-requires
+    same-length
+    returns
+    same-length-2
+    returns-2
+    same-length-3
+    returns-3)

@@ -1,0 +1,4 @@
+pub mod Signs
+pub mod FaultLaws
+pub mod WindowLaws
+pub mod TaskLaws
