@@ -8,8 +8,8 @@ use checker::answer::Verdict;
 use checker::answer::magnitude;
 use libc::STDOUT_FILENO;
 use machine::run::Ran;
-use plan::line::MOST;
-use plan::line::line;
+use print::line::MOST;
+use print::line::line;
 
 fn word(text: &[u8]) {
     io::write_all(STDOUT_FILENO, text);
