@@ -34,7 +34,8 @@ module _ (bytes : List ℕ) (at i next : ℕ) where
   stores-more out so-far h v after e = rw (add-one i, take-suc-set out i v h, so-far, e)
 
   -- once bad, bad for all longer lists
-  pub stops : (l : List ℕ) → readNumbers bytes i at ≡ read l next → (o n : ℕ) → readNumber bytes next ≡ bad o → i < n → readNumbers bytes n at ≡ bad o
+  pub stops : (l : List ℕ) → readNumbers bytes i at ≡ read l next →
+      (o n : ℕ) → readNumber bytes next ≡ bad o → i < n → readNumbers bytes n at ≡ bad o
   unfolding readNumbers
   stops l so-far o n e h = le-ind (λ (m : ℕ). readNumbers bytes m at ≡ bad o) (rw (so-far, e)) (λ m k ih. rw ih) n h
 

@@ -1,6 +1,6 @@
 -- The demands, of what `check_plan` answers. The premises are what it promises, and that the file is a plan
 use Prim.Native.Nat.{ℕ, _≤_, _<_}
-use mathlib.Core.Path.{_≡_, ap, _∙_}
+use mathlib.Core.Path.{_≡_, _∙_}
 use mathlib.Core.Logic.{_↔_}
 use mathlib.Core.Option.{none}
 use mathlib.Core.List.{List}

@@ -34,11 +34,13 @@ both {o} {o′} {o″} {at} {mid} {next} {s} {t} p q = record {
 }
 
 -- the second piece made of two
-pub both-of : {o o′ o″ : List ℕ} {at mid next : ℕ} {s : List ℕ} (t u : List ℕ) → Put o o′ at mid s → Put o′ o″ mid next (t ++ u) → Put o o″ at next (s ++ t ++ u)
+pub both-of : {o o′ o″ : List ℕ} {at mid next : ℕ} {s : List ℕ} (t u : List ℕ) →
+    Put o o′ at mid s → Put o′ o″ mid next (t ++ u) → Put o o″ at next (s ++ t ++ u)
 both-of {o} {o′} {o″} {at} {mid} {next} {s} t u p q = rw (append-assoc s t u) (both p q)
 
 -- one byte more of a text that is copied
-pub put-more : {o o′ : List ℕ} {at next : ℕ} (l : List ℕ) (i : ℕ) → i < length l → Put o o′ at next (take i l) → Put o (set o′ next (getD l i 0)) at (next + 1) (take (i + 1) l)
+pub put-more : {o o′ : List ℕ} {at next : ℕ} (l : List ℕ) (i : ℕ) → i < length l →
+    Put o o′ at next (take i l) → Put o (set o′ next (getD l i 0)) at (next + 1) (take (i + 1) l)
 put-more {o} {o′} {at} {next} l i h p = rw (add-one i, take-suc l i 0 h) (both p (put-one o′ next (getD l i 0)))
 
 -- ---- text at the front

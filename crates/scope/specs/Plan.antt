@@ -8,7 +8,8 @@ use lib.ListN.{length, drop}
 use Rattle.scope.specs.Numbers.{written}
 use Rattle.scope.specs.Limits.{mostWindows, mostTasks, mostNumber}
 use Rattle.scope.specs.Verdict.{Verdict}
-use Rattle.scope.specs.Answers.{Fault, Fault.fine, Fault.fault, Answer, Answer.given, Answer.refused, faultIf, _orElse_, unless, unlessKept, windowListFault, taskListFault, roomFault, verdictAnswer}
+use Rattle.scope.specs.Answers.{Fault, Fault.fine, Fault.fault, Answer, Answer.given, Answer.refused, faultIf, _orElse_, unless, unlessKept}
+use Rattle.scope.specs.Answers.{windowListFault, taskListFault, roomFault, verdictAnswer}
 
 -- ---- numbers
 
@@ -102,8 +103,8 @@ asListed l next = given (record { numbers = l; next = next })
 
 -- a count, then k numbers for each; a fault of the count is answered as soon as it is read
 unfoldable pub countedFrom : ℕ → (ℕ → Fault) → List ℕ → ℕ → Answer Listed
-countedFrom k faultOf bytes at =
-    orNine (readNumber bytes at) (λ n afterCount. past (faultOf n) (orNine (readNumbers bytes (k * n) afterCount) asListed))
+countedFrom k check bytes at =
+    orNine (readNumber bytes at) (λ n afterCount. past (check n) (orNine (readNumbers bytes (k * n) afterCount) asListed))
 
 -- window count, windows, task count, tasks, and the end of the file, after P
 unfoldable pub listsFrom : List ℕ → ℕ → ℕ → Answer Plan

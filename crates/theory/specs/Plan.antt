@@ -58,30 +58,31 @@ andThen-given (refused n p) f b e go = absurd (refused-not-given e)
 
 -- ---- a count that stands at an offset, and up to end k numbers for each
 
-pub record CountedAt (k : ℕ) (faultOf : ℕ → Fault) (bytes : List ℕ) (at : ℕ) (l : List ℕ) (end : ℕ) : Type 0 where
+pub record CountedAt (k : ℕ) (check : ℕ → Fault) (bytes : List ℕ) (at : ℕ) (l : List ℕ) (end : ℕ) : Type 0 where
   pub count : ℕ
   pub afterCount : ℕ
   pub counted : readNumber bytes at ≡ read count afterCount
-  pub legal : faultOf count ≡ fine
+  pub legal : check count ≡ fine
   pub numbers : readNumbers bytes (k * count) afterCount ≡ read l end
 
-module _ (k : ℕ) (faultOf : ℕ → Fault) (bytes : List ℕ) (at : ℕ) where
-  counted-at : (l : List ℕ) (end : ℕ) → CountedAt k faultOf bytes at l end → countedFrom k faultOf bytes at ≡ asListed l end
+module _ (k : ℕ) (check : ℕ → Fault) (bytes : List ℕ) (at : ℕ) where
+  counted-at : (l : List ℕ) (end : ℕ) → CountedAt k check bytes at l end → countedFrom k check bytes at ≡ asListed l end
   unfolding countedFrom
   counted-at l end q = rw (q .counted, q .legal, q .numbers)
 
-  counted-read : (x : Listed) → countedFrom k faultOf bytes at ≡ given x → CountedAt k faultOf bytes at (x .numbers) (x .next)
+  counted-read : (x : Listed) → countedFrom k check bytes at ≡ given x → CountedAt k check bytes at (x .numbers) (x .next)
   unfolding countedFrom
   counted-read x given-x =
       orNine-given (readNumber bytes at) _ x given-x (λ n next counted r₁.
-      past-given (faultOf n) _ x r₁ (λ legal r₂.
+      past-given (check n) _ x r₁ (λ legal r₂.
       orNine-given (readNumbers bytes (k * n) next) _ x r₂ (λ l end numbers r₃.
-      let q : CountedAt k faultOf bytes at l end = record { count = n; afterCount = next; counted = counted; legal = legal; numbers = numbers } in
+      let q : CountedAt k check bytes at l end = record { count = n; afterCount = next; counted = counted; legal = legal; numbers = numbers } in
       let z : record { numbers = l; next = end } ≡ x = cc in
-      subst (λ (y : Listed). CountedAt k faultOf bytes at (y .numbers) (y .next)) z q)))
+      subst (λ (y : Listed). CountedAt k check bytes at (y .numbers) (y .next)) z q)))
 
 -- a count below 128 has one byte
-module _ (k least most number : ℕ) (bytes : List ℕ) (at : ℕ) (l : List ℕ) (end : ℕ) (q : CountedAt k (countFault least most number) bytes at l end) where
+module _ (k least most number : ℕ) (bytes : List ℕ) (at : ℕ) (l : List ℕ) (end : ℕ)
+    (q : CountedAt k (countFault least most number) bytes at l end) where
   pub counted-next : most < 128 → (length l ≡ k * q .count) × (end ≤ at + 1 + 5 * (k * q .count)) × (end ≤ length bytes)
   counted-next small =
       let m = count-legal least most number (q .count) (q .legal) .1 in

@@ -50,15 +50,15 @@ plan-length p =
 
 -- ---- a count and its numbers, written where they stand and standing where they are written
 
-module _ (k : ℕ) (faultOf : ℕ → Fault) (bytes : List ℕ) (at : ℕ) (l : List ℕ) where
+module _ (k : ℕ) (check : ℕ → Fault) (bytes : List ℕ) (at : ℕ) (l : List ℕ) where
   written-counted : (rest : List ℕ) → UpTo mostNumber l → k * (length l / k) ≡ length l → length l / k ≤ mostNumber →
-      faultOf (length l / k) ≡ fine → drop at bytes ≡ countedBytes k l ++ rest → CountedAt k faultOf bytes at l (at + length (countedBytes k l))
+      check (length l / k) ≡ fine → drop at bytes ≡ countedBytes k l ++ rest → CountedAt k check bytes at l (at + length (countedBytes k l))
   written-counted rest u whole few legal h =
       let count = numberBytes (length l / k) in
       let e : drop at bytes ≡ count ++ (numbersBytes l ++ rest) = h ∙ append-assoc count (numbersBytes l) rest in
       let after : ℕ = at + length count in
       let z : after + length (numbersBytes l) ≡ at + length (countedBytes k l) = omega (arith, length-append count (numbersBytes l)) in
-      subst (CountedAt k faultOf bytes at l) z (record {
+      subst (CountedAt k check bytes at l) z (record {
         count = length l / k;
         afterCount = after;
         counted = written-number bytes _ at (length l / k) few e;
@@ -66,7 +66,7 @@ module _ (k : ℕ) (faultOf : ℕ → Fault) (bytes : List ℕ) (at : ℕ) (l : 
         numbers = rw whole (written-numbers bytes rest l after u (drop-past bytes count _ at e));
       })
 
-  counted-ahead : UpTo 255 bytes → (end : ℕ) (q : CountedAt k faultOf bytes at l end) → length l / k ≡ q .count →
+  counted-ahead : UpTo 255 bytes → (end : ℕ) (q : CountedAt k check bytes at l end) → length l / k ≡ q .count →
       drop at bytes ≡ countedBytes k l ++ drop end bytes
   counted-ahead u end q e =
       rw (
@@ -141,10 +141,12 @@ module _ (bytes : List ℕ) (at : ℕ) (p : Plan) (end : ℕ) (q : PlanAt bytes 
 
   pub plan-ahead : UpTo 255 bytes → drop at bytes ≡ planBytes p ++ drop end bytes
   plan-ahead u =
+      let m : length (p .windows) / 2 ≡ q .windows .count = omega (arith, windows-next bytes at p end q .0) in
+      let n : length (p .tasks) / 3 ≡ q .tasks .count = omega (arith, tasks-next bytes at p end q .0) in
       rw (
         parts p (drop end bytes),
-        ← counted-ahead 3 taskCountFault bytes (q .afterWindows) (p .tasks) u end (q .tasks) (omega (arith, tasks-next bytes at p end q .0)),
-        ← counted-ahead 2 windowCountFault bytes (q .afterFrame) (p .windows) u (q .afterWindows) (q .windows) (omega (arith, windows-next bytes at p end q .0)),
+        ← counted-ahead 3 taskCountFault bytes (q .afterWindows) (p .tasks) u end (q .tasks) n,
+        ← counted-ahead 2 windowCountFault bytes (q .afterFrame) (p .windows) u (q .afterWindows) (q .windows) m,
       )
       (number-ahead bytes at (p .frame) (q .afterFrame) (q .frame) u)
 

@@ -48,12 +48,14 @@ verdict-requires c κs = search needs
 returns : tie.Need-returns
 returns c =
     let r = c .before .before .before .before .before .read-plan in
-    plan-refused _ (c .before .refusal .given .0 .0) (sym (r .ensures .0) ∙ ap (λ z. toldPlan z (r .last .1 .1 .0) (r .last .1 .1 .1 .0)) (c .before .refusal .given .1))
+    let e = ap (λ z. toldPlan z (r .last .1 .1 .0) (r .last .1 .1 .1 .0)) (c .before .refusal .given .1) in
+    plan-refused _ (c .before .refusal .given .0 .0) (sym (r .ensures .0) ∙ e)
 
 returns-2 : tie.Need-returns-2
 returns-2 c =
     let r = c .before .before .before .before .before .before .before .before .read-plan in
-    c .verdict .ensures ∙ plan-judged _ _ (sym (r .ensures .0) ∙ ap (λ z. toldPlan z (r .last .1 .1 .0) (r .last .1 .1 .1 .0)) (c .before .before .before .before .frame .given .1))
+    let e = ap (λ z. toldPlan z (r .last .1 .1 .0) (r .last .1 .1 .1 .0)) (c .before .before .before .before .frame .given .1) in
+    c .verdict .ensures ∙ plan-judged _ _ (sym (r .ensures .0) ∙ e)
 
 pub check-plan-spec : {M : Type 1} → statement M
 check-plan-spec =

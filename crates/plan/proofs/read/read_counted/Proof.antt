@@ -28,7 +28,9 @@ count-at c = sym (c .before .before .before .read-number .ensures) ∙ ap toldNu
 few : (c : tie.Else2) → c .before .before .before .value .given .0 .0 ≤ c .before .before .before .before .before .before .before .before .args .most
 few c = ltb-false _ _ (c .if2 .left)
 
-fits : (c : tie.Else2) → c .before .before .before .before .before .before .before .before .args .each * c .before .before .before .value .given .0 .0 ≤ length (c .before .before .before .before .before .before .before .before .args .out .now)
+fits : (c : tie.Else2) →
+    let a = c .before .before .before .before .before .before .before .before .args in
+    a .each * c .before .before .before .value .given .0 .0 ≤ length (a .out .now)
 fits c = le-trans (mul-le-mul-left _ (few c)) (c .before .before .before .before .before .before .before .before .pre .1)
 
 read-number-requires : tie.Need-read-number-requires
@@ -47,11 +49,13 @@ cast-count : tie.Need-cast-count
 cast-count c = search needs
 
 returns : tie.Need-returns
-returns c = (
-  count-refused _ _ _ _ _ (c .before .before .before .before .before .before .before .args .refusal) _ _ (count-at (c .before)) (c .before .before .before .before .before .before .before .pre .0)
-      (λ h. elim (c .if1 .came) [ inl w ↦ omega (arith, w .taken, h .0) | inr w ↦ omega (arith, ltb-true (c .before .before .before .before .before .before .before .args .most) (c .before .before .value .given .0 .0) (w .1 .taken), h .1) ]),
-  search needs,
-)
+returns c =
+    let d = c .before .before .before .before .before .before .before in
+    let n = c .before .before .value .given .0 .0 in (
+      count-refused _ _ _ _ _ (d .args .refusal) _ _ (count-at (c .before)) (d .pre .0)
+          (λ h. elim (c .if1 .came) [ inl w ↦ omega (arith, w .taken, h .0) | inr w ↦ omega (arith, ltb-true (d .args .most) n (w .1 .taken), h .1) ]),
+      search needs,
+    )
 
 mul-read-numbers : tie.Need-mul-read-numbers
 mul-read-numbers c =
@@ -72,9 +76,11 @@ same-length c = search needs
 
 returns-3 : tie.Need-returns-3
 returns-3 c =
+    let d = c .before .before .before .before in
+    let a = d .before .before .before .before .before .before .before .before .args in
     let r = c .before .before .read-numbers .ensures in
-    let e = count-at (c .before .before .before .before .before .before) in
-    (r .0 ∙ count-taken _ _ _ _ _ (c .before .before .before .before .before .before .before .before .before .before .before .before .args .refusal) _ _ e (c .before .before .before .before .before .if1 .left) (few (c .before .before .before .before)), r .1)
+    let e = count-at (d .before .before) in
+    (r .0 ∙ count-taken _ _ _ _ _ (a .refusal) _ _ e (d .before .if1 .left) (few d), r .1)
 
 pub read-counted-spec : {M : Type 1} → statement M
 read-counted-spec =

@@ -1,4 +1,3 @@
-use native.Mathlib.Omega.{arith}
 use mathlib.Core.Path.{ap, _∙_}
 use Rattle.checker.specs.Told.{no}
 use Rattle.plan.specs.Told.{toldListed}
@@ -40,18 +39,19 @@ same-length-2 c = search needs
 
 returns : tie.Need-returns
 returns c =
-    let w = told-at toldListed _ (c .before .before .before .before .before .before .before .before .before .before .before .before .before .before .read-counted .ensures .0) (c .before .before .before .before .before .before .before .before .before .before .w .given .1) in
-    let t = told-at toldListed _ (c .before .before .before .before .before .before .before .read-counted2 .ensures .0) (c .before .before .before .t .given .1) in
+    let d = c .before .before .before .before .before .before .before in
+    let e = d .before .before .before in
+    let w = told-at toldListed _ (e .before .before .before .before .read-counted .ensures .0) (e .w .given .1) in
+    let t = told-at toldListed _ (d .read-counted2 .ensures .0) (c .before .before .before .t .given .1) in
     (ap no (c .nine .ensures) ∙ bytes-left _ _ _ _ _ w _ _ t (c .before .if1 .taken), (search needs, search needs))
 
 same-length-3 : tie.Need-same-length-3
 same-length-3 c = search needs
 
 returns-2 : tie.Need-returns-2
-returns-2 c = (
-  windows-refused _ _ _ (c .before .refusal .given .0 .0) (told-at toldListed _ (c .before .before .before .before .before .read-counted .ensures .0) (c .before .refusal .given .1)),
-  (search needs, search needs),
-)
+returns-2 c =
+    let w = told-at toldListed _ (c .before .before .before .before .before .read-counted .ensures .0) (c .before .refusal .given .1) in
+    (windows-refused _ _ _ (c .before .refusal .given .0 .0) w, (search needs, search needs))
 
 same-length-4 : tie.Need-same-length-4
 same-length-4 c = search needs
@@ -61,8 +61,10 @@ same-length-5 c = search needs
 
 returns-3 : tie.Need-returns-3
 returns-3 c =
-    let w = told-at toldListed _ (c .before .before .before .before .before .before .before .before .before .before .before .before .read-counted .ensures .0) (c .before .before .before .before .before .before .before .before .w .given .1) in
-    let t = told-at toldListed _ (c .before .before .before .before .before .read-counted2 .ensures .0) (c .before .refusal2 .given .1) in
+    let d = c .before .before .before .before .before in
+    let e = d .before .before .before in
+    let w = told-at toldListed _ (e .before .before .before .before .read-counted .ensures .0) (e .w .given .1) in
+    let t = told-at toldListed _ (d .read-counted2 .ensures .0) (c .before .refusal2 .given .1) in
     (tasks-refused _ _ _ _ _ w (c .before .refusal2 .given .0 .0) t, (search needs, search needs))
 
 same-length-6 : tie.Need-same-length-6
@@ -73,10 +75,13 @@ same-length-7 c = search needs
 
 returns-4 : tie.Need-returns-4
 returns-4 c =
-    let w = told-at toldListed _ (c .before .before .before .before .before .before .before .before .before .before .before .before .before .read-counted .ensures .0) (c .before .before .before .before .before .before .before .before .before .w .given .1) in
-    let t = told-at toldListed _ (c .before .before .before .before .before .before .read-counted2 .ensures .0) (c .before .before .t .given .1) in (
+    let d = c .before .before .before .before .before .before in
+    let e = d .before .before .before in
+    let f = e .before .before .before .before in
+    let w = told-at toldListed _ (f .read-counted .ensures .0) (e .w .given .1) in
+    let t = told-at toldListed _ (d .read-counted2 .ensures .0) (c .before .before .t .given .1) in (
       all-read _ _ _ _ _ w _ _ t (c .if1 .left),
-      (rw (c .before .before .before .before .before .before .before .before .before .w .given .1) at (c .before .before .before .before .before .before .before .before .before .before .before .before .before .read-counted .ensures .1), rw (c .before .before .t .given .1) at (c .before .before .before .before .before .before .read-counted2 .ensures .1)),
+      (rw (e .w .given .1) at (f .read-counted .ensures .1), rw (c .before .before .t .given .1) at (d .read-counted2 .ensures .1)),
     )
 
 pub read-lists-spec : {M : Type 1} → statement M

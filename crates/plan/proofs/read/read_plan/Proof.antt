@@ -38,7 +38,8 @@ same-length-2 c = search needs
 
 returns-2 : tie.Need-returns-2
 returns-2 c =
-    let e = sym (c .before .before .before .before .before .before .before .before .before .before .read-number .ensures) ∙ ap toldNumber (c .before .before .before .before .before .before .before .before .value .given .1) in
+    let d = c .before .before .before .before .before .before .before .before in
+    let e = sym (d .before .before .read-number .ensures) ∙ ap toldNumber (d .value .given .1) in
     let r = c .before .before .before .before .read-lists .ensures in
     (r .0 ∙ frame-read _ _ _ _ e, r .1)
 

@@ -44,11 +44,15 @@ same-length c = search needs
 returns : tie.Need-returns
 unfolding line
 returns c =
-    let p₁ = c .before .before .before .before .before .before .before .before .before .before .before .before .before .before .before .before .before .before .before .before .before .before .put-part .ensures .0 in
-    let p₂ = c .before .before .before .before .before .before .before .before .before .before .before .before .before .before .before .before .before .put-part2 .ensures .0 in
-    let p₃ = c .before .before .before .before .before .before .before .before .before .before .before .before .put-part3 .ensures .0 in
-    let p₄ = c .before .before .before .before .before .before .before .put-part4 .ensures .0 in
-    (both (both-of (bytes " supply ") _ (both-of (bytes " demand ") _ (both-of (bytes " start ") _ p₁ p₂) p₃) p₄) (c .before .before .put .ensures), search needs)
+    let c₄ = c .before .before .before .before .before .before .before in
+    let c₃ = c₄ .before .before .before .before .before in
+    let c₂ = c₃ .before .before .before .before .before in
+    let p₁ = c₂ .before .before .before .before .before .put-part .ensures .0 in
+    let p₂ = c₂ .put-part2 .ensures .0 in
+    let p₃ = c₃ .put-part3 .ensures .0 in
+    let p₄ = c₄ .put-part4 .ensures .0 in
+    let all = both-of (bytes " supply ") _ (both-of (bytes " demand ") _ (both-of (bytes " start ") _ p₁ p₂) p₃) p₄ in
+    (both all (c .before .before .put .ensures), search needs)
 
 pub put-miss-spec : {M : Type 1} → statement M
 put-miss-spec =

@@ -13,7 +13,9 @@ put-requires : tie.Need-put-requires
 put-requires c κs = search needs
 
 put-decimal-requires : tie.Need-put-decimal-requires
-put-decimal-requires c κs = let p = c .before .before .before .put .ensures in omega (arith, p .end, put-length p, decimal-short 19 (c .before .before .before .before .before .before .before .args .n) (omega arith))
+put-decimal-requires c κs =
+    let p = c .before .before .before .put .ensures in
+    omega (arith, p .end, put-length p, decimal-short 19 (c .before .before .before .before .before .before .before .args .n) (omega arith))
 
 same-length : tie.Need-same-length
 same-length c = search needs
@@ -22,7 +24,8 @@ returns : tie.Need-returns
 returns c =
     let p = c .before .before .before .before .before .before .put .ensures in
     let q = c .before .before .put-decimal .ensures in
-    (both p q, omega (arith, p .end, q .end, decimal-short 19 (c .before .before .before .before .before .before .before .before .before .before .args .n) (omega arith)))
+    let n = c .before .before .before .before .before .before .before .before .before .before .args .n in
+    (both p q, omega (arith, p .end, q .end, decimal-short 19 n (omega arith)))
 
 pub put-part-spec : {M : Type 1} → statement M
 put-part-spec = tie.close (tie.spec put-requires put-decimal-requires same-length returns)

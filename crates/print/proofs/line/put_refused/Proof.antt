@@ -40,11 +40,12 @@ same-length c = search needs
 
 returns : tie.Need-returns
 unfolding line
-returns c = (
-  rw (sym (c .before .before .before .before .before .before .before .before .before .before .before .before .before .before .before .before .number .ensures), sym (c .before .before .before .before .before .before .before .before .before .before .before .before .before .before .before .place .ensures))
-      (both (both-of (bytes " at ") _ (c .before .before .before .before .before .before .before .before .before .before .before .before .put-part .ensures .0) (c .before .before .before .before .before .before .before .put-part2 .ensures .0)) (c .before .before .put .ensures)),
-  search needs,
-)
+returns c =
+    let c₂ = c .before .before .before .before .before .before .before in
+    let c₁ = c₂ .before .before .before .before .before in
+    let place = c₁ .before .before .before in
+    let p = both-of (bytes " at ") _ (c₁ .put-part .ensures .0) (c₂ .put-part2 .ensures .0) in
+    (rw (sym (place .before .number .ensures), sym (place .place .ensures)) (both p (c .before .before .put .ensures)), search needs)
 
 pub put-refused-spec : {M : Type 1} → statement M
 put-refused-spec =

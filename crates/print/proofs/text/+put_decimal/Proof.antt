@@ -25,7 +25,8 @@ put-decimal-below t =
     and 1 put-decimal-kinds.ps (falls 1 put-decimal-kinds.ps _<_ μ-put-decimal t) put-decimal.Pre
 
 -- there is room for the last digit
-room : (t : ℕ) (c : put-decimal-lts.After-slice-known2 (put-decimal-below t, put-decimal.Post) (put-decimal-at t) put-decimal.Post) → c .before .before .put-decimal .result < length (c .before .before .before .before .before .before .args .out .now)
+room : (t : ℕ) (c : put-decimal-lts.After-slice-known2 (put-decimal-below t, put-decimal.Post) (put-decimal-at t) put-decimal.Post) →
+    c .before .before .put-decimal .result < length (c .before .before .before .before .before .before .args .out .now)
 room t c =
     let h = decimal-longer (c .before .before .before .before .before .before .args .n) (omega arith) in
     omega (arith, h, c .before .before .put-decimal .ensures .end, c .before .before .before .before .before .before .pre .1)
@@ -48,7 +49,8 @@ put-decimal-same-length t c = search needs
 put-decimal-returns : (t : ℕ) → put-decimal-lts.Need-returns (put-decimal-below t, put-decimal.Post) (put-decimal-at t) put-decimal.Post
 put-decimal-returns t c = rw (decimal-one (c .before .before .args .n) (omega arith)) (put-one _ _ _)
 
-put-decimal-put-decimal-requires : (t : ℕ) → put-decimal-lts.Need-put-decimal-requires (put-decimal-below t, put-decimal.Post) (put-decimal-at t) put-decimal.Post
+put-decimal-put-decimal-requires : (t : ℕ) →
+    put-decimal-lts.Need-put-decimal-requires (put-decimal-below t, put-decimal.Post) (put-decimal-at t) put-decimal.Post
 put-decimal-put-decimal-requires t c κs =
     let h = decimal-longer (c .before .before .before .args .n) (omega arith) in
     (omega (arith, c .before .before .before .pre .0), omega arith)

@@ -72,10 +72,13 @@ put-number-put-number-requires t c κs =
     (omega (arith, c .before .before .before .pre .0), simp length-set (omega arith))
 
 put-number-same-length-2 : (t : ℕ) → put-number-lts.Need-same-length-2 (put-number-below t, put-number.Post) (put-number-at t) put-number.Post
-put-number-same-length-2 t c = c .before .before .put-number .kept .0 ∙ length-set (c .before .before .before .before .before .before .args .out .now) (c .before .before .before .before .before .before .args .at) _
+put-number-same-length-2 t c =
+    let a = c .before .before .before .before .before .before .args in
+    c .before .before .put-number .kept .0 ∙ length-set (a .out .now) (a .at) _
 
 put-number-returns-2 : (t : ℕ) → put-number-lts.Need-returns-2 (put-number-below t, put-number.Post) (put-number-at t) put-number.Post
-put-number-returns-2 t c = rw (number-more (c .before .before .before .before .before .before .args .n) (omega arith)) (both (put-one _ _ _) (c .before .before .put-number .ensures))
+put-number-returns-2 t c =
+    rw (number-more (c .before .before .before .before .before .before .args .n) (omega arith)) (both (put-one _ _ _) (c .before .before .put-number .ensures))
 
 pub +put-number-spec : {M : Type 1} → statement M
 +put-number-spec = close μ-put-number λ t. put-number-lts.spec

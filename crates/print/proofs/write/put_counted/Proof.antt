@@ -13,7 +13,9 @@ put-number-requires : tie.Need-put-number-requires
 put-number-requires c κs = omega (arith, number-short 0 (c .before .before .before .args .count) (omega arith))
 
 put-numbers-requires : tie.Need-put-numbers-requires
-put-numbers-requires c κs = let p = c .before .before .before .put-number .ensures in omega (arith, p .end, put-length p, number-short 0 (c .before .before .before .before .before .before .before .args .count) (omega arith))
+put-numbers-requires c κs =
+    let p = c .before .before .before .put-number .ensures in
+    omega (arith, p .end, put-length p, number-short 0 (c .before .before .before .before .before .before .before .args .count) (omega arith))
 
 same-length : tie.Need-same-length
 same-length c = search needs
@@ -22,7 +24,8 @@ returns : tie.Need-returns
 returns c =
     let p = c .before .before .before .before .before .before .put-number .ensures in
     let q = c .before .before .put-numbers .ensures in
-    (both p (q .0), omega (arith, p .end, q .1, number-short 0 (c .before .before .before .before .before .before .before .before .before .before .args .count) (omega arith)))
+    let n = c .before .before .before .before .before .before .before .before .before .before .args .count in
+    (both p (q .0), omega (arith, p .end, q .1, number-short 0 n (omega arith)))
 
 pub put-counted-spec : {M : Type 1} → statement M
 put-counted-spec =

@@ -22,7 +22,8 @@ abbrev μ-loop : tie.MeasureT-loop
 μ-loop out₀ at list next₀ i₀ out next i = length list - i
 
 -- the number that is next takes at most five bytes
-short : (c : tie.After-shared-slice-known2 Inv-loop μ-loop) → length (numberBytes (getD (c .before .before .before .before .before .before .args .list .now) (c .before .before .before .loop .i) 0)) ≤ 5
+short : (c : tie.After-shared-slice-known2 Inv-loop μ-loop) →
+    length (numberBytes (getD (c .before .before .before .before .before .before .args .list .now) (c .before .before .before .loop .i) 0)) ≤ 5
 short c = let h = c .shared-slice-known2 .given (c .before .before .before .loop .i) in number-short 4 _ (omega arith)
 
 loop-holds : tie.Need-loop-holds Inv-loop μ-loop
@@ -47,9 +48,11 @@ loop-less c = search needs
 loop-again : tie.Need-loop-again Inv-loop μ-loop
 loop-again c =
     let l = c .before .before .before .before .before .before .loop in
-    let q = c .before .before .put-number .ensures in (
+    let q = c .before .before .put-number .ensures in
+    let list = c .before .before .before .before .before .before .before .before .before .args .list .now in
+    let one-more = take-suc list (l .i) 0 (c .before .before .before .before .before .loop-test .taken) in (
       omega arith,
-      rw (add-one (l .i), take-suc (c .before .before .before .before .before .before .before .before .before .args .list .now) (l .i) 0 (c .before .before .before .before .before .loop-test .taken), numbers-more) (both (l .inv .1) q),
+      rw (add-one (l .i), one-more, numbers-more) (both (l .inv .1) q),
       omega (arith, l .inv .2, q .end, short (c .before .before .before)),
     )
 

@@ -17,7 +17,9 @@ cast-put-counted : tie.Need-cast-put-counted
 cast-put-counted c = search needs
 
 put-counted-requires : tie.Need-put-counted-requires
-put-counted-requires c κs = let p = c .before .before .before .put-number .ensures in omega (arith, p .end, put-length p, number-short 4 (c .before .before .before .before .before .before .before .before .args .frame) (omega arith))
+put-counted-requires c κs =
+    let p = c .before .before .before .put-number .ensures in
+    omega (arith, p .end, put-length p, number-short 4 (c .before .before .before .before .before .before .before .before .args .frame) (omega arith))
 
 cast-put-counted-2 : tie.Need-cast-put-counted-2
 cast-put-counted-2 c = search needs
@@ -26,7 +28,8 @@ put-counted-requires-2 : tie.Need-put-counted-requires-2
 put-counted-requires-2 c κs =
     let p = c .before .before .before .before .before .before .before .put-number .ensures in
     let q = c .before .before .before .put-counted .ensures in
-    omega (arith, p .end, put-length p, q .1, put-length (q .0), number-short 4 (c .before .before .before .before .before .before .before .before .before .before .before .before .args .frame) (omega arith))
+    let frame = c .before .before .before .before .before .before .before .before .before .before .before .before .args .frame in
+    omega (arith, p .end, put-length p, q .1, put-length (q .0), number-short 4 frame (omega arith))
 
 same-length : tie.Need-same-length
 same-length c = search needs

@@ -63,7 +63,9 @@ deliver-requires c κs = search needs
 returns : tie.Need-returns
 unfolding writeAnswer writeOut
 returns c =
-    let e = lists-bad (planAt (c .before .before .before)) (length (c .before .before .before .before .before .before .before .before .before .args .out .now)) (sym (checked (c .before .before .before)) ∙ ap faultOf (c .before .r .given .1)) in
+    let d = c .before .before .before in
+    let room = length (d .before .before .before .before .before .before .args .out .now) in
+    let e = lists-bad (planAt d) room (sym (checked d) ∙ ap faultOf (c .before .r .given .1)) in
     (refused-by _ _ e, kept-by _ _ _ e)
 
 same-length : tie.Need-same-length
@@ -72,8 +74,10 @@ same-length c = search needs
 returns-2 : tie.Need-returns-2
 unfolding writeAnswer writeOut
 returns-2 c =
+    let d = c .before .before .before .before .before .before .before .before in
     let p = c .before .before .before .before .before .before .put-plan .ensures in
-    rw (lists-fine (planAt (c .before .before .before .before .before .before .before .before .before .before)) (length (c .before .before .before .before .before .before .before .before .before .before .before .before .before .before .before .before .args .out .now)) (fine-at (c .before .before .before .before .before .before .before .before)), sym (front (omega (arith, p .1)) (p .0))) (c .before .before .deliver .ensures)
+    let room = length (d .before .before .before .before .before .before .before .before .args .out .now) in
+    rw (lists-fine (planAt (d .before .before)) room (fine-at d), sym (front (omega (arith, p .1)) (p .0))) (c .before .before .deliver .ensures)
 
 pub write-plan-spec : {M : Type 1} → statement M
 write-plan-spec =
