@@ -1,14 +1,15 @@
 -- The lent buffer, number by number
-use mathlib.Core.Path.{_≡_, refl, _∙_}
+use mathlib.Core.Path.{_≡_, refl, sym, _∙_, subst}
 use mathlib.Core.List.{List}
-use Prim.Native.Nat.{ℕ, _+_, _-_, _≤_, _<_}
+use Prim.Native.Nat.{ℕ, _+_, _-_, _/_, _≤_, _<_}
 use native.Mathlib.Omega.{arith}
 use native.Mathlib.Decide.{ℕ-discrete}
 use lib.ListN.{length, set, length-set}
 use lib.Seq.{getD-set-same, getD-set-other}
 use borrow.Author.Tests.{lt-ltb, le-ltb}
 use Rattle.scope.specs.Limits.{mostJobs}
-use Rattle.scope.specs.Jobs.{Job, releaseOf}
+use Rattle.scope.specs.Jobs.{Job, job, jobsOf, releaseOf}
+use Rattle.theory.specs.Lists.{pieces-length}
 use Rattle.machine.specs.Relation.{Kept, noted}
 
 -- ---- a front that grows
@@ -25,6 +26,10 @@ kept-more f m d l h kp = record {
   ];
   high = λ j a. getD-set-other l m j (f m) 0 (omega arith) ∙ kp .high j (omega arith);
 }
+
+-- as many as there are jobs
+pub kept-all : (f : ℕ → ℕ) (jobs d l : List ℕ) → Kept f (length jobs / 3) d l → Kept f (length (jobsOf jobs)) d l
+kept-all f jobs d l = subst (λ (m : ℕ). Kept f m d l) (sym (pieces-length _ 3 job jobs))
 
 -- ---- the count of a job that ended, by cases
 

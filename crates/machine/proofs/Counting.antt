@@ -21,7 +21,7 @@ use Rattle.theory.specs.Numbers.{least-is, none-first, some-first}
 use Rattle.theory.specs.Machine.{workLeft-first, workLeft-falls}
 use Rattle.theory.specs.Run.{listed-length, listed-at}
 use Rattle.theory.specs.Buffers.{length-written}
-use Rattle.machine.specs.Slots.{noJob}
+use Rattle.machine.specs.Places.{noJob}
 use Rattle.machine.specs.Relation.{Ends, Kept, noted}
 
 -- ---- the least that passes, one number further

@@ -16,20 +16,20 @@ use Rattle.scope.specs.Tasks.{Task, taskAt}
 use Rattle.scope.specs.Jobs.{Job, taskOf, deadline}
 use Rattle.scope.specs.Run.{late}
 use Rattle.theory.specs.Numbers.{below-suc, and-both, both-and, bool-cases, fits-true, true-fits, none-first, some-first}
-use Rattle.machine.specs.declared.state.RunState.{RunState}
+use Rattle.jobs.specs.Legal.{Tasks, Jobs}
 use Rattle.machine.specs.Bits.{mem}
-use Rattle.machine.specs.Slots.{noJob, lowerIn, lateTo}
-use Rattle.machine.specs.Relation.{Tasks, Jobs, Holds, Split}
+use Rattle.machine.specs.Places.{dueAt, heldAt, noJob, lowerIn, lateTo}
+use Rattle.machine.specs.Relation.{Holds, Sound, Split}
 
 -- ---- the lowest late job of the tasks below n
 
-module _ (s : RunState) (t : ℕ) where
+module _ (pending : ℕ) (places : List ℕ) (t : ℕ) where
   -- task i is pending, and its job is due at instant t or before
   abbrev lateTask : ℕ → Bool
-  lateTask i = mem (s .pending) i && leb (getD (s .due) i 0) t
+  lateTask i = mem pending i && leb (dueAt places i) t
 
   abbrev jobAt : ℕ → ℕ
-  jobAt i = getD (s .job) i 0
+  jobAt i = heldAt places i
 
   -- r is the lowest job of the late tasks below n
   record Lowest (n r : ℕ) : Type 0 where
@@ -63,13 +63,13 @@ module _ (s : RunState) (t : ℕ) where
   }
 
   module _ (small : (i : ℕ) → i < mostTasks → lateTask i ≡ true → jobAt i < noJob) where
-    late-found : (n : ℕ) → n ≤ mostTasks → Found n (lateTo s t n)
+    late-found : (n : ℕ) → n ≤ mostTasks → Found n (lateTo pending places t n)
     unfolding lateTo lowerIn
     late-found zero l = inl (refl, λ i a e. absurd (omega arith))
     late-found (suc n) l = go (late-found n (omega arith)) (lateTask n) refl
       where
         best : ℕ
-        best = lateTo s t n
+        best = lateTo pending places t n
 
         two : Found n best → lateTask n ≡ true → (b : Bool) → ltb (jobAt n) best ≡ b → Found (suc n) (cond b (jobAt n) best)
         two (inl p) e true q = inr (small n (omega arith) e, lowest-take n e (λ i a z. absurd (p .1 i a z)))
@@ -85,37 +85,37 @@ module _ (s : RunState) (t : ℕ) where
 
 -- ---- it is the machine's, in a state that shows the work left at instant t
 
-module _ (ts : List Task) (js : List Job) (tasks : Tasks ts) (legal : Jobs ts js) (work : List ℕ) (t : ℕ) (s : RunState)
-    (h : Holds ts js work s) (sp : Split js t t (s .next)) where
+module _ (ts : List Task) (js : List Job) (tasks : Tasks ts) (legal : Jobs ts js) (work : List ℕ) (t pending next : ℕ) (places : List ℕ)
+    (h : Holds ts js work pending next places) (sp : Split js t t next) where
   -- the job of a late task is late
-  task-late : (i : ℕ) → i < mostTasks → lateTask s t i ≡ true → (jobAt s t i < length js) × (late ts js t work (jobAt s t i) ≡ true)
+  task-late : (i : ℕ) → i < mostTasks → lateTask pending places t i ≡ true → (jobAt pending places t i < length js) × (late ts js t work (jobAt pending places t i) ≡ true)
   unfolding late
   task-late i l e =
-      let p = and-both (mem (s .pending) i) (leb (getD (s .due) i 0) t) e in
-      let z = h .slot i l (p .0) in
-      let c : ℕ = jobAt s t i in (
+      let p = and-both (mem pending i) (leb (dueAt places i) t) e in
+      let z = h .place i l (p .0) in
+      let c : ℕ = jobAt pending places t i in (
         omega (arith, z .known, sp .bound),
-        true-fits (deadline ts js c) t 1 (getD work c 0) (omega (arith, z .due, leb-true (getD (s .due) i 0) t (p .1))) (omega (arith, z .left, z .some)),
+        true-fits (deadline ts js c) t 1 (getD work c 0) (omega (arith, z .due, leb-true (dueAt places i) t (p .1))) (omega (arith, z .left, z .some)),
       )
 
   -- a late job is that of a late task: it is released, for its deadline is after its release
-  late-task : (j : ℕ) → j < length js → late ts js t work j ≡ true → (taskOf js j < mostTasks) × (lateTask s t (taskOf js j) ≡ true) × (jobAt s t (taskOf js j) ≡ j)
+  late-task : (j : ℕ) → j < length js → late ts js t work j ≡ true → (taskOf js j < mostTasks) × (lateTask pending places t (taskOf js j) ≡ true) × (jobAt pending places t (taskOf js j) ≡ j)
   unfolding late
   late-task j l e =
       let p = fits-true (deadline ts js j) t 1 (getD work j 0) e in
       let i : ℕ = taskOf js j in
       let due : 1 ≤ (taskAt ts i) .D = tasks .rules i (legal .known j l) .due in
       let low : i < mostTasks = omega (arith, legal .known j l, tasks .few) in
-      let a : j < s .next = elim (decLt j (s .next)) [ yes a ↦ a | no a ↦ absurd (omega (arith, sp .later j (omega arith) l, p .0)) ] in
+      let a : j < next = elim (decLt j (next)) [ yes a ↦ a | no a ↦ absurd (omega (arith, sp .later j (omega arith) l, p .0)) ] in
       let y = h .held j a (p .1) in
-      let z = h .slot i low (y .0) in
-      let d : deadline ts js (jobAt s t i) ≡ deadline ts js j = ap (deadline ts js) (y .1) in
-      (low, both-and {a = mem (s .pending) i} (y .0) (le-leb (getD (s .due) i 0) t (omega (arith, z .due, d, p .0))), y .1)
+      let z = h .place i low (y .0) in
+      let d : deadline ts js (jobAt pending places t i) ≡ deadline ts js j = ap (deadline ts js) (y .1) in
+      (low, both-and {a = mem pending i} (y .0) (le-leb (dueAt places i) t (omega (arith, z .due, d, p .0))), y .1)
 
-  found : Found s t mostTasks (lateTo s t mostTasks)
-  found = late-found s t (λ i l e. omega (arith, task-late i l e .0, legal .few)) mostTasks (omega arith)
+  found : Found pending places t mostTasks (lateTo pending places t mostTasks)
+  found = late-found pending places t (λ i l e. omega (arith, task-late i l e .0, legal .few)) mostTasks (omega arith)
 
-  pub none-late : noJob ≤ lateTo s t mostTasks → first (late ts js t work) (length js) ≡ none
+  pub none-late : noJob ≤ lateTo pending places t mostTasks → first (late ts js t work) (length js) ≡ none
   none-late l = none-first (late ts js t work) (length js) (λ j a. elim (bool-cases (late ts js t work j)) [ inl e ↦ absurd (no j a e) | inr e ↦ e ])
     where
       no : (j : ℕ) → j < length js → late ts js t work j ≡ true → ⊥
@@ -124,10 +124,10 @@ module _ (ts : List Task) (js : List Job) (tasks : Tasks ts) (legal : Jobs ts js
         | inr p ↦ absurd (omega (arith, p .0))
       ]
 
-  pub one-late : lateTo s t mostTasks < noJob → first (late ts js t work) (length js) ≡ some (lateTo s t mostTasks)
-  one-late l = go (lateTo s t mostTasks) l found
+  pub one-late : lateTo pending places t mostTasks < noJob → first (late ts js t work) (length js) ≡ some (lateTo pending places t mostTasks)
+  one-late l = go (lateTo pending places t mostTasks) l found
     where
-      go : (r : ℕ) → r < noJob → Found s t mostTasks r → first (late ts js t work) (length js) ≡ some r
+      go : (r : ℕ) → r < noJob → Found pending places t mostTasks r → first (late ts js t work) (length js) ≡ some r
       go r l (inl p) = absurd (omega (arith, p .0))
       go r l (inr p) =
           let q = p .1 in
@@ -139,3 +139,13 @@ module _ (ts : List Task) (js : List Job) (tasks : Tasks ts) (legal : Jobs ts js
                 absurd (omega (arith, q .least (taskOf js j) (z .0) (z .1), z .2))
             | inr e ↦ e
           ])
+
+  -- before every pending deadline the code finds none
+  pub early-none : (soon : ℕ) → Sound pending places soon → t < soon → lateTo pending places t mostTasks ≡ noJob
+  early-none soon ok l = elim found [
+    | inl p ↦ p .0
+    | inr p ↦
+        let q = p .1 in
+        let y = and-both (mem pending (q .at)) (leb (dueAt places (q .at)) t) (q .is) in
+        absurd (omega (arith, ok (q .at) (q .bound) (y .0), leb-true (dueAt places (q .at)) t (y .1)))
+  ]

@@ -1,308 +1,335 @@
--- What release and step keep of the relation between the code's state and the work left
+-- What the parts of a tick keep of the relation between the code's state, the places and the work left
 use mathlib.Core.Path.{_≡_, refl, sym, ap, _∙_, subst}
-use mathlib.Core.Bool.{Bool, true, false, cond, _&&_, false≢true}
+use mathlib.Core.Bool.{Bool, true, false, cond, false≢true}
 use mathlib.Core.Logic.{inl, inr, _≢_}
 use mathlib.Core.List.{List}
-use Prim.Native.Nat.{ℕ, zero, suc, _+_, _-_, _≤_, _<_}
+use Prim.Native.Nat.{ℕ, zero, suc, _+_, _-_, _≤_, _<_, min}
 use native.Mathlib.Omega.{arith}
 use native.Mathlib.Decide.{ℕ-discrete}
 use lib.Dec.{ltb, eqb}
-use lib.ListN.{length, getD, set, length-set}
+use lib.ListN.{length, getD, set}
 use lib.Seq.{getD-set-same, getD-set-other}
 use borrow.Author.Tests.{lt-ltb, le-ltb, eqb-true, eqb-false}
 use Rattle.scope.specs.Limits.{mostTasks}
 use Rattle.scope.specs.Tasks.{Task, taskAt}
-use Rattle.scope.specs.Jobs.{Job, releaseOf, taskOf, workOf, deadline}
+use Rattle.scope.specs.Jobs.{Job, jobAt, releaseOf, taskOf, workOf, deadline}
 use Rattle.scope.specs.Machine.{chosen, worked, tick}
 use Rattle.theory.specs.Numbers.{bool-cases}
-use Rattle.machine.specs.declared.state.RunState.{RunState}
-use Rattle.machine.specs.Bits.{mem, removed}
-use Rattle.machine.specs.Slots.{noJob, nextOf, feed, releaseAt, idleOf, workOn, stepOf}
-use Rattle.machine.specs.Relation.{Tasks, Jobs, SlotOf, HoldsOf, Holds, Split, Ends}
+use Rattle.jobs.specs.Legal.{Tasks, Jobs}
+use Rattle.machine.specs.Bits.{mem, added, removed}
+use Rattle.machine.specs.Places.{leftAt, dueAt, heldAt, noJob, putAt, servedAt, endedAt}
+use Rattle.machine.specs.State.{Whole, nextOf, feed, releaseAt}
+use Rattle.machine.specs.Relation.{PlaceOf, Holds, Sound, Split, Ends}
 use Rattle.machine.proofs.Sets.{added-same, added-other, removed-same, removed-other}
+use Rattle.machine.proofs.PlaceLaws.{put-length, put-other, put-own, served-idle, served-length, served-other, served-own, ended-idle, ended-last, ended-more}
 use Rattle.machine.proofs.Pick.{Chosen}
 
--- what stands at task i of the state s
-abbrev Slot : List Task → List Job → List ℕ → RunState → ℕ → Type 0
-Slot ts js work s i = SlotOf ts js work (s .next) (s .left) (s .due) (s .job) i
-
 -- the work left when the job of task i has got a tick
-abbrev served : RunState → ℕ → List ℕ → List ℕ
-served s i work = set work (getD (s .job) i 0) (getD work (getD (s .job) i 0) 0 - 1)
+abbrev served : List ℕ → ℕ → List ℕ → List ℕ
+served places i work = set work (heldAt places i) (getD work (heldAt places i) 0 - 1)
+
+-- the tasks that are pending after a tick that went to task i
+abbrev pub pendingAfter : ℕ → ℕ → List ℕ → ℕ
+pendingAfter pending i places = cond (ltb (endedAt i places) noJob) (removed pending i) pending
 
 module _ (ts : List Task) (js : List Job) (tasks : Tasks ts) (legal : Jobs ts js) (work : List ℕ) where
   -- ---- releasing a job
 
   -- where no job is late at instant k, the task of a job released at k has no pending job: the one before it was due T ticks after its release
-  free-at : (s : RunState) (k m : ℕ) → Holds ts js work s → s .next ≤ m → m < length js → releaseOf js m ≡ k →
-      ((j : ℕ) → j < length js → deadline ts js j ≤ k → getD work j 0 ≡ 0) → mem (s .pending) (taskOf js m) ≡ false
-  free-at s k m h a b e ontime = elim (bool-cases (mem (s .pending) i)) [ inl q ↦ absurd (taken q) | inr q ↦ q ]
+  free-at : (pending next : ℕ) (places : List ℕ) (k m : ℕ) → Holds ts js work pending next places → next ≤ m → m < length js → releaseOf js m ≡ k →
+      ((j : ℕ) → j < length js → deadline ts js j ≤ k → getD work j 0 ≡ 0) → mem pending (taskOf js m) ≡ false
+  free-at pending next places k m h a b e ontime = elim (bool-cases (mem pending i)) [ inl q ↦ absurd (taken q) | inr q ↦ q ]
     where
       i : ℕ
       i = taskOf js m
 
-      taken : mem (s .pending) i ≡ true → ⊥
+      taken : mem pending i ≡ true → ⊥
       taken q =
-          let z = h .slot i (omega (arith, legal .known m b, tasks .few)) q in
-          let j : ℕ = getD (s .job) i 0 in
+          let z = h .place i (omega (arith, legal .known m b, tasks .few)) q in
+          let j : ℕ = heldAt places i in
           let d : (taskAt ts (taskOf js j)) .D ≡ (taskAt ts i) .D = ap (λ (x : ℕ). (taskAt ts x) .D) (z .same) in
           let due : deadline ts js j ≤ k =
           omega (arith, legal .apart j m (omega (arith, z .known)) b (z .same), tasks .within i (legal .known m b), d) in
           omega (arith, ontime j (omega (arith, z .known)) due, z .left, z .some)
 
-  -- the next job takes its task's place, where that is free
-  put-holds : (s : RunState) → Holds ts js work s → s .next < length js → getD work (s .next) 0 ≡ workOf js (s .next) →
-      mem (s .pending) (taskOf js (s .next)) ≡ false → Holds ts js work (nextOf ts js s)
-  put-holds s h l e f = record {
-    lefts = length-set (s .left) i w ∙ h .lefts;
-    dues = length-set (s .due) i d ∙ h .dues;
-    jobs = length-set (s .job) i m ∙ h .jobs;
-    slot = λ x a q. elim (ℕ-discrete i x) [ yes z ↦ rw (← z) new | no z ↦ old x a z (sym (added-other (s .pending) i x z) ∙ q) ];
-    held = λ j a q. elim (ℕ-discrete j m) [
-      | yes z ↦ rw z (added-same (s .pending) i, getD-set-same (s .job) i m 0 (omega (arith, h .jobs, low)))
-      | no z ↦
-          let y = h .held j (omega arith) q in
-          let u : i ≢ taskOf js j = λ g. false≢true (sym f ∙ ap (mem (s .pending)) g ∙ y .0) in
-          (added-other (s .pending) i (taskOf js j) u ∙ y .0, getD-set-other (s .job) i (taskOf js j) m 0 (λ g. u (sym g)) ∙ y .1)
-    ];
-  }
-    where
-      m : ℕ
-      m = s .next
+  -- job m, the next, takes its task's place, where that is free
+  module _ (pending m : ℕ) (places : List ℕ) (h : Holds ts js work pending m places) (l : m < length js) (e : getD work m 0 ≡ workOf js m)
+      (f : mem pending (taskOf js m) ≡ false) where
+    abbrev i : ℕ
+    i = taskOf js m
 
-      i : ℕ
-      i = taskOf js m
+    abbrev after : List ℕ
+    after = putAt places i (workOf js m) (deadline ts js m) m
 
-      w : ℕ
-      w = workOf js m
+    low : i < mostTasks
+    low = omega (arith, legal .known m l, tasks .few)
 
-      d : ℕ
-      d = deadline ts js m
+    -- the place of its own task
+    own : PlaceOf ts js work (m + 1) after i
+    own =
+        let q = put-own places i (workOf js m) (deadline ts js m) m (h .size) low in
+        record {
+          known = omega (arith, q .2);
+          same = ap (taskOf js) (q .2);
+          due = q .1 ∙ sym (ap (deadline ts js) (q .2));
+          left = q .0 ∙ sym e ∙ sym (ap (λ (x : ℕ). getD work x 0) (q .2));
+          some = omega (arith, q .0, legal .some m l);
+        }
 
-      low : i < mostTasks
-      low = omega (arith, legal .known m l, tasks .few)
+    -- the place of another task
+    other : (x : ℕ) → x < mostTasks → x ≢ i → mem pending x ≡ true → PlaceOf ts js work (m + 1) after x
+    other x a u q =
+        let y = h .place x a q in
+        let z = put-other places i (workOf js m) (deadline ts js m) m x u in
+        record {
+          known = omega (arith, z .2, y .known);
+          same = ap (taskOf js) (z .2) ∙ y .same;
+          due = z .1 ∙ y .due ∙ sym (ap (deadline ts js) (z .2));
+          left = z .0 ∙ y .left ∙ sym (ap (λ (x : ℕ). getD work x 0) (z .2));
+          some = omega (arith, z .0, y .some);
+        }
 
-      -- the place of its own task
-      new : Slot ts js work (nextOf ts js s) i
-      new =
-          let q : getD (set (s .job) i m) i 0 ≡ m = getD-set-same (s .job) i m 0 (omega (arith, h .jobs, low)) in
-          let q₂ : getD (set (s .left) i w) i 0 ≡ w = getD-set-same (s .left) i w 0 (omega (arith, h .lefts, low)) in
-          record {
-            known = omega (arith, q);
-            same = ap (taskOf js) q;
-            due = getD-set-same (s .due) i d 0 (omega (arith, h .dues, low)) ∙ sym (ap (deadline ts js) q);
-            left = q₂ ∙ sym e ∙ sym (ap (λ (x : ℕ). getD work x 0) q);
-            some = omega (arith, q₂, legal .some m l);
-          }
+    put-holds : Holds ts js work (added pending i) (m + 1) after
+    put-holds = record {
+      size = put-length places i (workOf js m) (deadline ts js m) m ∙ h .size;
+      place = λ x a q. elim (ℕ-discrete i x) [ yes z ↦ rw (← z) own | no z ↦ other x a (λ g. z (sym g)) (sym (added-other pending i x z) ∙ q) ];
+      held = λ j a q. elim (ℕ-discrete j m) [
+        | yes z ↦ rw z (added-same pending i, put-own places i (workOf js m) (deadline ts js m) m (h .size) low .2)
+        | no z ↦
+            let y = h .held j (omega arith) q in
+            let u : i ≢ taskOf js j = λ g. false≢true (sym f ∙ ap (mem pending) g ∙ y .0) in
+            (added-other pending i (taskOf js j) u ∙ y .0, put-other places i (workOf js m) (deadline ts js m) m (taskOf js j) (λ g. u (sym g)) .2 ∙ y .1)
+      ];
+    }
 
-      -- the place of another task
-      old : (x : ℕ) → x < mostTasks → i ≢ x → mem (s .pending) x ≡ true → Slot ts js work (nextOf ts js s) x
-      old x a z q =
-          let y = h .slot x a q in
-          let u : x ≢ i = λ g. z (sym g) in
-          let q₁ : getD (set (s .job) i m) x 0 ≡ getD (s .job) x 0 = getD-set-other (s .job) i x m 0 u in
-          let q₂ : getD (set (s .left) i w) x 0 ≡ getD (s .left) x 0 = getD-set-other (s .left) i x w 0 u in
-          record {
-            known = omega (arith, q₁, y .known);
-            same = ap (taskOf js) q₁ ∙ y .same;
-            due = getD-set-other (s .due) i x d 0 u ∙ y .due ∙ sym (ap (deadline ts js) q₁);
-            left = q₂ ∙ y .left ∙ sym (ap (λ (x : ℕ). getD work x 0) q₁);
-            some = omega (arith, q₂, y .some);
-          }
+    put-sound : (soon : ℕ) → Sound pending places soon → Sound (added pending i) after (min soon (deadline ts js m))
+    put-sound soon ok x a q = elim (ℕ-discrete i x) [
+      | yes z ↦ rw (← z) (omega (arith, put-own places i (workOf js m) (deadline ts js m) m (h .size) low .1))
+      | no z ↦ omega (arith, put-other places i (workOf js m) (deadline ts js m) m x (λ g. z (sym g)) .1, ok x a (sym (added-other pending i x z) ∙ q))
+    ]
 
   -- ---- releasing the jobs of tick k
 
-  -- t is the state s after that
-  pub record Fed (k : ℕ) (s t : RunState) : Type 0 where
-    pub holds : Holds ts js work t
-    pub split : Split js (k + 1) (k + 1) (t .next)
-    pub backlog : t .backlog ≡ s .backlog
+  -- the state w after that
+  pub record Fed (k : ℕ) (w v : Whole) : Type 0 where
+    pub holds : Holds ts js work (v .state .pending) (v .state .next) (v .places)
+    pub soon : Sound (v .state .pending) (v .places) (v .state .soon)
+    pub split : Split js (k + 1) (k + 1) (v .state .next)
+    pub backlog : v .state .backlog ≡ w .state .backlog
+    pub instant : v .state .instant ≡ w .state .instant
+    pub end : v .state .end ≡ w .state .end
 
   module _ (k : ℕ) (ontime : (j : ℕ) → j < length js → deadline ts js j ≤ k → getD work j 0 ≡ 0)
       (new : (j : ℕ) → k ≤ releaseOf js j → getD work j 0 ≡ workOf js j) where
-    feed-holds : (f : ℕ) (s : RunState) → Holds ts js work s → Split js k (k + 1) (s .next) → f + s .next ≡ length js → Fed k s (feed ts js k f s)
+    feed-holds : (f : ℕ) (w : Whole) → w .state .instant ≡ k → Holds ts js work (w .state .pending) (w .state .next) (w .places) →
+        Sound (w .state .pending) (w .places) (w .state .soon) → Split js k (k + 1) (w .state .next) → f + w .state .next ≡ length js → Fed k w (feed ts js f w)
     unfolding feed
-    feed-holds zero s h sp e = record {
+    feed-holds zero w at h ok sp e = record {
       holds = h;
+      soon = ok;
       split = record { bound = sp .bound; early = sp .early; later = λ j a b. absurd (omega arith) };
       backlog = refl;
+      instant = refl;
+      end = refl;
     }
-    feed-holds (suc f) s h sp e = go (feed-holds f (nextOf ts js s)) (eqb (releaseOf js m) k) refl
+    feed-holds (suc f) w at h ok sp e = go (feed-holds f next at) (eqb (releaseOf js m) (w .state .instant)) refl
       where
         m : ℕ
-        m = s .next
+        m = w .state .next
+
+        next : Whole
+        next = nextOf ts (jobAt js m) w
 
         l : m < length js
         l = omega arith
 
-        go : (Holds ts js work (nextOf ts js s) → Split js k (k + 1) (m + 1) → f + (m + 1) ≡ length js → Fed k (nextOf ts js s) (feed ts js k f (nextOf ts js s))) →
-            (t : Bool) → eqb (releaseOf js m) k ≡ t → Fed k s (cond t (feed ts js k f (nextOf ts js s)) s)
+        go : (Holds ts js work (next .state .pending) (m + 1) (next .places) → Sound (next .state .pending) (next .places) (next .state .soon) →
+            Split js k (k + 1) (m + 1) → f + (m + 1) ≡ length js → Fed k next (feed ts js f next)) →
+            (t : Bool) → eqb (releaseOf js m) (w .state .instant) ≡ t → Fed k w (cond t (feed ts js f next) w)
         go more true q =
-            let r : releaseOf js m ≡ k = eqb-true (releaseOf js m) k q in
-            let y = more (put-holds s h l (new m (omega arith)) (free-at s k m h (omega arith) l r ontime))
+            let r : releaseOf js m ≡ k = eqb-true (releaseOf js m) (w .state .instant) q ∙ at in
+            let free = free-at (w .state .pending) m (w .places) k m h (omega arith) l r ontime in
+            let y = more (put-holds (w .state .pending) m (w .places) h l (new m (omega arith)) free)
+            (put-sound (w .state .pending) m (w .places) h l (new m (omega arith)) free (w .state .soon) ok)
             (record {
               bound = omega (arith, l);
               early = λ j a. elim (ℕ-discrete j m) [ yes g ↦ omega (arith, ap (releaseOf js) g) | no g ↦ sp .early j (omega arith) ];
               later = λ j a b. sp .later j (omega arith) b;
             }) (omega arith) in
-            record { holds = y .holds; split = y .split; backlog = y .backlog }
+            record { holds = y .holds; soon = y .soon; split = y .split; backlog = y .backlog; instant = y .instant; end = y .end }
         go more false q =
-            let u : releaseOf js m ≢ k = eqb-false (releaseOf js m) k q in
+            let u : releaseOf js m ≢ k = λ g. eqb-false (releaseOf js m) (w .state .instant) q (g ∙ sym at) in
             record {
               holds = h;
+              soon = ok;
               split = record {
                 bound = sp .bound;
                 early = sp .early;
                 later = λ j a b. omega (arith, sp .later m (omega arith) l, legal .rises m j a b);
               };
               backlog = refl;
+              instant = refl;
+              end = refl;
             }
 
-    pub release-holds : (s : RunState) → Holds ts js work s → Split js k k (s .next) → Fed k s (releaseAt ts js k s)
+    pub release-holds : (w : Whole) → w .state .instant ≡ k → Holds ts js work (w .state .pending) (w .state .next) (w .places) →
+        Sound (w .state .pending) (w .places) (w .state .soon) → Split js k k (w .state .next) → Fed k w (releaseAt ts js w)
     unfolding releaseAt
-    release-holds s h sp =
-        feed-holds (length js - s .next) s h
+    release-holds w at h ok sp =
+        feed-holds (length js - w .state .next) w at h ok
         (record { bound = sp .bound; early = λ j l. omega (arith, sp .early j l); later = sp .later })
         (omega (arith, sp .bound))
 
   -- ---- one tick of work
 
   -- the job of task i
-  module _ (s : RunState) (i : ℕ) (size : length work ≡ length js) (bound : s .next ≤ length js) (l : i < mostTasks) (z : Slot ts js work s i) where
+  module _ (pending next : ℕ) (places : List ℕ) (i : ℕ) (size : length work ≡ length js) (bound : next ≤ length js) (l : i < mostTasks)
+      (h : Holds ts js work pending next places) (m : mem pending i ≡ true) where
+    z : PlaceOf ts js work next places i
+    z = h .place i l m
+
     -- its index, and the work left of it after the tick
     abbrev c : ℕ
-    c = getD (s .job) i 0
+    c = heldAt places i
 
     abbrev v : ℕ
-    v = getD (s .left) i 0 - 1
+    v = leftAt places i - 1
 
     -- it gets the tick, and no other job does
-    at-c : getD (served s i work) c 0 ≡ v
+    at-c : getD (served places i work) c 0 ≡ v
     at-c = getD-set-same work c (getD work c 0 - 1) 0 (omega (arith, z .known)) ∙ omega (arith, z .left)
 
-    off-c : (j : ℕ) → j ≢ c → getD (served s i work) j 0 ≡ getD work j 0
+    off-c : (j : ℕ) → j ≢ c → getD (served places i work) j 0 ≡ getD work j 0
     off-c j u = getD-set-other work c j (getD work c 0 - 1) 0 u
 
-    work-holds : Holds ts js work s → mem (s .pending) i ≡ true → Holds ts js (served s i work) (workOn s i)
-    work-holds h m = go (eqb v 0) refl
-      where
-        -- the place of another task
-        other : (x : ℕ) → x < mostTasks → x ≢ i → mem (s .pending) x ≡ true → SlotOf ts js (served s i work) (s .next) (set (s .left) i v) (s .due) (s .job) x
-        other x a u q =
-            let y = h .slot x a q in
-            let e : getD (set (s .left) i v) x 0 ≡ getD (s .left) x 0 = getD-set-other (s .left) i x v 0 u in
-            let w : getD (s .job) x 0 ≢ c = λ g. u (sym (y .same) ∙ ap (taskOf js) g ∙ z .same) in
-            record {
-              known = y .known;
-              same = y .same;
-              due = y .due;
-              left = e ∙ y .left ∙ sym (off-c (getD (s .job) x 0) w);
-              some = omega (arith, e, y .some);
-            }
-
-        -- the place of its own task, where work is left
-        own : 0 < v → SlotOf ts js (served s i work) (s .next) (set (s .left) i v) (s .due) (s .job) i
-        own p =
-            let e : getD (set (s .left) i v) i 0 ≡ v = getD-set-same (s .left) i v 0 (omega (arith, h .lefts)) in
-            record { known = z .known; same = z .same; due = z .due; left = e ∙ sym at-c; some = omega (arith, e) }
-
-        -- another job keeps its place
-        kept : (j : ℕ) → j < s .next → j ≢ c → 0 < getD (served s i work) j 0 →
-            (taskOf js j ≢ i) × (mem (s .pending) (taskOf js j) ≡ true) × (getD (s .job) (taskOf js j) 0 ≡ j)
-        kept j a u q =
-            let y = h .held j a (omega (arith, off-c j u)) in
-            ((λ g. u (sym (y .1) ∙ ap (λ (x : ℕ). getD (s .job) x 0) g)), y .0, y .1)
-
-        go : (t : Bool) → eqb v 0 ≡ t →
-            HoldsOf ts js (served s i work) (cond t (removed (s .pending) i) (s .pending)) (s .next) (set (s .left) i v) (s .due) (s .job)
-        go true e = record {
-          lefts = length-set (s .left) i v ∙ h .lefts;
-          dues = h .dues;
-          jobs = h .jobs;
-          slot = λ x a q. elim (ℕ-discrete i x) [
-            | yes g ↦ absurd (false≢true (sym (removed-same (s .pending) i) ∙ ap (mem (removed (s .pending) i)) g ∙ q))
-            | no g ↦ other x a (λ y. g (sym y)) (sym (removed-other (s .pending) i x g) ∙ q)
-          ];
-          held = λ j a q. elim (ℕ-discrete j c) [
-            | yes g ↦ absurd (omega (arith, ap (λ (x : ℕ). getD (served s i work) x 0) g, at-c, eqb-true v 0 e))
-            | no g ↦ let y = kept j a g q in (removed-other (s .pending) i (taskOf js j) (λ w. y .0 (sym w)) ∙ y .1, y .2)
-          ];
+    -- the place of another task
+    still : (x : ℕ) → x < mostTasks → x ≢ i → mem pending x ≡ true → PlaceOf ts js (served places i work) next (servedAt i places) x
+    still x a u q =
+        let y = h .place x a q in
+        let e = served-other places i l x u in
+        let w : heldAt places x ≢ c = λ g. u (sym (y .same) ∙ ap (taskOf js) g ∙ z .same) in
+        record {
+          known = omega (arith, e .2, y .known);
+          same = ap (taskOf js) (e .2) ∙ y .same;
+          due = e .1 ∙ y .due ∙ sym (ap (deadline ts js) (e .2));
+          left = e .0 ∙ y .left ∙ sym (off-c (heldAt places x) w) ∙ sym (ap (λ (j : ℕ). getD (served places i work) j 0) (e .2));
+          some = omega (arith, e .0, y .some);
         }
-        go false e = record {
-          lefts = length-set (s .left) i v ∙ h .lefts;
-          dues = h .dues;
-          jobs = h .jobs;
-          slot = λ x a q. elim (ℕ-discrete i x) [ yes g ↦ rw (← g) (own (omega (arith, eqb-false v 0 e))) | no g ↦ other x a (λ y. g (sym y)) q ];
-          held = λ j a q. elim (ℕ-discrete j c) [
-            | yes g ↦ (
-              ap (λ (x : ℕ). mem (s .pending) (taskOf js x)) g ∙ ap (mem (s .pending)) (z .same) ∙ m,
-              ap (λ (x : ℕ). getD (s .job) (taskOf js x) 0) g ∙ ap (λ (x : ℕ). getD (s .job) x 0) (z .same) ∙ sym g,
-            )
-            | no g ↦ let y = kept j a g q in (y .1, y .2)
-          ];
+
+    -- the place of its own task, where work is left
+    going : 0 < v → PlaceOf ts js (served places i work) next (servedAt i places) i
+    going p =
+        let e = served-own places i l (h .size) in
+        record {
+          known = omega (arith, e .2, z .known);
+          same = ap (taskOf js) (e .2) ∙ z .same;
+          due = e .1 ∙ z .due ∙ sym (ap (deadline ts js) (e .2));
+          left = e .0 ∙ sym at-c ∙ sym (ap (λ (j : ℕ). getD (served places i work) j 0) (e .2));
+          some = omega (arith, e .0);
         }
+
+    -- what a task shows of its job stays
+    shows : (x : ℕ) → heldAt (servedAt i places) x ≡ heldAt places x
+    shows x = elim (ℕ-discrete x i) [ yes g ↦ rw g (served-own places i l (h .size) .2) | no g ↦ served-other places i l x g .2 ]
+
+    -- another job keeps its place
+    kept : (j : ℕ) → j < next → j ≢ c → 0 < getD (served places i work) j 0 →
+        (taskOf js j ≢ i) × (mem pending (taskOf js j) ≡ true) × (heldAt (servedAt i places) (taskOf js j) ≡ j)
+    kept j a u q =
+        let y = h .held j a (omega (arith, off-c j u)) in
+        ((λ g. u (sym (y .1) ∙ ap (heldAt places) g)), y .0, shows (taskOf js j) ∙ y .1)
+
+    -- it ended with the tick
+    work-last : leftAt places i ≡ 1 → Holds ts js (served places i work) (removed pending i) next (servedAt i places)
+    work-last e = record {
+      size = served-length places i l ∙ h .size;
+      place = λ x a q. elim (ℕ-discrete i x) [
+        | yes g ↦ absurd (false≢true (sym (removed-same pending i) ∙ ap (mem (removed pending i)) g ∙ q))
+        | no g ↦ still x a (λ y. g (sym y)) (sym (removed-other pending i x g) ∙ q)
+      ];
+      held = λ j a q. elim (ℕ-discrete j c) [
+        | yes g ↦ absurd (omega (arith, ap (λ (x : ℕ). getD (served places i work) x 0) g, at-c))
+        | no g ↦ let y = kept j a g q in (removed-other pending i (taskOf js j) (λ w. y .0 (sym w)) ∙ y .1, y .2)
+      ];
+    }
+
+    -- it has work left
+    work-more : leftAt places i ≢ 1 → Holds ts js (served places i work) pending next (servedAt i places)
+    work-more u = record {
+      size = served-length places i l ∙ h .size;
+      place = λ x a q. elim (ℕ-discrete i x) [ yes g ↦ rw (← g) (going (omega (arith, z .some))) | no g ↦ still x a (λ y. g (sym y)) q ];
+      held = λ j a q. elim (ℕ-discrete j c) [
+        | yes g ↦ (
+          ap (λ (x : ℕ). mem pending (taskOf js x)) g ∙ ap (mem pending) (z .same) ∙ m,
+          ap (λ (x : ℕ). heldAt (servedAt i places) (taskOf js x)) g ∙ ap (heldAt (servedAt i places)) (z .same) ∙ shows i ∙ sym g,
+        )
+        | no g ↦ let y = kept j a g q in (y .1, y .2)
+      ];
+    }
+
+    work-holds : Holds ts js (served places i work) (pendingAfter pending i places) next (servedAt i places)
+    work-holds = elim (ℕ-discrete (leftAt places i) 1) [
+      | yes e ↦ rw (ap (λ (x : ℕ). ltb x noJob) (ended-last places i l e) ∙ lt-ltb c noJob (omega (arith, z .known, legal .few))) (work-last e)
+      | no u ↦ rw (ap (λ (x : ℕ). ltb x noJob) (ended-more places i l u)) (work-more u)
+    ]
 
     -- it ends where no work is left
-    work-ends : Ends work (served s i work) (length js) ((workOn s i) .done)
-    work-ends = go (eqb v 0) refl
+    work-ends : Ends work (served places i work) (length js) (endedAt i places)
+    work-ends = elim (ℕ-discrete (leftAt places i) 1) [
+      | yes e ↦ rw (ended-last places i l e) (record {
+        other = λ j a u q. omega (arith, off-c j u);
+        this = inr (omega (arith, z .known), omega (arith, z .left, z .some), omega (arith, at-c));
+      })
+      | no n ↦ rw (ended-more places i l n) (record {
+        other = λ j a u q. elim (ℕ-discrete j c) [
+          | yes g ↦ omega (arith, ap (λ (x : ℕ). getD (served places i work) x 0) g, at-c, z .some)
+          | no g ↦ omega (arith, off-c j g)
+        ];
+        this = inl refl;
+      })
+    ]
+
+    work-sound : (soon : ℕ) → Sound pending places soon → Sound (pendingAfter pending i places) (servedAt i places) soon
+    work-sound soon ok x a q = elim (ℕ-discrete x i) [
+      | yes g ↦ omega (arith, served-own places i l (h .size) .1, ok i l m, ap (dueAt (servedAt i places)) g)
+      | no g ↦ omega (arith, served-other places i l x g .1, ok x a (was x g (ltb (endedAt i places) noJob) q))
+    ]
       where
-        go : (t : Bool) → eqb v 0 ≡ t → Ends work (served s i work) (length js) (cond t c noJob)
-        go true e = record {
-          other = λ j a u q. omega (arith, off-c j u);
-          this = inr (omega (arith, z .known), omega (arith, z .left, z .some), omega (arith, at-c, eqb-true v 0 e));
-        }
-        go false e = record {
-          other = λ j a u q. elim (ℕ-discrete j c) [
-            | yes g ↦ omega (arith, ap (λ (x : ℕ). getD (served s i work) x 0) g, at-c, eqb-false v 0 e)
-            | no g ↦ omega (arith, off-c j g)
-          ];
-          this = inl refl;
-        }
+        was : (x : ℕ) → x ≢ i → (t : Bool) → mem (cond t (removed pending i) pending) x ≡ true → mem pending x ≡ true
+        was x u true e = sym (removed-other pending i x (λ g. u (sym g))) ∙ e
+        was x u false e = e
 
-  -- ---- the step, under any rule of choice
+  -- ---- the work of tick k, under any rule of choice
 
-  step-idle : (s : RunState) (i : ℕ) → mostTasks ≤ i → idleOf s ≡ stepOf i s
-  unfolding stepOf
-  step-idle s i h = rw (le-ltb i mostTasks h)
+  -- the tick goes to task i, or is not supplied and goes to none
+  module _ (σ : ℕ → Bool) (before : ℕ → ℕ → Bool) (k pending next : ℕ) (places : List ℕ) (i : ℕ) (size : length work ≡ length js)
+      (h : Holds ts js work pending next places) (bound : next ≤ length js) (is : Chosen before js k work pending places i) where
+    -- to whom it goes
+    abbrev to : ℕ
+    to = cond (σ k) i mostTasks
 
-  step-work : (s : RunState) (i : ℕ) → i < mostTasks → 0 < getD (s .left) i 0 → workOn s i ≡ stepOf i s
-  unfolding stepOf
-  step-work s i h p = rw (lt-ltb i mostTasks h, lt-ltb 0 (getD (s .left) i 0) p)
+    -- what the tick leaves: x is the work left, p the places, d the job that ended, s the pending tasks
+    pub record Worked (x p : List ℕ) (d s : ℕ) : Type 0 where
+      pub holds : Holds ts js x s next p
+      pub ends : Ends work x (length js) d
+      pub soon : (soon : ℕ) → Sound pending places soon → Sound s p soon
 
-  -- the step keeps the other fields
-  pub step-keeps : (s : RunState) (i : ℕ) → ((stepOf i s) .next ≡ s .next) × ((stepOf i s) .backlog ≡ s .backlog)
-  unfolding stepOf
-  step-keeps s i = go (ltb i mostTasks && ltb 0 (getD (s .left) i 0))
-    where
-      go : (b : Bool) → ((cond b (workOn s i) (idleOf s)) .next ≡ s .next) × ((cond b (workOn s i) (idleOf s)) .backlog ≡ s .backlog)
-      go true = (refl, refl)
-      go false = (refl, refl)
+    idle : Worked work places noJob pending
+    idle = record { holds = h; ends = record { other = λ j a u q. q; this = inl refl }; soon = λ soon ok. ok }
 
-  module _ (σ : ℕ → Bool) (before : ℕ → ℕ → Bool) (k : ℕ) (s : RunState) (i : ℕ)
-      (size : length work ≡ length js) (h : Holds ts js work s) (bound : s .next ≤ length js) (is : Chosen before js k work s i) where
-    pub step-holds : Holds ts js (tick σ before js k work) (stepOf (cond (σ k) i mostTasks) s)
+    none-served : (x : ℕ) → mostTasks ≤ x → Worked work (servedAt x places) (endedAt x places) (pendingAfter pending x places)
+    none-served x a = rw (ap (λ (y : ℕ). ltb y noJob) (ended-idle places x a), served-idle places x a, ended-idle places x a) idle
+
+    pub tick-worked : Worked (tick σ before js k work) (servedAt to places) (endedAt to places) (pendingAfter pending to places)
     unfolding tick
-    step-holds = go (σ k) is
+    tick-worked = go (σ k) is
       where
-        go : (t : Bool) → Chosen before js k work s i → Holds ts js (cond t (worked (chosen before js k work) work) work) (stepOf (cond t i mostTasks) s)
-        go false p = subst (λ (x : RunState). Holds ts js work x) (step-idle s mostTasks (omega arith)) h
-        go true (inl p) = rw (p .1) (subst (λ (x : RunState). Holds ts js work x) (step-idle s i (p .0)) h)
-        go true (inr p) =
-            let z = h .slot i (p .0) (p .1) in
-            rw (p .2)
-            (subst (λ (x : RunState). Holds ts js (served s i work) x) (step-work s i (p .0) (z .some)) (work-holds s i size bound (p .0) z h (p .1)))
-
-    pub step-ends : Ends work (tick σ before js k work) (length js) ((stepOf (cond (σ k) i mostTasks) s) .done)
-    unfolding tick
-    step-ends = go (σ k) is
-      where
-        idle : Ends work work (length js) noJob
-        idle = record { other = λ j a u q. q; this = inl refl }
-
-        go : (t : Bool) → Chosen before js k work s i → Ends work (cond t (worked (chosen before js k work) work) work) (length js) ((stepOf (cond t i mostTasks) s) .done)
-        go false p = subst (λ (x : RunState). Ends work work (length js) (x .done)) (step-idle s mostTasks (omega arith)) idle
-        go true (inl p) = rw (p .1) (subst (λ (x : RunState). Ends work work (length js) (x .done)) (step-idle s i (p .0)) idle)
-        go true (inr p) =
-            let z = h .slot i (p .0) (p .1) in
-            rw (p .2)
-            (subst (λ (x : RunState). Ends work (served s i work) (length js) (x .done)) (step-work s i (p .0) (z .some)) (work-ends s i size bound (p .0) z))
+        go : (t : Bool) → Chosen before js k work pending places i → let x : ℕ = cond t i mostTasks in
+            Worked (cond t (worked (chosen before js k work) work) work) (servedAt x places) (endedAt x places) (pendingAfter pending x places)
+        go false p = none-served mostTasks (omega arith)
+        go true (inl p) = rw (p .1) (none-served i (p .0))
+        go true (inr p) = rw (p .2) (record {
+          holds = work-holds pending next places i size bound (p .0) h (p .1);
+          ends = work-ends pending next places i size bound (p .0) h (p .1);
+          soon = work-sound pending next places i size bound (p .0) h (p .1);
+        })

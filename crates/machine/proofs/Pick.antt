@@ -10,16 +10,17 @@ use native.Mathlib.Decide.{ℕ-discrete, decLt}
 use lib.Dec.{ltb}
 use lib.ListN.{length, getD}
 use borrow.Author.Tests.{ltb-true, ltb-false, lt-ltb, le-ltb, eq-eqb, ne-eqb}
-use Rattle.scope.specs.Limits.{mostTasks}
+use Rattle.scope.specs.Limits.{mostTasks, mostNumber}
 use Rattle.scope.specs.Numbers.{sooner, firstBy}
 use Rattle.scope.specs.Tasks.{Task}
 use Rattle.scope.specs.Jobs.{Job, releaseOf, taskOf, deadline}
-use Rattle.scope.specs.Machine.{edf, pending, chosen}
+use Rattle.scope.specs.Machine.{pending, chosen}
 use Rattle.theory.specs.Numbers.{below-suc, fits-true, true-fits, first-passes}
-use Rattle.machine.specs.declared.state.RunState.{RunState}
+use Rattle.jobs.specs.Legal.{Tasks, Jobs}
 use Rattle.machine.specs.Bits.{mem, betterOf, pickTo}
-use Rattle.machine.specs.Slots.{chosenTask}
-use Rattle.machine.specs.Relation.{Tasks, Jobs, Holds, Split}
+use Rattle.machine.specs.Places.{dueAt, heldAt, soonestOf}
+use Rattle.machine.specs.Rule.{rule}
+use Rattle.machine.specs.Relation.{Holds, Sound, Split}
 
 -- ---- the first in an order, where none passes the test, and where one that passes goes before every other
 
@@ -72,19 +73,19 @@ module _ (before : ℕ → ℕ → Bool) (p : ℕ → Bool) where
 
 -- ---- the member with the least due number, ties to the lower
 
-module _ (q : ℕ → Bool) (due : List ℕ) where
+module _ (q : ℕ → Bool) (due : ℕ → ℕ) where
   -- by due number and then by the member itself, as one number
   abbrev key : ℕ → ℕ
-  key i = mostTasks * getD due i 0 + i
+  key i = mostTasks * due i + i
 
   abbrev Picked : ℕ → ℕ → Type 0
   Picked n b = ((b ≡ mostTasks) × ((i : ℕ) → i < n → q i ≡ true → ⊥)) ⊎ ((b < n) × (q b ≡ true) × ((i : ℕ) → i < n → q i ≡ true → key b ≤ key i))
 
   -- the better of two is one of them, and its key is the lesser
-  better-key : (b n : ℕ) → n < mostTasks → b < n → (t : Bool) → ltb (getD due n 0) (getD due b 0) ≡ t →
+  better-key : (b n : ℕ) → n < mostTasks → b < n → (t : Bool) → ltb (due n) (due b) ≡ t →
       (cond t n b < suc n) × ((cond t n b ≡ n) ⊎ (cond t n b ≡ b)) × (key (cond t n b) ≤ key b) × (key (cond t n b) ≤ key n)
-  better-key b n m h true e = let z = ltb-true (getD due n 0) (getD due b 0) e in (omega arith, inl refl, omega arith, omega arith)
-  better-key b n m h false e = let z = ltb-false (getD due n 0) (getD due b 0) e in (omega arith, inr refl, omega arith, omega arith)
+  better-key b n m h true e = let z = ltb-true (due n) (due b) e in (omega arith, inl refl, omega arith, omega arith)
+  better-key b n m h false e = let z = ltb-false (due n) (due b) e in (omega arith, inr refl, omega arith, omega arith)
 
   picked : (n : ℕ) → n ≤ mostTasks → Picked n (pickTo q due n)
   unfolding pickTo betterOf
@@ -92,7 +93,7 @@ module _ (q : ℕ → Bool) (due : List ℕ) where
   picked (suc n) l = go (q n) refl (pickTo q due n) (picked n (omega arith))
     where
       go : (t : Bool) → q n ≡ t → (b : ℕ) → Picked n b →
-          Picked (suc n) (cond t (cond (ltb b mostTasks) (cond (ltb (getD due n 0) (getD due b 0)) n b) n) b)
+          Picked (suc n) (cond t (cond (ltb b mostTasks) (cond (ltb (due n) (due b)) n b) n) b)
       go false e b (inl p) = inl (p .0, below-suc (λ i. q i ≡ true → ⊥) n (p .1) (λ z. false≢true (sym e ∙ z)))
       go false e b (inr p) =
           inr (omega (arith, p .0), p .1, below-suc (λ i. q i ≡ true → key b ≤ key i) n (p .2) (λ z. absurd (false≢true (sym e ∙ z))))
@@ -100,8 +101,8 @@ module _ (q : ℕ → Bool) (due : List ℕ) where
           rw (le-ltb b mostTasks (omega (arith, p .0)))
           (inr (omega arith, e, below-suc (λ i. q i ≡ true → key n ≤ key i) n (λ i h z. absurd (p .1 i h z)) (λ z. omega arith)))
       go true e b (inr p) =
-          let y = better-key b n (omega arith) (p .0) (ltb (getD due n 0) (getD due b 0)) refl in
-          let r : ℕ = cond (ltb (getD due n 0) (getD due b 0)) n b in
+          let y = better-key b n (omega arith) (p .0) (ltb (due n) (due b)) refl in
+          let r : ℕ = cond (ltb (due n) (due b)) n b in
           rw (lt-ltb b mostTasks (omega (arith, p .0)))
           (inr (
             y .0,
@@ -112,15 +113,21 @@ module _ (q : ℕ → Bool) (due : List ℕ) where
 -- ---- the choice
 
 -- the job that the machine chooses in tick k stands at the pending task i; it chooses none where i is no task
-abbrev pub Chosen : (ℕ → ℕ → Bool) → List Job → ℕ → List ℕ → RunState → ℕ → Type 0
-Chosen before js k work s i =
-    ((mostTasks ≤ i) × (chosen before js k work ≡ none)) ⊎ ((i < mostTasks) × (mem (s .pending) i ≡ true) × (chosen before js k work ≡ some (getD (s .job) i 0)))
+abbrev pub Chosen : (ℕ → ℕ → Bool) → List Job → ℕ → List ℕ → ℕ → List ℕ → ℕ → Type 0
+Chosen before js k work pending places i =
+    ((mostTasks ≤ i) × (chosen before js k work ≡ none))
+    ⊎ ((i < mostTasks) × (mem pending i ≡ true) × (chosen before js k work ≡ some (heldAt places i)))
+
+-- the code's choice is that of the rule, once the jobs of a tick are released
+abbrev pub Follows : (ℕ → ℕ → Bool) → List Task → List Job → Type 0
+Follows before ts js = (k : ℕ) (work : List ℕ) (pend next : ℕ) (places : List ℕ) → Split js (k + 1) (k + 1) next → Holds ts js work pend next places →
+    Chosen before js k work pend places (pickTo (mem pend) (dueAt places) mostTasks)
 
 module _ (ts : List Task) (js : List Job) where
   -- the lesser by deadline and then task goes before the other, and not the other way round
-  edf-ahead : (a b : ℕ) → mostTasks * deadline ts js a + taskOf js a < mostTasks * deadline ts js b + taskOf js b → taskOf js a < mostTasks → taskOf js b < mostTasks →
-      (edf ts js a b ≡ true) × (edf ts js b a ≡ false)
-  edf-ahead a b h la lb =
+  rule-ahead : (a b : ℕ) → mostTasks * deadline ts js a + taskOf js a < mostTasks * deadline ts js b + taskOf js b → taskOf js a < mostTasks → taskOf js b < mostTasks →
+      (rule ts js a b ≡ true) × (rule ts js b a ≡ false)
+  rule-ahead a b h la lb =
       let d : ℕ = deadline ts js a in
       let e : ℕ = deadline ts js b in
       elim (decLt d e) [
@@ -132,47 +139,61 @@ module _ (ts : List Task) (js : List Job) where
             )
       ]
 
-  module _ (k : ℕ) (work : List ℕ) (s : RunState) (sp : Split js (k + 1) (k + 1) (s .next)) where
+  module _ (k : ℕ) (work : List ℕ) (pend next : ℕ) (sp : Split js (k + 1) (k + 1) next) where
     -- once the jobs of tick k are released, the pending jobs are the released ones with work left
-    pub pending-held : (j : ℕ) → j < length js → pending js k work j ≡ true → (j < s .next) × (0 < getD work j 0)
+    pub pending-held : (j : ℕ) → j < length js → pending js k work j ≡ true → (j < next) × (0 < getD work j 0)
     unfolding pending
     pending-held j l q =
         let p = fits-true (releaseOf js j) k 1 (getD work j 0) q in
-        elim (decLt j (s .next)) [ yes a ↦ (a, p .1) | no a ↦ absurd (omega (arith, p .0, sp .later j (omega arith) l)) ]
+        elim (decLt j next) [ yes a ↦ (a, p .1) | no a ↦ absurd (omega (arith, p .0, sp .later j (omega arith) l)) ]
 
-    pub held-pending : (j : ℕ) → j < s .next → 0 < getD work j 0 → pending js k work j ≡ true
+    pub held-pending : (j : ℕ) → j < next → 0 < getD work j 0 → pending js k work j ≡ true
     unfolding pending
     held-pending j a q = true-fits (releaseOf js j) k 1 (getD work j 0) (omega (arith, sp .early j a)) q
 
-    module _ (tasks : Tasks ts) (legal : Jobs ts js) (h : Holds ts js work s) where
-      -- the code's choice is the machine's under earliest deadline first
-      pub chosen-is : Chosen (edf ts js) js k work s (chosenTask s)
-      chosen-is = go (chosenTask s) (picked (mem (s .pending)) (s .due) mostTasks (omega arith))
+    module _ (places : List ℕ) (tasks : Tasks ts) (legal : Jobs ts js) (h : Holds ts js work pend next places) where
+      chosen-is : Chosen (rule ts js) js k work pend places (pickTo (mem pend) (dueAt places) mostTasks)
+      chosen-is = go (pickTo (mem pend) (dueAt places) mostTasks) (picked (mem pend) (dueAt places) mostTasks (omega arith))
         where
           -- the task of a pending job
           low : (j : ℕ) → j < length js → taskOf js j < mostTasks
           low j a = omega (arith, legal .known j a, tasks .few)
 
-          go : (i : ℕ) → Picked (mem (s .pending)) (s .due) mostTasks i → Chosen (edf ts js) js k work s i
+          go : (i : ℕ) → Picked (mem pend) (dueAt places) mostTasks i → Chosen (rule ts js) js k work pend places i
           go i (inl p) = inl (
             omega (arith, p .0),
-            none-passes (edf ts js) (pending js k work) (length js) (λ j a q.
+            none-passes (rule ts js) (pending js k work) (length js) (λ j a q.
                 let r = pending-held j a q in p .1 (taskOf js j) (low j a) (h .held j (r .0) (r .1) .0)),
           )
           go i (inr p) =
-              let z = h .slot i (p .0) (p .1) in
-              let c : ℕ = getD (s .job) i 0 in
+              let z = h .place i (p .0) (p .1) in
+              let c : ℕ = heldAt places i in
               inr (
                 p .0,
                 p .1,
-                first-only (edf ts js) (pending js k work) (length js) c (omega (arith, z .known, sp .bound))
+                first-only (rule ts js) (pending js k work) (length js) c (omega (arith, z .known, sp .bound))
                     (held-pending c (z .known) (omega (arith, z .left, z .some)))
                     (λ j a q u.
                     let r = pending-held j a q in
                     let y = h .held j (r .0) (r .1) in
                     let x : ℕ = taskOf js j in
-                    let w = h .slot x (low j a) (y .0) in
-                    let apart : x ≢ i = λ g. u (sym (y .1) ∙ ap (λ (v : ℕ). getD (s .job) v 0) g) in
-                    let d : deadline ts js (getD (s .job) x 0) ≡ deadline ts js j = ap (deadline ts js) (y .1) in
-                    edf-ahead c j (omega (arith, p .2 x (low j a) (y .0), z .due, z .same, w .due, d, apart, low j a)) (omega (arith, z .same, p .0)) (low j a)),
+                    let w = h .place x (low j a) (y .0) in
+                    let apart : x ≢ i = λ g. u (sym (y .1) ∙ ap (heldAt places) g) in
+                    let d : deadline ts js (heldAt places x) ≡ deadline ts js j = ap (deadline ts js) (y .1) in
+                    rule-ahead c j (omega (arith, p .2 x (low j a) (y .0), z .due, z .same, w .due, d, apart, low j a)) (omega (arith, z .same, p .0)) (low j a)),
               )
+
+  -- the machine's rule is followed
+  pub chosen-follows : Tasks ts → Jobs ts js → Follows (rule ts js) ts js
+  chosen-follows tasks legal k work pend next places sp h = chosen-is k work pend next sp places tasks legal h
+
+-- ---- the soonest deadline
+
+-- no pending task is due before the soonest
+pub soonest-sound : (pend : ℕ) (places : List ℕ) → Sound pend places (soonestOf pend places)
+unfolding soonestOf
+soonest-sound pend places i l e = go (pickTo (mem pend) (dueAt places) mostTasks) (picked (mem pend) (dueAt places) mostTasks (omega arith))
+  where
+    go : (b : ℕ) → Picked (mem pend) (dueAt places) mostTasks b → cond (ltb b mostTasks) (dueAt places b) mostNumber ≤ dueAt places i
+    go b (inl p) = absurd (p .1 i l e)
+    go b (inr p) = rw (lt-ltb b mostTasks (p .0)) (omega (arith, p .2 i l e, p .0))

@@ -1,5 +1,5 @@
 -- The checks of a run, in their order, and what they leave
-use mathlib.Core.Path.{_≡_, sym}
+use mathlib.Core.Path.{_≡_, sym, ap, _∙_}
 use mathlib.Core.List.{List}
 use Prim.Native.Nat.{ℕ, _≤_, _<_}
 use native.Mathlib.Omega.{arith}
@@ -13,36 +13,37 @@ use Rattle.scope.specs.Machine.{edf}
 use Rattle.scope.specs.Run.{ran}
 use Rattle.scope.specs.Answers.{Fault, Fault.fine, Fault.fault, _orElse_, tableFault, groupFault, jobListFault, jobFault, roomFault, runFault, runAnswer}
 use Rattle.theory.specs.Lists.{pieces-length}
-use Rattle.theory.specs.Answers.{LegalTable, run-given}
+use Rattle.theory.specs.Answers.{run-given}
 use Rattle.tables.proofs.FaultLaws.{or-assoc, given-by}
-use Rattle.machine.specs.Relation.{Tasks, Jobs}
-use Rattle.machine.proofs.Reading.{tasks-of}
-use Rattle.machine.proofs.Legality.{jobs-of}
+use Rattle.jobs.specs.Legal.{Tasks, Jobs}
+use Rattle.jobs.proofs.Legality.{tasks-of, jobs-of}
 
-module _ (js : List ℕ) (room : ℕ) where
-  -- the check of the room
-  abbrev pub R : Fault
-  R = roomFault (length (jobsOf js)) room
-
-  pub no-room : room < length (jobsOf js) → fault 8 (length (jobsOf js)) ≡ R
+-- the check of the room
+module _ (needed room : ℕ) where
+  pub no-room : room < needed → fault 8 needed ≡ roomFault needed room
   unfolding roomFault
-  no-room h = rw (lt-ltb room (length (jobsOf js)) h)
+  no-room h = rw (lt-ltb room needed h)
 
-  pub has-room : length (jobsOf js) ≤ room → fine ≡ R
+  pub has-room : needed ≤ room → fine ≡ roomFault needed room
   unfolding roomFault
-  has-room h = rw (le-ltb room (length (jobsOf js)) h)
+  has-room h = rw (le-ltb room needed h)
 
 module _ (b : Board) (ws ts : List ℕ) (n : ℕ) (js : List ℕ) (room : ℕ) where
-  -- what the four checks found, in their order, is what the run's found
-  pub in-turn : (x y z w : Fault) → x ≡ (tableFault b ws orElse groupFault ts) → y ≡ jobListFault n js → z ≡ jobFault (tasksOf ts) n (jobsOf js) → w ≡ R js room →
-      (x orElse y orElse z orElse w) ≡ runFault b ws ts n js room
+  abbrev J : Fault
+  J = jobListFault n js orElse jobFault (tasksOf ts) n (jobsOf js)
+
+  -- the three checks, in their order
+  pub in-turn : (tableFault b ws orElse ((groupFault ts orElse J) orElse roomFault (length (jobsOf js)) room)) ≡ runFault b ws ts n js room
   unfolding runFault
-  in-turn x y z w ex ey ez ew = rw (ex, ey, ez, ew) (or-assoc (tableFault b ws) (groupFault ts) (jobListFault n js orElse jobFault (tasksOf ts) n (jobsOf js) orElse R js room))
+  in-turn =
+      let r : Fault = roomFault (length (jobsOf js)) room in
+      ap (λ (f : Fault). tableFault b ws orElse f)
+      (or-assoc (groupFault ts) J r ∙ ap (λ (f : Fault). groupFault ts orElse f) (or-assoc (jobListFault n js) (jobFault (tasksOf ts) n (jobsOf js)) r))
 
   -- a run without a fault has all that it needs
-  pub legal-run : runFault b ws ts n js room ≡ fine →
-      LegalTable b ws × Tasks (tasksOf ts) × Jobs (tasksOf ts) (jobsOf js) × (n ≤ mostTicks) × (length (jobsOf js) ≤ room)
+  pub legal-run : runFault b ws ts n js room ≡ fine → Tasks (tasksOf ts) × Jobs (tasksOf ts) (jobsOf js) × (n ≤ mostTicks) × (length (jobsOf js) ≤ room)
   unfolding runAnswer
   legal-run e =
-      let r = run-given b ws ts n js room _ (sym (given-by (runFault b ws ts n js room) (ran (suppliedBy b ws) (edf (tasksOf ts) (jobsOf js)) (tasksOf ts) (jobsOf js) n) e)) in
-      (r .table, tasks-of ts (r .group), jobs-of (tasksOf ts) n (jobsOf js) (r .jobs) (r .ticks) (omega (arith, pieces-length _ 3 job js, r .few)), r .ticks, r .roomy)
+      let answer = ran (suppliedBy b ws) (edf (tasksOf ts) (jobsOf js)) (tasksOf ts) (jobsOf js) n in
+      let r = run-given b ws ts n js room _ (sym (given-by (runFault b ws ts n js room) answer e)) in
+      (tasks-of ts (r .group), jobs-of (tasksOf ts) n (jobsOf js) (r .jobs) (r .ticks) (omega (arith, pieces-length _ 3 job js, r .few)), r .ticks, r .roomy)

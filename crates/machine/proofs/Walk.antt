@@ -2,7 +2,6 @@
 use Prim.Native.Nat.{ℕ, suc, _+_, _≤_, _<_}
 use mathlib.Core.Path.{_≡_, refl, sym, ap, _∙_}
 use mathlib.Core.Bool.{true, false, true≢false}
-use mathlib.Core.List.{List}
 use native.Mathlib.Decide.{decLt, le-ind, ℕ-discrete}
 use native.Mathlib.Omega.{arith}
 use Rattle.scope.specs.Limits.{mostTasks}
@@ -29,7 +28,7 @@ seen-fewer rest i low l =
           (λ j ne. ap bit (removed-other rest i j (λ q. ne (sym q)))),
     )
 
-module _ (x : ℕ) (due : List ℕ) where
+module _ (x : ℕ) (due : ℕ → ℕ) where
   -- numbers that are no members are passed over
   pick-skip : (k i : ℕ) → k ≤ i → ((j : ℕ) → k ≤ j → j < i → mem x j ≡ false) → pickTo (mem x) due i ≡ pickTo (mem x) due k
   unfolding pickTo

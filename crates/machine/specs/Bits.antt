@@ -3,8 +3,6 @@ use Prim.Native.Nat.{ℕ, zero, suc, _/_, _%_, _^_}
 use mathlib.Core.Bool.{Bool, cond}
 use lib.Bits.{bitAnd, bitOr, bitXor}
 use lib.Dec.{eqb, ltb}
-use lib.ListN.{getD}
-use mathlib.Core.List.{List}
 use Rattle.scope.specs.Limits.{mostTasks}
 use Rattle.scope.specs.Numbers.{bit, sum}
 
@@ -30,10 +28,10 @@ abbrev pub noTask : ℕ
 noTask = mostTasks
 
 -- the better of the best so far, which may be none, and the candidate n: the one with the lesser due number, the best so far on a tie
-unfoldable pub betterOf : List ℕ → ℕ → ℕ → ℕ
-betterOf due b n = cond (ltb b noTask) (cond (ltb (getD due n 0) (getD due b 0)) n b) n
+unfoldable pub betterOf : (ℕ → ℕ) → ℕ → ℕ → ℕ
+betterOf due b n = cond (ltb b noTask) (cond (ltb (due n) (due b)) n b) n
 
 -- the best of the numbers below n that pass the test
-unfoldable pub pickTo : (ℕ → Bool) → List ℕ → ℕ → ℕ
+unfoldable pub pickTo : (ℕ → Bool) → (ℕ → ℕ) → ℕ → ℕ
 pickTo q due zero = noTask
 pickTo q due (suc n) = cond (q n) (betterOf due (pickTo q due n) n) (pickTo q due n)

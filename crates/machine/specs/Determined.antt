@@ -3,10 +3,9 @@ use Prim.Native.Nat.{ℕ}
 use mathlib.Core.Path.{_≡_, refl, ap}
 use Rattle.scope.specs.Run as Runs
 use Rattle.tables.specs.Determined.{undone, made, refusal-back}
-use Rattle.machine.specs.declared.check.MadeRun as madeRun
 use Rattle.machine.specs.declared.run.Ran.{Ran}
 use Rattle.machine.specs.declared.run.Ran.the-variants.{Met, Missed, Refused}
-use Rattle.machine.specs.Told.{toldRan, toldRun}
+use Rattle.machine.specs.Told.{toldRan}
 
 abbrev ranBy : Runs.Outcome → ℕ → Ran
 ranBy Runs.met b = Met b
@@ -22,13 +21,3 @@ ran-determined = undone toldRan (made ranFrom Refused) back
     back (Met b) = refl
     back (Missed k j b) = refl
     back (Refused r) = ap Refused (refusal-back r)
-
-abbrev runFrom : ℕ → madeRun.MadeRun
-runFrom n = madeRun.the-variants.Is (record { ticks = n })
-
-pub run-determined : (a b : madeRun.MadeRun) → toldRun a ≡ toldRun b → a ≡ b
-run-determined = undone toldRun (made runFrom madeRun.the-variants.Refused) back
-  where
-    back : (a : madeRun.MadeRun) → made runFrom madeRun.the-variants.Refused (toldRun a) ≡ a
-    back (madeRun.the-variants.Is t) = refl
-    back (madeRun.the-variants.Refused r) = ap madeRun.the-variants.Refused (refusal-back r)

@@ -1,5 +1,7 @@
 pub mod Bits
-pub mod Slots
+pub mod Places
+pub mod State
+pub mod Rule
 pub mod Relation
 pub mod Told
 pub mod Determined

@@ -1,68 +1,43 @@
--- How the code's state shows scope's list of work left
+-- How the code's state and the places show scope's list of work left, under any rule of choice
 use mathlib.Core.Path.{_≡_}
 use mathlib.Core.Bool.{Bool, true, cond}
 use mathlib.Core.Logic.{_⊎_, _≢_}
+use mathlib.Core.Option.{some}
 use mathlib.Core.List.{List}
-use Prim.Native.Nat.{ℕ, zero, suc, _+_, _-_, _*_, _≤_, _<_, max}
-use lib.Dec.{eqb, ltb}
+use Prim.Native.Nat.{ℕ, _+_, _-_, _^_, _≤_, _<_}
+use lib.Dec.{ltb}
 use lib.ListN.{length, getD, set}
 use Rattle.scope.specs.Limits.{mostTasks, mostTicks, mostJobs}
+use Rattle.scope.specs.Numbers.{first}
 use Rattle.scope.specs.Tasks.{Task, taskAt}
-use Rattle.scope.specs.Jobs.{Job, jobsOf, releaseOf, taskOf, workOf, deadline}
-use Rattle.scope.specs.Machine.{edf, workLeft}
-use Rattle.scope.specs.Run.{backlog}
-use Rattle.theory.specs.Tasks.{TaskRules, Within}
-use Rattle.machine.specs.Bits.{mem}
+use Rattle.scope.specs.Jobs.{Job, releaseOf, taskOf, deadline}
+use Rattle.scope.specs.Machine.{workLeft}
+use Rattle.scope.specs.Run.{Outcome.met, Outcome.missed, late, outcome, backlog, count}
+use Rattle.jobs.specs.Legal.{Tasks, Jobs}
 use Rattle.machine.specs.declared.state.RunState.{RunState}
-use Rattle.machine.specs.Slots.{noJob}
+use Rattle.machine.specs.Bits.{mem}
+use Rattle.machine.specs.Places.{allPlaces, leftAt, dueAt, heldAt, noJob}
+use Rattle.machine.specs.State.{whole, tickOf}
 
--- ---- legal lists, as facts
-
-pub record Tasks (ts : List Task) : Type 0 where
-  pub few : length ts ≤ mostTasks
-  pub rules : TaskRules ts
-  pub within : Within ts
-
-pub record Jobs (ts : List Task) (js : List Job) : Type 0 where
-  pub few : length js ≤ mostJobs
-  pub known : (j : ℕ) → j < length js → taskOf js j < length ts
-  pub some : (j : ℕ) → j < length js → 1 ≤ workOf js j
-  pub most : (j : ℕ) → j < length js → workOf js j ≤ (taskAt ts (taskOf js j)) .C
-  pub small : (j : ℕ) → j < length js → releaseOf js j < mostTicks
-  pub rises : (i j : ℕ) → i ≤ j → j < length js → releaseOf js i ≤ releaseOf js j
-  pub apart : (i j : ℕ) → i < j → j < length js → taskOf js i ≡ taskOf js j → releaseOf js i + (taskAt ts (taskOf js j)) .T ≤ releaseOf js j
-
--- the first tick at which task t may be released again, after the first m jobs
-unfoldable pub freeAt : List Task → List Job → ℕ → ℕ → ℕ
-freeAt ts js t zero = 0
-freeAt ts js t (suc m) = let f = freeAt ts js t m in cond (eqb (taskOf js m) t) (max f (releaseOf js m + (taskAt ts t) .T)) f
-
--- `free` has the first free tick of each task, after the first j jobs
-pub record FreeTable (ts : List Task) (js : List Job) (j : ℕ) (free : List ℕ) : Type 0 where
-  pub size : length free ≡ mostTasks
-  pub is : (x : ℕ) → x < mostTasks → getD free x 0 ≡ freeAt ts js x j
-
--- ---- the relation
+-- ---- the work left
 
 -- what stands at a pending task i: a released job of that task, its deadline, and the work left of it
-pub record SlotOf (ts : List Task) (js : List Job) (work : List ℕ) (next : ℕ) (lefts dues jobs : List ℕ) (i : ℕ) : Type 0 where
-  pub known : getD jobs i 0 < next
-  pub same : taskOf js (getD jobs i 0) ≡ i
-  pub due : getD dues i 0 ≡ deadline ts js (getD jobs i 0)
-  pub left : getD lefts i 0 ≡ getD work (getD jobs i 0) 0
-  pub some : 0 < getD lefts i 0
+pub record PlaceOf (ts : List Task) (js : List Job) (work : List ℕ) (next : ℕ) (places : List ℕ) (i : ℕ) : Type 0 where
+  pub known : heldAt places i < next
+  pub same : taskOf js (heldAt places i) ≡ i
+  pub due : dueAt places i ≡ deadline ts js (heldAt places i)
+  pub left : leftAt places i ≡ getD work (heldAt places i) 0
+  pub some : 0 < leftAt places i
 
 -- each pending task shows its job, and each released job with work left stands at its task
-pub record HoldsOf (ts : List Task) (js : List Job) (work : List ℕ) (pending next : ℕ) (left due job : List ℕ) : Type 0 where
-  pub lefts : length left ≡ mostTasks
-  pub dues : length due ≡ mostTasks
-  pub jobs : length job ≡ mostTasks
-  pub slot : (i : ℕ) → i < mostTasks → mem pending i ≡ true → SlotOf ts js work next left due job i
-  pub held : (j : ℕ) → j < next → 0 < getD work j 0 → (mem pending (taskOf js j) ≡ true) × (getD job (taskOf js j) 0 ≡ j)
+pub record Holds (ts : List Task) (js : List Job) (work : List ℕ) (pending next : ℕ) (places : List ℕ) : Type 0 where
+  pub size : length places ≡ allPlaces
+  pub place : (i : ℕ) → i < mostTasks → mem pending i ≡ true → PlaceOf ts js work next places i
+  pub held : (j : ℕ) → j < next → 0 < getD work j 0 → (mem pending (taskOf js j) ≡ true) × (heldAt places (taskOf js j) ≡ j)
 
--- the state s shows the work left
-abbrev pub Holds : List Task → List Job → List ℕ → RunState → Type 0
-Holds ts js work s = HoldsOf ts js work (s .pending) (s .next) (s .left) (s .due) (s .job)
+-- no pending task is due before `soon`
+abbrev pub Sound : ℕ → List ℕ → ℕ → Type 0
+Sound pending places soon = (i : ℕ) → i < mostTasks → mem pending i ≡ true → soon ≤ dueAt places i
 
 -- the jobs below next are released before hi, the others at lo or later
 pub record Split (js : List Job) (lo hi next : ℕ) : Type 0 where
@@ -70,15 +45,17 @@ pub record Split (js : List Job) (lo hi next : ℕ) : Type 0 where
   pub early : (j : ℕ) → j < next → releaseOf js j < hi
   pub later : (j : ℕ) → next ≤ j → j < length js → lo ≤ releaseOf js j
 
--- s is the state at instant k of the run under earliest deadline first
-pub record At (σ : ℕ → Bool) (ts : List Task) (js : List Job) (k : ℕ) (s : RunState) : Type 0 where
-  pub holds : Holds ts js (workLeft σ (edf ts js) js k) s
+-- s and the places are those of the run at instant k
+pub record At (σ : ℕ → Bool) (before : ℕ → ℕ → Bool) (ts : List Task) (js : List Job) (k : ℕ) (s : RunState) (places : List ℕ) : Type 0 where
+  pub now : s .instant ≡ k
+  pub holds : Holds ts js (workLeft σ before js k) (s .pending) (s .next) places
+  pub soon : Sound (s .pending) places (s .soon)
   pub split : Split js k k (s .next)
-  pub backlog : s .backlog ≡ backlog σ (edf ts js) js k
+  pub backlog : s .backlog ≡ backlog σ before js k
 
 -- no job is late at instant k
-abbrev pub OnTime : (ℕ → Bool) → List Task → List Job → ℕ → Type 0
-OnTime σ ts js k = (j : ℕ) → j < length js → deadline ts js j ≤ k → getD (workLeft σ (edf ts js) js k) j 0 ≡ 0
+abbrev pub OnTime : (ℕ → Bool) → (ℕ → ℕ → Bool) → List Task → List Job → ℕ → Type 0
+OnTime σ before ts js k = (j : ℕ) → j < length js → deadline ts js j ≤ k → getD (workLeft σ before js k) j 0 ≡ 0
 
 -- between work and work′ job d ends, and no other; d is no job where none does
 pub record Ends (work work′ : List ℕ) (n d : ℕ) : Type 0 where
@@ -101,7 +78,59 @@ unfoldable pub noted : List Job → ℕ → ℕ → List ℕ → List ℕ
 noted js k j l = cond (ltb j mostJobs) (set l j (k - releaseOf js j)) l
 
 -- job j of the list can be noted at instant k
-pub record Noting (jobs : List ℕ) (k j : ℕ) (l : List ℕ) : Type 0 where
-  pub known : 3 * j + 2 < length jobs
+pub record Noting (js : List Job) (k j : ℕ) (l : List ℕ) : Type 0 where
   pub room : j < length l
-  pub past : releaseOf (jobsOf jobs) j ≤ k
+  pub past : releaseOf js j ≤ k
+
+-- ---- a tick
+
+-- what the next job needs to be released
+pub record Arriving (ts : List Task) (x : Job) (s : RunState) : Type 0 where
+  pub known : x .task < mostTasks
+  pub fits : x .release + (taskAt ts (x .task)) .D < 2 ^ 32
+  pub few : s .next < mostJobs
+
+-- what a tick needs
+pub record Ready (σ : ℕ → Bool) (before : ℕ → ℕ → Bool) (ts : List Task) (js : List Job) (s : RunState) (places counts : List ℕ) : Type 0 where
+  pub tasks : Tasks ts
+  pub jobs : Jobs ts js
+  pub at : At σ before ts js (s .instant) s places
+  pub ontime : OnTime σ before ts js (s .instant)
+  pub few : s .instant < mostTicks
+  pub room : length js ≤ length counts
+
+-- what it leaves
+pub record Ticked (σ : ℕ → Bool) (ts : List Task) (js : List Job) (s : RunState) (places counts : List ℕ) (s′ : RunState) (places′ counts′ : List ℕ) : Type 0 where
+  pub moved : whole s′ places′ ≡ tickOf σ ts js (whole s places)
+  pub counted : counts′ ≡ noted js (s′ .instant) (s′ .done) counts
+
+-- ---- a run of n ticks
+
+-- what it begins with
+pub record Begins (ts : List Task) (js : List Job) (n : ℕ) (places counts : List ℕ) : Type 0 where
+  pub tasks : Tasks ts
+  pub jobs : Jobs ts js
+  pub few : n ≤ mostTicks
+  pub size : length places ≡ allPlaces
+  pub room : length js ≤ length counts
+  pub clear : (j : ℕ) → j < length js → getD counts j 0 ≡ 0
+
+-- a job is late at instant k, where the run ends
+pub record MissedAt (σ : ℕ → Bool) (before : ℕ → ℕ → Bool) (ts : List Task) (js : List Job) (k end : ℕ) : Type 0 where
+  pub job : ℕ
+  pub lowest : first (late ts js k (workLeft σ before js k)) (length js) ≡ some job
+  pub is : outcome σ before ts js k ≡ missed k job
+  pub ended : end ≡ k
+
+-- what it keeps, where it began with the buffer d: it goes on to n, or a job is late at its end
+pub record Going (σ : ℕ → Bool) (before : ℕ → ℕ → Bool) (ts : List Task) (js : List Job) (n : ℕ) (d : List ℕ) (s : RunState) (places counts : List ℕ) : Type 0 where
+  pub at : At σ before ts js (s .instant) s places
+  pub kept : Kept (count σ before js (s .instant)) (length js) d counts
+  pub within : s .instant ≤ n
+  pub goes : ((s .end ≡ n) × (outcome σ before ts js (s .instant) ≡ met) × OnTime σ before ts js (s .instant))
+      ⊎ MissedAt σ before ts js (s .instant) (s .end)
+
+-- it is over
+pub record Over (σ : ℕ → Bool) (before : ℕ → ℕ → Bool) (ts : List Task) (js : List Job) (n : ℕ) (d : List ℕ) (s : RunState) (places counts : List ℕ) : Type 0 where
+  pub going : Going σ before ts js n d s places counts
+  pub ended : s .end ≤ s .instant

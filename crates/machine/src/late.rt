@@ -1,8 +1,9 @@
 use crate::state::RunState;
 ghost use mathlib.Core.Path.{_≡_};
 ghost use Prim.Native.Nat.{_<_};
+ghost use lib.ListN.{length};
 ghost use Rattle.scope.specs.Limits.{mostTasks};
-ghost use Rattle.machine.specs.Slots.{lowerIn, lateTo};
+ghost use Rattle.machine.specs.Places.{allPlaces, lowerIn, lateTo};
 
 // The lower of the lowest late job so far and task i's job j, where the task is pending and due at instant t or before.
 fn lower(pending: u32, due: u32, j: u32, t: u32, i: u32, best: u32) -> u32
@@ -22,17 +23,15 @@ fn lower(pending: u32, due: u32, j: u32, t: u32, i: u32, best: u32) -> u32
 }
 
 // The lowest job among the late ones at instant t; no job if none is late.
-pub(crate) fn late(s: RunState, t: u32) -> u32
-    ensures { λ r. ⌜ r ≡ lateTo s t mostTasks ⌝ }
+pub(crate) fn late(pending: u32, places: &[u32], t: u32) -> u32
+    requires { ⌜ length (now places) ≡ allPlaces ⌝ }
+    ensures { λ r. ⌜ r ≡ lateTo pending (now (places .entry)) t mostTasks ⌝ }
 {
-    let pending = s.pending;
-    let due = s.due;
-    let job = s.job;
     let mut best: u32 = RunState::NO_JOB;
     let mut i: u32 = 0;
     while i < RunState::NO_TASK {
-        let x = i as usize;
-        best = lower(pending, due[x], job[x], t, i, best);
+        let x = 3 * i as usize;
+        best = lower(pending, places[x + 1], places[x + 2], t, i, best);
         i += 1;
     }
     best

@@ -1,32 +1,27 @@
-use crate::check::check_job_list;
-use crate::check::check_jobs;
-use crate::job::release;
-use crate::job::release_of;
 use crate::late::late;
 use crate::state::RunState;
-use crate::state::advance;
-use supply::supply::supplied;
+use crate::tick::advance;
+use jobs::check::check_jobs;
 use tables::answer::Checked;
 use tables::answer::Refusal;
-use tables::answer::Supplied;
 use tables::board::Board;
-use tables::task::check_group;
+use tables::task::Task;
+use tables::window::check_table;
 ghost use mathlib.Core.Path.{_≡_};
-ghost use Prim.Native.Nat.{_<_, _≤_};
+ghost use Prim.Native.Nat.{_≤_};
 ghost use lib.ListN.{length};
 ghost use Rattle.scope.specs.Numbers.{written};
-ghost use Rattle.scope.specs.Limits.{mostTicks, mostJobs};
+ghost use Rattle.scope.specs.Limits.{mostTicks};
 ghost use Rattle.scope.specs.Windows.{suppliedBy};
 ghost use Rattle.scope.specs.Tasks.{tasksOf};
 ghost use Rattle.scope.specs.Jobs.{jobsOf};
-ghost use Rattle.scope.specs.Machine.{edf};
 ghost use Rattle.scope.specs.Run.{ran, counts as countsBy};
-ghost use Rattle.scope.specs.Answers.{Answer.given, runFault, runAnswer, runOut};
-ghost use Rattle.theory.specs.Answers.{LegalTable};
+ghost use Rattle.scope.specs.Answers.{Answer.given, roomFault, runFault, runAnswer, runOut};
 ghost use Rattle.tables.specs.Told.{boardOf, no, faultOf};
+ghost use Rattle.jobs.specs.Legal.{Tasks, Jobs};
 ghost use Rattle.machine.specs.Told.{toldRan};
-ghost use Rattle.machine.specs.Slots.{arrivedOf, goesToOf};
-ghost use Rattle.machine.specs.Relation.{Tasks, Jobs, Kept, zeros, noted, Noting};
+ghost use Rattle.machine.specs.Rule.{rule};
+ghost use Rattle.machine.specs.Relation.{Kept, zeros};
 
 // What a run answers.
 pub enum Ran {
@@ -41,33 +36,6 @@ pub enum Ran {
     Refused(Refusal),
 }
 
-// Whether tick k of a legal table is supplied.
-fn is_on(board: Board, windows: &[u32], k: u32) -> bool
-    requires { ⌜ LegalTable (boardOf board) (now windows) ⌝ }
-    ensures { λ r. ⌜ r ≡ suppliedBy (boardOf board) (now (windows .entry)) k ⌝ }
-{
-    match supplied(board, windows, k) {
-        Supplied::Is(on) => on,
-        Supplied::Refused(_) => false,
-    }
-}
-
-// The beginning of tick k: releases, then the backlog is counted.
-fn arrived(tasks: &[u32], jobs: &[u32], k: u32, s: RunState) -> RunState
-    requires { ⌜ Tasks (tasksOf (now tasks)) × Jobs (tasksOf (now tasks)) (jobsOf (now jobs)) × (s .next ≤ length (jobsOf (now jobs))) ⌝ }
-    ensures { λ r. ⌜ r ≡ arrivedOf (tasksOf (now (tasks .entry))) (jobsOf (now (jobs .entry))) k s ⌝ }
-{
-    let fed = release(tasks, jobs, k, s);
-    fed.counted()
-}
-
-// The task that a tick goes to: no task if it is not supplied.
-fn goes_to(on: bool, s: RunState) -> u32
-    ensures { λ r. ⌜ r ≡ goesToOf on s ⌝ }
-{
-    if on { s.chosen() } else { RunState::NO_TASK }
-}
-
 // The first m numbers of the buffer become 0.
 fn clear(counts: &mut [u32], m: usize)
     requires { ⌜ m ≤ length (now counts) ⌝ }
@@ -80,19 +48,7 @@ fn clear(counts: &mut [u32], m: usize)
     }
 }
 
-// The count of job j, which ended at instant k, is written, if j is a job.
-fn note(jobs: &[u32], k: u32, j: u32, counts: &mut [u32])
-    requires { ⌜ (j < mostJobs → Noting (now jobs) k j (now counts)) ⌝ }
-    ensures { λ _. ⌜ now (counts .exit) ≡ noted (jobsOf (now (jobs .entry))) k j (now (counts .entry)) ⌝ }
-{
-    if RunState::NO_JOB <= j {
-        return;
-    }
-    let x = j as usize;
-    counts[x] = k - release_of(jobs, x);
-}
-
-// The run of legal lists: one state, tick by tick.
+// The run of legal lists: the buffer is cleared, the state is advanced to the run's end, and a job that is late there is the miss.
 fn run_legal(
     board: Board,
     windows: &[u32],
@@ -101,32 +57,24 @@ fn run_legal(
     jobs: &[u32],
     counts: &mut [u32],
 ) -> Ran
-    requires { ⌜ LegalTable (boardOf board) (now windows) × Tasks (tasksOf (now tasks)) × Jobs (tasksOf (now tasks)) (jobsOf (now jobs)) × (n ≤ mostTicks)
+    requires { ⌜ Tasks (tasksOf (now tasks)) × Jobs (tasksOf (now tasks)) (jobsOf (now jobs)) × (n ≤ mostTicks)
         × (length (jobsOf (now jobs)) ≤ length (now counts)) ⌝ }
     ensures answer { λ r. ⌜ toldRan r ≡ given (ran (suppliedBy (boardOf board) (now (windows .entry)))
-        (edf (tasksOf (now (tasks .entry))) (jobsOf (now (jobs .entry)))) (tasksOf (now (tasks .entry))) (jobsOf (now (jobs .entry))) n) ⌝ }
+        (rule (tasksOf (now (tasks .entry))) (jobsOf (now (jobs .entry)))) (tasksOf (now (tasks .entry))) (jobsOf (now (jobs .entry))) n) ⌝ }
     ensures buffer { λ _. ⌜ now (counts .exit) ≡ written (countsBy (suppliedBy (boardOf board) (now (windows .entry)))
-        (edf (tasksOf (now (tasks .entry))) (jobsOf (now (jobs .entry)))) (tasksOf (now (tasks .entry))) (jobsOf (now (jobs .entry))) n) (now (counts .entry)) ⌝ }
+        (rule (tasksOf (now (tasks .entry))) (jobsOf (now (jobs .entry)))) (tasksOf (now (tasks .entry))) (jobsOf (now (jobs .entry))) n) (now (counts .entry)) ⌝ }
 {
-    let m = jobs.len() / 3;
-    clear(counts, m);
-    let mut s = RunState::new();
-    let mut k: u32 = 0;
-    while k < n {
-        let on = is_on(board, windows, k);
-        let fed = arrived(tasks, jobs, k, s);
-        let i = goes_to(on, fed);
-        s = advance(fed, i);
-        k += 1;
-        note(jobs, k, s.done, counts);
-        let j = late(s, k);
-        if j < RunState::NO_JOB {
-            return Ran::Missed {
-                instant: k,
-                job: j,
-                backlog: s.backlog,
-            };
-        }
+    let count = jobs.len() / 3;
+    clear(counts, count);
+    let mut places = [0; 3 * Task::MOST];
+    let s = advance(n, board, windows, tasks, jobs, &mut places, counts);
+    let job = late(s.pending, &places, s.instant);
+    if job < RunState::NO_JOB {
+        return Ran::Missed {
+            instant: s.instant,
+            job,
+            backlog: s.backlog,
+        };
     }
     Ran::Met { backlog: s.backlog }
 }
@@ -142,23 +90,21 @@ fn check_run(
 ) -> Checked
     ensures { λ r. ⌜ faultOf r ≡ runFault (boardOf board) (now (windows .entry)) (now (tasks .entry)) n (now (jobs .entry)) room ⌝ }
 {
-    match check_group(board, windows, tasks) {
-        Checked::Bad(r) => Checked::Bad(r),
-        Checked::Fine => match check_job_list(n, jobs) {
-            Checked::Bad(r) => Checked::Bad(r),
-            Checked::Fine => match check_jobs(tasks, n, jobs) {
-                Checked::Bad(r) => Checked::Bad(r),
-                Checked::Fine => {
-                    let needed = jobs.len() / 3;
-                    if room < needed {
-                        let place = needed as u64;
-                        return Checked::Bad(Refusal::Room(place));
-                    }
-                    Checked::Fine
-                }
-            },
-        },
+    let table = check_table(board, windows);
+    let list = check_jobs(tasks, n, jobs);
+    let space = check_room(jobs.len() / 3, room);
+    table.or_else(list.or_else(space))
+}
+
+// Refusal 8.
+fn check_room(needed: usize, room: usize) -> Checked
+    ensures { λ r. ⌜ faultOf r ≡ roomFault needed room ⌝ }
+{
+    if room < needed {
+        let place = needed as u64;
+        return Checked::Bad(Refusal::Room(place));
     }
+    Checked::Fine
 }
 
 // A refusal leaves the lent buffer as it was.

@@ -1,57 +1,60 @@
-use crate::check::Run;
+use crate::late::late;
 use crate::pending::Pending;
+use jobs::check::Run;
 use tables::task::Task;
 ghost use mathlib.Core.Path.{_≡_};
-ghost use Prim.Native.Nat.{_+_, _<_};
+ghost use Prim.Native.Nat.{_+_, _<_, _^_, min, max};
+ghost use lib.ListN.{length};
 ghost use Rattle.scope.specs.Limits.{mostTasks, mostJobs};
-ghost use Rattle.machine.specs.Slots.{empty, putOf, countedOf, stepOf, chosenTask};
+ghost use Rattle.machine.specs.Places.{allPlaces};
+ghost use Rattle.machine.specs.State.{begun, admittedOf, countedOf, workedOf, testedOf};
 
-// A run between two ticks. The jobs before `next` are released. Of a pending task i, its job, the work left of it and its deadline stand at i.
-// `done` is the job that ended in the last tick, or no job.
-pub struct RunState {
-    pub pending: u32,
+// A run at an instant: the ticks before it are done. The jobs before `next` are released. The tasks that have a job with work left are pending, and have that job in
+// their places; none of these is due before `soon`. `done` is the job that ended in the last tick, or no job. The run ends at the instant `end`.
+pub(crate) struct RunState {
+    pub instant: u32,
+    pub end: u32,
     pub next: usize,
+    pub pending: u32,
     pub backlog: u32,
+    pub soon: u32,
     pub done: u32,
-    pub left: [u32; Task::MOST],
-    pub due: [u32; Task::MOST],
-    pub job: [u32; Task::MOST],
 }
 
 impl RunState {
     // What stands for no job, and for no task: the first number that none of them has.
-    pub const NO_JOB: u32 = Run::JOBS as u32;
+    pub(crate) const NO_JOB: u32 = Run::JOBS as u32;
 
-    pub const NO_TASK: u32 = Task::MOST as u32;
+    pub(crate) const NO_TASK: u32 = Task::MOST as u32;
 
-    // Before the first tick.
-    pub fn new() -> RunState
-        ensures { λ r. ⌜ r ≡ empty ⌝ }
+    // Later than every deadline.
+    pub(crate) const NEVER: u32 = 4294967295;
+
+    // Before the first of n ticks.
+    pub(crate) fn new(n: u32) -> RunState
+        ensures { λ r. ⌜ r ≡ begun n ⌝ }
     {
         RunState {
-            pending: 0,
+            instant: 0,
+            end: n,
             next: 0,
+            pending: 0,
             backlog: 0,
+            soon: RunState::NEVER,
             done: RunState::NO_JOB,
-            left: [0; Task::MOST],
-            due: [0; Task::MOST],
-            job: [0; Task::MOST],
         }
     }
 
-    // The next job, j of task i, takes the task's place.
-    pub(crate) fn put(self, i: u32, work: u32, due: u32, j: u32) -> RunState
+    // The next job, of task i and with its deadline, is released.
+    pub(crate) fn admitted(self, i: u32, due: u32) -> RunState
         requires { ⌜ (i < mostTasks) × (self .next < mostJobs) ⌝ }
-        ensures { λ r. ⌜ r ≡ putOf self i work due j ⌝ }
+        ensures { λ r. ⌜ r ≡ admittedOf i due self ⌝ }
     {
-        let x = i as usize;
-        let p = Pending { bits: self.pending };
+        let pending = Pending { bits: self.pending };
         let mut s = self;
-        s.pending = p.with(i).bits;
+        s.pending = pending.with(i).bits;
         s.next = self.next + 1;
-        s.left[x] = work;
-        s.due[x] = due;
-        s.job[x] = j;
+        s.soon = lesser(self.soon, due);
         s
     }
 
@@ -59,62 +62,53 @@ impl RunState {
     pub(crate) fn counted(self) -> RunState
         ensures { λ r. ⌜ r ≡ countedOf self ⌝ }
     {
-        let p = Pending { bits: self.pending };
-        let b = p.count();
+        let pending = Pending { bits: self.pending };
         let mut s = self;
-        if self.backlog < b {
-            s.backlog = b;
-            return s;
+        s.backlog = greater(self.backlog, pending.count());
+        s
+    }
+
+    // The tick is done; it went to task i, whose job `done` ended, if it is a job.
+    pub(crate) fn worked(self, i: u32, done: u32) -> RunState
+        requires { ⌜ (self .instant + 1 < 2 ^ 32) × (done < mostJobs → i < mostTasks) ⌝ }
+        ensures { λ r. ⌜ r ≡ workedOf i done self ⌝ }
+    {
+        let pending = Pending { bits: self.pending };
+        let mut s = self;
+        s.instant = self.instant + 1;
+        s.done = done;
+        if done < RunState::NO_JOB {
+            s.pending = pending.without(i).bits;
         }
         s
     }
 
-    // Earliest deadline first, ties to the lower task; no task if none is pending.
-    pub fn chosen(self) -> u32
-        ensures { λ r. ⌜ r ≡ chosenTask self ⌝ }
-    {
-        let due = self.due;
-        let p = Pending { bits: self.pending };
-        p.earliest(&due)
-    }
-
-    // The job of task i gets one tick of work, if i is a task.
-    pub fn step(self, i: u32) -> RunState
-        ensures { λ r. ⌜ r ≡ stepOf i self ⌝ }
+    // A late job ends the run. Before `soon` none can be late.
+    pub(crate) fn tested(self, places: &[u32]) -> RunState
+        requires { ⌜ length (now places) ≡ allPlaces ⌝ }
+        ensures { λ r. ⌜ r ≡ testedOf (now (places .entry)) self ⌝ }
     {
         let mut s = self;
-        s.done = RunState::NO_JOB;
-        if RunState::NO_TASK <= i {
+        if self.instant < self.soon {
             return s;
         }
-        let x = i as usize;
-        let had = self.left[x];
-        if had == 0 {
-            return s;
-        }
-        let w = had - 1;
-        s.left[x] = w;
-        if w == 0 {
-            let p = Pending { bits: self.pending };
-            s.pending = p.without(i).bits;
-            s.done = self.job[x];
+        let pending = Pending { bits: self.pending };
+        s.soon = pending.soonest(places);
+        if late(self.pending, places, self.instant) < RunState::NO_JOB {
+            s.end = self.instant;
         }
         s
     }
 }
 
-// One tick of work, in place: the thin form over the by-value step.
-pub fn tick(s: &mut RunState, i: u32)
-    ensures { λ _. ⌜ now (s .exit) ≡ stepOf i (now (s .entry)) ⌝ }
+fn lesser(a: u32, b: u32) -> u32
+    ensures { λ r. ⌜ r ≡ min a b ⌝ }
 {
-    *s = (*s).step(i);
+    if b < a { b } else { a }
 }
 
-// The same on a state by value, so that loops over it need no walk.
-pub fn advance(s: RunState, i: u32) -> RunState
-    ensures { λ r. ⌜ r ≡ stepOf i s ⌝ }
+fn greater(a: u32, b: u32) -> u32
+    ensures { λ r. ⌜ r ≡ max a b ⌝ }
 {
-    let mut t = s;
-    tick(&mut t, i);
-    t
+    if a < b { b } else { a }
 }

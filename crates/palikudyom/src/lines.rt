@@ -1,8 +1,8 @@
 // The printed lines, one for each answer.
 use libc::STDOUT_FILENO;
 use machine::run::Ran;
-use plan::line::MOST;
-use plan::line::line;
+use print::line::MOST;
+use print::line::line;
 use tables::answer::Amount;
 use tables::answer::Bound;
 use tables::answer::Delay;

@@ -1,4 +1,2 @@
 pub mod NumberLaws
-pub mod CheckLaws
-pub mod PutLaws
-pub mod WriteLaws
+pub mod ReadLaws

@@ -1,4 +1,4 @@
--- One byte more of a number, and one number more of a list, over the variables of the loops
+-- One byte more of a number, over the variables of the loop
 use mathlib.Core.Path.{_≡_, refl, sym, ap, ap₂, _∙_}
 use mathlib.Core.Bool.{true}
 use mathlib.Core.Logic.{inl, inr}
@@ -7,13 +7,11 @@ use mathlib.Core.List.{List, _∷_}
 use Prim.Native.Nat.{ℕ, suc, _+_, _-_, _*_, _^_, _≤_, _<_}
 use native.Mathlib.Omega.{arith}
 use native.Mathlib.Nat.{mul-le-mul-right, pow-le-pow-right}
-use native.Mathlib.Numerals.{add-one}
-use native.Mathlib.Decide.{le-ind}
-use lib.ListN.{length, getD, set, take, drop, drop-of-length-le}
+use lib.ListN.{length, getD, drop, drop-of-length-le}
 use lib.Pow.{pow-add}
-use lib.Seq.{drop-cons, take-suc-set}
+use lib.Seq.{drop-cons}
 use borrow.Author.Tests.{le-leb, lt-leb}
-use Rattle.scope.specs.Plan.{Groups, lower, groups, wellFormed, Read.read, Read.bad, readGroups, readNumber, readNumbers}
+use Rattle.scope.specs.Plan.{Groups, lower, groups, wellFormed, Read.read, Read.bad, readGroups, readNumber}
 use Rattle.theory.specs.Numbers.{bool-cases}
 use Rattle.theory.specs.Reading.{groups-alone, groups-over, groups-size, five-bytes}
 
@@ -109,17 +107,3 @@ module _ (bytes : List ℕ) (at value weight size : ℕ) (starts : at < length b
 
   pub too-long : 5 ≤ size → bad at ≡ readNumber bytes at
   too-long h = after-five at value size (drop at bytes) (drop (at + size) bytes) h so-far ∙ sym (number-starts bytes at starts)
-
--- ---- the loop over the numbers of a list
-
-module _ (bytes : List ℕ) (at i next : ℕ) where
-  -- one number more, stored just after the others
-  pub stores-more : (out : List ℕ) → readNumbers bytes i at ≡ read (take i out) next → i < length out →
-      (v after : ℕ) → readNumber bytes next ≡ read v after → readNumbers bytes (i + 1) at ≡ read (take (i + 1) (set out i v)) after
-  unfolding readNumbers
-  stores-more out so-far h v after e = rw (add-one i, take-suc-set out i v h, so-far, e)
-
-  -- once bad, bad for all longer lists
-  pub stops : (l : List ℕ) → readNumbers bytes i at ≡ read l next → (o n : ℕ) → readNumber bytes next ≡ bad o → i < n → bad o ≡ readNumbers bytes n at
-  unfolding readNumbers
-  stops l so-far o n e h = le-ind (λ (m : ℕ). bad o ≡ readNumbers bytes m at) (rw (so-far, e)) (λ m k ih. rw (← ih)) n h

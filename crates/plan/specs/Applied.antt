@@ -11,7 +11,7 @@ use Rattle.scope.specs.Tasks.{tasksOf, demand}
 use Rattle.scope.specs.Verdict as Verdicts
 use Rattle.scope.specs.Jobs.{jobsOf, jobLegal, badJob}
 use Rattle.scope.specs.Answers.{Answer.given, Fault.fine, _orElse_, jobListFault, jobFault, roomFault, runAnswer, runOut}
-use Rattle.scope.specs.Plan.{Plan, groups, wellFormed, readNumber, readNumbers, windowCountFault, taskCountFault, restFault, tasksFrom, windowsFrom, planOf, planAnswer}
+use Rattle.scope.specs.Plan.{Plan, groups, wellFormed, readNumber, readNumbers, restFault, countedFrom, listsFrom, planFrom, planOf, planAnswer}
 use Rattle.scope.specs.Demands.{LeastMiss, Way, Served}
 use Rattle.scope.specs.Examples.{X, on}
 use Rattle.theory.specs.Applied.{w6, w7, w13, w6-misses, w7-meets, w6-plan, w6-file, w6-reads}
@@ -31,7 +31,7 @@ abbrev w7-file : List ℕ
 w7-file = 8 ∷ 2 ∷ 0 ∷ 2 ∷ 5 ∷ 7 ∷ 2 ∷ 1 ∷ 4 ∷ 4 ∷ 2 ∷ 8 ∷ 7 ∷ []
 
 w7-read : planOf w7-file ≡ given w7-plan
-unfolding groups wellFormed readNumber readNumbers windowCountFault taskCountFault restFault tasksFrom windowsFrom planOf
+unfolding groups wellFormed readNumber readNumbers restFault countedFrom listsFrom planFrom planOf
 w7-read = refl
 
 w13-legal : (jobListFault 10 w13 orElse jobFault (tasksOf w7) 10 (jobsOf w13) orElse roomFault 2 3) ≡ fine

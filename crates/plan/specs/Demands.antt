@@ -1,6 +1,6 @@
--- The demands, of what `check_plan`, `line` and `write_plan` answer. Every premise is what they promise, and that the file is a plan
+-- The demands, of what `check_plan` answers. The premises are what it promises, and that the file is a plan
 use Prim.Native.Nat.{ℕ, _≤_, _<_}
-use mathlib.Core.Path.{_≡_, sym, ap, _∙_}
+use mathlib.Core.Path.{_≡_, _∙_}
 use mathlib.Core.Logic.{_↔_}
 use mathlib.Core.Option.{none}
 use mathlib.Core.List.{List}
@@ -12,34 +12,17 @@ use Rattle.scope.specs.Cycle.{cycle}
 use Rattle.scope.specs.Verdict as Verdicts
 use Rattle.scope.specs.Jobs.{Job, jobsOf, taskOf, deadline, badJob}
 use Rattle.scope.specs.Run.{countOf}
-use Rattle.scope.specs.Answers.{Answer, Answer.given, Fault.fine, _orElse_, jobListFault, jobFault, roomFault, verdictAnswer, runAnswer, runOut}
-use Rattle.scope.specs.Plan.{Plan, planOf, planAnswer, andThen, writeAnswer, writeOut}
-use Rattle.scope.specs.Line.{lineAnswer, lineOut}
+use Rattle.scope.specs.Answers.{Answer.given, Fault.fine, _orElse_, jobListFault, jobFault, roomFault, verdictAnswer, runAnswer, runOut}
+use Rattle.scope.specs.Plan.{Plan, planOf, planAnswer}
 use Rattle.scope.specs.Demands.{LeastMiss, Under, Way, Served}
-use Rattle.theory.specs.Refused.{line-kept, write-kept}
 use Rattle.tables.specs.declared.board.Board.{Board}
-use Rattle.tables.specs.declared.answer.Refusal.{Refusal}
-use Rattle.tables.specs.declared.answer.Amount.{Amount}
-use Rattle.tables.specs.declared.answer.Amount.the-variants.{Refused}
 use Rattle.tables.specs.declared.answer.Verdict.{Verdict}
 use Rattle.tables.specs.declared.answer.Verdict.the-variants.{Meets, Miss}
-use Rattle.tables.specs.Told.{number, place, boardOf, toldAmount, toldVerdict}
+use Rattle.tables.specs.Told.{boardOf, toldVerdict}
 use Rattle.machine.specs.declared.run.Ran.{Ran}
 use Rattle.machine.specs.declared.run.Ran.the-variants.{Met}
 use Rattle.machine.specs.Told.{toldRan}
 use Rattle.machine.specs.Demands.{verdict-meets, verdict-miss, meets-runs, meets-every, miss-starves}
-use Rattle.plan.specs.Parts.{judged}
-
--- ---- demand 1: where `line` or `write_plan` refuses, the lent buffer is as it was
-
-module _ (out left : List ℕ) (r : Amount) (e : Refusal) (is : r ≡ Refused e) where
-  pub line-refused : (a : Answer Verdicts.Verdict) → toldAmount r ≡ lineAnswer a (length out) → left ≡ lineOut a out → left ≡ out
-  line-refused a told wrote = wrote ∙ line-kept (number e) (place e) a out (sym told ∙ ap toldAmount is)
-
-  pub write-refused : (p : Plan) → toldAmount r ≡ writeAnswer p (length out) → left ≡ writeOut p out → left ≡ out
-  write-refused p told wrote = wrote ∙ write-kept (number e) (place e) p out (sym told ∙ ap toldAmount is)
-
--- ---- the demands of a verdict
 
 -- the board of a plan
 abbrev pub planBoard : Plan → Board
@@ -49,7 +32,7 @@ module _ (bytes : List ℕ) (p : Plan) (read : planOf bytes ≡ given p) (v : Ve
   -- a plan that was read is answered as its numbers are
   pub plan-verdict : toldVerdict v ≡ verdictAnswer (boardOf (planBoard p)) (p .windows) (p .tasks)
   unfolding planAnswer
-  plan-verdict = promised ∙ ap (λ a. andThen a judged) read
+  plan-verdict = promised ∙ rw read
 
   -- (a)
   pub plan-meets : (w : Verdicts.Verdict) → toldVerdict v ≡ given w → (h : ℕ) →

@@ -1,11 +1,9 @@
 // Seven-bit numbers: low group first, top bit set on every byte but the last.
 ghost use mathlib.Core.Path.{_≡_};
 ghost use mathlib.Core.Option.{some};
-ghost use Prim.Native.Nat.{_+_, _≤_, _<_};
-ghost use lib.ListN.{length, take};
-ghost use Rattle.scope.specs.Plan.{readGroups, readNumber, readNumbers};
+ghost use Prim.Native.Nat.{_+_, _<_};
+ghost use Rattle.scope.specs.Plan.{readGroups, readNumber};
 ghost use Rattle.plan.specs.Told.{toldNumber};
-ghost use Rattle.plan.specs.Parts.{readInto};
 
 // The number at an offset, with the offset after it; or the offset that refusal 9 names.
 pub enum Number {
@@ -61,32 +59,4 @@ pub fn read_number(bytes: &[u8], at: usize) -> Number
         weight *= 128;
     }
     Number::Bad(at)
-}
-
-// Where a list of numbers ends; or the offset that refusal 9 names.
-pub(crate) enum Numbers {
-    Next(usize),
-    Bad(usize),
-}
-
-// Reads n numbers from an offset on to the front of a buffer.
-pub(crate) fn read_numbers(bytes: &[u8], at: usize, n: usize, out: &mut [u32]) -> Numbers
-    requires { ⌜ n ≤ length (now out) ⌝ }
-    ensures { λ r. ⌜ readInto r (take n (now (out .exit))) ≡ readNumbers (now (bytes .entry)) n at ⌝ }
-{
-    let mut next = at;
-    let mut i = 0;
-    while i < n {
-        match read_number(bytes, next) {
-            Number::Is { value, next: after } => {
-                out[i] = value;
-                next = after;
-            }
-            Number::Bad(offset) => {
-                return Numbers::Bad(offset);
-            }
-        }
-        i += 1;
-    }
-    Numbers::Next(next)
 }

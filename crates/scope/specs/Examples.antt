@@ -16,7 +16,7 @@ use Rattle.scope.specs.Jobs.{jobLegal, badJob}
 use Rattle.scope.specs.Machine.{pending, tick, workLeft}
 use Rattle.scope.specs.Run.{Outcome.met, Outcome.missed, Ran, late, outcome, backlogIn, backlog, countOf, ran, counts}
 use Rattle.scope.specs.Answers.{Fault, Fault.fine, Fault.fault, Answer, Answer.given, Answer.refused, Delay, boardAnswer, windowAnswer, taskAnswer, lengthAnswer, runTicksAnswer, windowListFault, frameFault, windowFault, taskListFault, taskFault, cycleFault, lengthFault, absentFault, roomFault, jobListFault, jobFault, tableFault, groupFault, leastSupplyAnswer, criticalFault, criticalAnswer, criticalOut, delayAnswer, outageAnswer, demandAnswer, marginAnswer, verdictAnswer, boundAnswer, runFault, runAnswer, runOut}
-use Rattle.scope.specs.Plan.{groups, wellFormed, readNumber, readNumbers, windowCountFault, taskCountFault, restFault, tasksFrom, windowsFrom, planOf, planAnswer, Plan, numberBytesWithin, numberBytes, numbersBytes, planBytes, writeFault, writeAnswer, writeOut}
+use Rattle.scope.specs.Plan.{groups, wellFormed, readNumber, readNumbers, restFault, countedFrom, listsFrom, planFrom, planOf, planAnswer, Plan, numberBytesWithin, numberBytes, numbersBytes, planBytes, writeFault, writeAnswer, writeOut}
 use Rattle.scope.specs.Line.{bytes, decimalWithin, decimal, line, lineAnswer, lineOut}
 
 -- ---- what is asked of an entry, and what it answers; of a lent buffer, what it holds before and after
@@ -208,7 +208,7 @@ Hold [] = Unit {0}
 Hold (e ∷ rows) = (reply (e .question) ≡ e .expected) × Hold rows
 
 pub examples : Hold table
-unfolding reply table sum least greatest all firstBy listed keep piecesFrom pieces badCount written supply leastSupply leastStart gives covers supplied windowLegal badWindow rises within edge maximalRuns critical lag delay taskLegal badTask taskDemand demand margin gcdWithin gcd lcm cycle violates verdict asked suffices response jobLegal badJob pending tick workLeft late outcome backlogIn backlog countOf ran counts windowListFault frameFault windowFault taskListFault taskFault cycleFault lengthFault absentFault roomFault jobListFault jobFault tableFault groupFault leastSupplyAnswer criticalFault criticalAnswer criticalOut delayAnswer outageAnswer demandAnswer marginAnswer verdictAnswer boundAnswer runFault runAnswer runOut groups wellFormed readNumber readNumbers windowCountFault taskCountFault restFault tasksFrom windowsFrom planOf planAnswer numberBytesWithin numberBytes numbersBytes planBytes writeFault writeAnswer writeOut decimalWithin decimal line lineAnswer lineOut boardAnswer windowAnswer taskAnswer lengthAnswer runTicksAnswer outageBefore outage
+unfolding reply table sum least greatest all firstBy listed keep piecesFrom pieces badCount written supply leastSupply leastStart gives covers supplied windowLegal badWindow rises within edge maximalRuns critical lag delay taskLegal badTask taskDemand demand margin gcdWithin gcd lcm cycle violates verdict asked suffices response jobLegal badJob pending tick workLeft late outcome backlogIn backlog countOf ran counts windowListFault frameFault windowFault taskListFault taskFault cycleFault lengthFault absentFault roomFault jobListFault jobFault tableFault groupFault leastSupplyAnswer criticalFault criticalAnswer criticalOut delayAnswer outageAnswer demandAnswer marginAnswer verdictAnswer boundAnswer runFault runAnswer runOut groups wellFormed readNumber readNumbers restFault countedFrom listsFrom planFrom planOf planAnswer numberBytesWithin numberBytes numbersBytes planBytes writeFault writeAnswer writeOut decimalWithin decimal line lineAnswer lineOut boardAnswer windowAnswer taskAnswer lengthAnswer runTicksAnswer outageBefore outage
 examples =
     (refl, (refl, (refl, (refl, (refl, (refl, (refl, (refl, (refl, (refl, (refl, (refl, (refl, (refl, (refl, (refl, (refl, (refl, (refl, (refl, (refl, (refl, (refl, (refl, (refl, (refl, (refl, (refl, (refl, (refl, (refl, (refl, (refl, (refl, (refl, (refl, (refl, (refl, (refl, (refl, (refl, (refl, (refl, (refl, (refl, (refl, (refl, (refl, (refl, (refl, (refl, (refl, (refl, (refl, (refl, (refl, (refl, (refl, (refl, (refl, (refl, (refl, (refl, (refl, (refl, (refl, (refl, (refl, (refl, (refl, (refl, (refl, (refl, tt)))))))))))))))))))))))))))))))))))))))))))))))))))))))))))))))))))))))))
 

@@ -8,7 +8,8 @@ use lib.ListN.{length, drop}
 use Rattle.scope.specs.Numbers.{written}
 use Rattle.scope.specs.Limits.{mostWindows, mostTasks, mostNumber}
 use Rattle.scope.specs.Verdict.{Verdict}
-use Rattle.scope.specs.Answers.{Fault, Fault.fine, Fault.fault, Answer, Answer.given, Answer.refused, faultIf, _orElse_, unless, unlessKept, windowListFault, taskListFault, roomFault, verdictAnswer}
+use Rattle.scope.specs.Answers.{Fault, Fault.fine, Fault.fault, Answer, Answer.given, Answer.refused, faultIf, _orElse_, unless, unlessKept}
+use Rattle.scope.specs.Answers.{windowListFault, taskListFault, roomFault, verdictAnswer}
 
 -- ---- numbers
 
@@ -72,39 +73,53 @@ abbrev pub past : {A : Type 0} → Fault → Answer A → Answer A
 past fine a = a
 past (fault number place) a = refused number place
 
--- a window count of 0 or over 64 answers 1 and a task count over 32 answers 4, as soon as it is read
-unfoldable pub windowCountFault : ℕ → Fault
-windowCountFault n = faultIf (eqb n 0 || ltb mostWindows n) 1 0
+-- go on with what was given
+abbrev pub andThen : {A B : Type 0} → Answer A → (A → Answer B) → Answer B
+andThen (given a) f = f a
+andThen (refused number place) f = refused number place
 
-unfoldable pub taskCountFault : ℕ → Fault
-taskCountFault n = faultIf (ltb mostTasks n) 4 0
+-- a count outside least to most is answered by a refusal's number
+abbrev pub countFault : (least most number : ℕ) → ℕ → Fault
+countFault least most number n = faultIf (ltb n least || ltb most n) number 0
+
+-- a window count of 0 or over 64 answers 1 and a task count over 32 answers 4
+abbrev pub windowCountFault : ℕ → Fault
+windowCountFault = countFault 1 mostWindows 1
+
+abbrev pub taskCountFault : ℕ → Fault
+taskCountFault = countFault 0 mostTasks 4
 
 -- 9 names the first byte left over
 unfoldable pub restFault : List ℕ → ℕ → Fault
 restFault bytes at = faultIf (ltb at (length bytes)) 9 at
 
--- task count, tasks, and the end of the file, after P and the windows
-unfoldable pub tasksFrom : List ℕ → ℕ → List ℕ → ℕ → Answer Plan
-tasksFrom bytes frame windows at =
-    orNine (readNumber bytes at) (λ n afterCount.
-    past (taskCountFault n) (
-    orNine (readNumbers bytes (3 * n) afterCount) (λ tasks end.
-    unless (restFault bytes end) (record { frame = frame; windows = windows; tasks = tasks }))))
+-- numbers, and the offset after them
+pub record Listed : Type 0 where
+  pub numbers : List ℕ
+  pub next : ℕ
 
--- window count and windows, after P
-unfoldable pub windowsFrom : List ℕ → ℕ → ℕ → Answer Plan
-windowsFrom bytes frame at =
-    orNine (readNumber bytes at) (λ m afterCount.
-    past (windowCountFault m) (
-    orNine (readNumbers bytes (2 * m) afterCount) (λ windows afterWindows. tasksFrom bytes frame windows afterWindows)))
+abbrev pub asListed : List ℕ → ℕ → Answer Listed
+asListed l next = given (record { numbers = l; next = next })
 
--- P, window count, windows, task count, tasks
+-- a count, then k numbers for each; a fault of the count is answered as soon as it is read
+unfoldable pub countedFrom : ℕ → (ℕ → Fault) → List ℕ → ℕ → Answer Listed
+countedFrom k check bytes at =
+    orNine (readNumber bytes at) (λ n afterCount. past (check n) (orNine (readNumbers bytes (k * n) afterCount) asListed))
+
+-- window count, windows, task count, tasks, and the end of the file, after P
+unfoldable pub listsFrom : List ℕ → ℕ → ℕ → Answer Plan
+listsFrom bytes frame at =
+    andThen (countedFrom 2 windowCountFault bytes at) (λ windows.
+    andThen (countedFrom 3 taskCountFault bytes (windows .next)) (λ tasks.
+    unless (restFault bytes (tasks .next)) (record { frame = frame; windows = windows .numbers; tasks = tasks .numbers })))
+
+-- P, window count, windows, task count, tasks, from an offset on: what a form of the file has before P is read first
+unfoldable pub planFrom : List ℕ → ℕ → Answer Plan
+planFrom bytes at = orNine (readNumber bytes at) (λ frame afterFrame. listsFrom bytes frame afterFrame)
+
+-- a plan file has nothing before P
 unfoldable pub planOf : List ℕ → Answer Plan
-planOf bytes = orNine (readNumber bytes 0) (λ frame afterFrame. windowsFrom bytes frame afterFrame)
-
-abbrev pub andThen : {A B : Type 0} → Answer A → (A → Answer B) → Answer B
-andThen (given a) f = f a
-andThen (refused number place) f = refused number place
+planOf bytes = planFrom bytes 0
 
 -- the verdict of a plan file
 unfoldable pub planAnswer : List ℕ → Answer Verdict
@@ -125,12 +140,13 @@ unfoldable pub numbersBytes : List ℕ → List ℕ
 numbersBytes [] = []
 numbersBytes (n ∷ l) = numberBytes n ++ numbersBytes l
 
+-- a count, then k numbers for each
+abbrev pub countedBytes : ℕ → List ℕ → List ℕ
+countedBytes k l = numberBytes (length l / k) ++ numbersBytes l
+
 -- P, window count, windows, task count, tasks
 unfoldable pub planBytes : Plan → List ℕ
-planBytes p =
-    numberBytes (p .frame)
-    ++ numberBytes (length (p .windows) / 2) ++ numbersBytes (p .windows)
-    ++ numberBytes (length (p .tasks) / 3) ++ numbersBytes (p .tasks)
+planBytes p = numberBytes (p .frame) ++ countedBytes 2 (p .windows) ++ countedBytes 3 (p .tasks)
 
 -- 1 and 4, which are about the counts, then 8; the numbers' ranges are for the reader of the file
 unfoldable pub writeFault : Plan → ℕ → Fault

@@ -1,15 +1,18 @@
--- A plan file that is read: what stands where in it, how long it is at most, and how many of its bytes decide the answer
+-- A plan file that is read: what stands where in it, how long it is at most, and how many of its bytes decide the answer. A plan stands at
+-- an offset, so that this serves forms of the file with other numbers before P
 use mathlib.Core.Path.{_≡_, refl, subst}
 use mathlib.Core.List.{List}
 use Prim.Native.Nat.{ℕ, _+_, _*_, _≤_, _<_}
 use native.Mathlib.Omega.{arith}
+use native.Mathlib.Nat.{mul-le-mul-left}
 use native.Mathlib.Decide.{decLt}
-use lib.Dec.{ltb, eqb}
+use lib.Dec.{ltb}
 use lib.ListN.{length, take, length-take}
-use borrow.Author.Tests.{ltb-false, eqb-false, lt-ltb, le-ltb, ne-eqb}
+use borrow.Author.Tests.{ltb-false, lt-ltb, le-ltb}
 use Rattle.scope.specs.Limits.{mostWindows, mostTasks}
 use Rattle.scope.specs.Answers.{Fault, Fault.fine, Fault.fault, Answer, Answer.given, Answer.refused, unless}
-use Rattle.scope.specs.Plan.{Read, Read.read, Read.bad, readNumber, readNumbers, Plan, orNine, past, windowCountFault, taskCountFault, restFault, tasksFrom, windowsFrom, planOf, planAnswer}
+use Rattle.scope.specs.Plan.{Read, Read.read, Read.bad, readNumber, readNumbers, Plan, orNine, past, andThen, countFault}
+use Rattle.scope.specs.Plan.{windowCountFault, taskCountFault, restFault, Listed, asListed, countedFrom, listsFrom, planFrom, planOf, planAnswer}
 use Rattle.theory.specs.Numbers.{or-neither}
 use Rattle.theory.specs.Answers.{faultIf-fine, unless-given}
 use Rattle.theory.specs.Seven.{number-next, number-small, first-number}
@@ -19,77 +22,22 @@ use Rattle.theory.specs.Series.{numbers-next, first-numbers}
 abbrev pub mostPlanBytes : ℕ
 mostPlanBytes = 5 * (1 + 2 * mostWindows + 3 * mostTasks) + 2
 
--- ---- the checks of a file: of its two counts and of its end
+-- ---- the checks of a file: of a count and of the end
 
-pub window-count : (m : ℕ) → windowCountFault m ≡ fine → (0 < m) × (m ≤ mostWindows)
-unfolding windowCountFault
-window-count m e =
-    let l = or-neither (eqb m 0) (ltb mostWindows m) (faultIf-fine _ 1 0 e) in
-    let some = eqb-false m 0 (l .0) in
-    (omega (arith, some), ltb-false mostWindows m (l .1))
+module _ (least most number n : ℕ) where
+  pub count-legal : countFault least most number n ≡ fine → (least ≤ n) × (n ≤ most)
+  count-legal e =
+      let l = or-neither (ltb n least) (ltb most n) (faultIf-fine _ number 0 e) in
+      (ltb-false n least (l .0), ltb-false most n (l .1))
 
-pub window-count-fine : (m : ℕ) → 0 < m → m ≤ mostWindows → windowCountFault m ≡ fine
-unfolding windowCountFault
-window-count-fine m p h = rw (ne-eqb m 0 (λ e. omega arith), le-ltb mostWindows m h)
-
-pub task-count : (n : ℕ) → taskCountFault n ≡ fine → n ≤ mostTasks
-unfolding taskCountFault
-task-count n e = ltb-false mostTasks n (faultIf-fine _ 4 0 e)
-
-pub task-count-fine : (n : ℕ) → n ≤ mostTasks → taskCountFault n ≡ fine
-unfolding taskCountFault
-task-count-fine n h = rw (le-ltb mostTasks n h)
+  pub count-fine : least ≤ n → n ≤ most → countFault least most number n ≡ fine
+  count-fine l m = rw (le-ltb n least l, le-ltb most n m)
 
 no-rest : (bytes : List ℕ) (end : ℕ) → restFault bytes end ≡ fine → length bytes ≤ end
 unfolding restFault
 no-rest bytes end e = ltb-false end (length bytes) (faultIf-fine _ 9 end e)
 
--- ---- what stands where: the numbers of plan p, from the front of the bytes to end
-
-pub record PlanAt (bytes : List ℕ) (p : Plan) (end : ℕ) : Type 0 where
-  pub afterFrame : ℕ
-  pub windowCount : ℕ
-  pub windowsAt : ℕ
-  pub afterWindows : ℕ
-  pub taskCount : ℕ
-  pub tasksAt : ℕ
-  pub frame : readNumber bytes 0 ≡ read (p .frame) afterFrame
-  pub windowsCounted : readNumber bytes afterFrame ≡ read windowCount windowsAt
-  pub fewWindows : windowCountFault windowCount ≡ fine
-  pub windows : readNumbers bytes (2 * windowCount) windowsAt ≡ read (p .windows) afterWindows
-  pub tasksCounted : readNumber bytes afterWindows ≡ read taskCount tasksAt
-  pub fewTasks : taskCountFault taskCount ≡ fine
-  pub tasks : readNumbers bytes (3 * taskCount) tasksAt ≡ read (p .tasks) end
-
-module _ (bytes : List ℕ) (p : Plan) (end : ℕ) (q : PlanAt bytes p end) where
-  pub windows-next : (length (p .windows) ≡ 2 * q .windowCount) × (q .afterWindows ≤ q .windowsAt + 5 * (2 * q .windowCount))
-  windows-next = let s = numbers-next bytes (q .windowsAt) (2 * q .windowCount) (p .windows) (q .afterWindows) (q .windows) in (s .0, s .2)
-
-  pub tasks-next : (length (p .tasks) ≡ 3 * q .taskCount) × (end ≤ q .tasksAt + 5 * (3 * q .taskCount)) × (end ≤ length bytes)
-  tasks-next =
-      let s = numbers-next bytes (q .tasksAt) (3 * q .taskCount) (p .tasks) end (q .tasks) in
-      (s .0, s .2, s .3 (number-next bytes (q .afterWindows) (q .taskCount) (q .tasksAt) (q .tasksCounted) .2))
-
-  -- a count that passes its check has one byte, so P ends at 5 at most, the windows at 646 and the tasks at 1127
-  pub plan-end : end ≤ mostPlanBytes
-  plan-end =
-      let m = window-count (q .windowCount) (q .fewWindows) .1 in
-      let n = task-count (q .taskCount) (q .fewTasks) in
-      omega (
-        arith,
-        number-next bytes 0 (p .frame) (q .afterFrame) (q .frame) .1,
-        number-small bytes (q .afterFrame) (q .windowCount) (q .windowsAt) (q .windowsCounted) (omega arith),
-        windows-next .1,
-        number-small bytes (q .afterWindows) (q .taskCount) (q .tasksAt) (q .tasksCounted) (omega arith),
-        tasks-next .1,
-      )
-
-  -- the bytes read to p, unless some are left over
-  pub plan-at : planOf bytes ≡ unless (restFault bytes end) p
-  unfolding planOf windowsFrom tasksFrom
-  plan-at = rw (q .frame, q .windowsCounted, q .fewWindows, q .windows, q .tasksCounted, q .fewTasks, q .tasks)
-
--- ---- a plan is given only where its numbers stand, up to the end of the file
+-- ---- what is given only where it was read
 
 refused-not-given : {A : Type 0} {a : A} {n p : ℕ} → refused n p ≡ given a → ⊥
 refused-not-given e = let z : _≡_ {A = ℕ} 0 1 = cc in omega arith
@@ -103,39 +51,108 @@ past-given : {A R : Type 0} (x : Fault) (a : Answer A) (v : A) → past x a ≡ 
 past-given fine a v e go = go refl e
 past-given (fault n p) a v e go = absurd (refused-not-given e)
 
-pub plan-read : (bytes : List ℕ) (p : Plan) → planOf bytes ≡ given p → PlanAt bytes p (length bytes)
-unfolding planOf windowsFrom tasksFrom
-plan-read bytes p given-p =
-    orNine-given (readNumber bytes 0) _ p given-p (λ P afterFrame e₁ r₁.
-    orNine-given (readNumber bytes afterFrame) _ p r₁ (λ m windowsAt e₂ r₂.
-    past-given (windowCountFault m) _ p r₂ (λ few r₃.
-    orNine-given (readNumbers bytes (2 * m) windowsAt) _ p r₃ (λ ws afterWindows e₄ r₄.
-    orNine-given (readNumber bytes afterWindows) _ p r₄ (λ n tasksAt e₅ r₅.
-    past-given (taskCountFault n) _ p r₅ (λ fewTasks r₆.
-    orNine-given (readNumbers bytes (3 * n) tasksAt) _ p r₆ (λ ts end e₇ r₇.
-    let v : Plan = record { frame = P; windows = ws; tasks = ts } in
-    let r = unless-given (restFault bytes end) v p r₇ in
-    let q : PlanAt bytes v end =
+andThen-given : {A B R : Type 0} (x : Answer A) (f : A → Answer B) (b : B) → andThen x f ≡ given b →
+    ((a : A) → x ≡ given a → f a ≡ given b → R) → R
+andThen-given (given a) f b e go = go a refl e
+andThen-given (refused n p) f b e go = absurd (refused-not-given e)
+
+-- ---- a count that stands at an offset, and up to end k numbers for each
+
+pub record CountedAt (k : ℕ) (check : ℕ → Fault) (bytes : List ℕ) (at : ℕ) (l : List ℕ) (end : ℕ) : Type 0 where
+  pub count : ℕ
+  pub afterCount : ℕ
+  pub counted : readNumber bytes at ≡ read count afterCount
+  pub legal : check count ≡ fine
+  pub numbers : readNumbers bytes (k * count) afterCount ≡ read l end
+
+module _ (k : ℕ) (check : ℕ → Fault) (bytes : List ℕ) (at : ℕ) where
+  counted-at : (l : List ℕ) (end : ℕ) → CountedAt k check bytes at l end → countedFrom k check bytes at ≡ asListed l end
+  unfolding countedFrom
+  counted-at l end q = rw (q .counted, q .legal, q .numbers)
+
+  counted-read : (x : Listed) → countedFrom k check bytes at ≡ given x → CountedAt k check bytes at (x .numbers) (x .next)
+  unfolding countedFrom
+  counted-read x given-x =
+      orNine-given (readNumber bytes at) _ x given-x (λ n next counted r₁.
+      past-given (check n) _ x r₁ (λ legal r₂.
+      orNine-given (readNumbers bytes (k * n) next) _ x r₂ (λ l end numbers r₃.
+      let q : CountedAt k check bytes at l end = record { count = n; afterCount = next; counted = counted; legal = legal; numbers = numbers } in
+      let z : record { numbers = l; next = end } ≡ x = cc in
+      subst (λ (y : Listed). CountedAt k check bytes at (y .numbers) (y .next)) z q)))
+
+-- a count below 128 has one byte
+module _ (k least most number : ℕ) (bytes : List ℕ) (at : ℕ) (l : List ℕ) (end : ℕ)
+    (q : CountedAt k (countFault least most number) bytes at l end) where
+  pub counted-next : most < 128 → (length l ≡ k * q .count) × (end ≤ at + 1 + 5 * (k * q .count)) × (end ≤ length bytes)
+  counted-next small =
+      let m = count-legal least most number (q .count) (q .legal) .1 in
+      let s = numbers-next bytes (q .afterCount) (k * q .count) l end (q .numbers) in
+      let one = number-small bytes at (q .count) (q .afterCount) (q .counted) (omega arith) in
+      (s .0, omega (arith, s .2, one), s .3 (number-next bytes at (q .count) (q .afterCount) (q .counted) .2))
+
+-- ---- a plan that stands at an offset, up to end
+
+pub record PlanAt (bytes : List ℕ) (at : ℕ) (p : Plan) (end : ℕ) : Type 0 where
+  pub afterFrame : ℕ
+  pub afterWindows : ℕ
+  pub frame : readNumber bytes at ≡ read (p .frame) afterFrame
+  pub windows : CountedAt 2 windowCountFault bytes afterFrame (p .windows) afterWindows
+  pub tasks : CountedAt 3 taskCountFault bytes afterWindows (p .tasks) end
+
+module _ (bytes : List ℕ) (at : ℕ) (p : Plan) (end : ℕ) (q : PlanAt bytes at p end) where
+  pub windows-next : (length (p .windows) ≡ 2 * q .windows .count)
+      × (q .afterWindows ≤ q .afterFrame + 1 + 5 * (2 * q .windows .count)) × (q .afterWindows ≤ length bytes)
+  windows-next = counted-next 2 1 mostWindows 1 bytes (q .afterFrame) (p .windows) (q .afterWindows) (q .windows) (omega arith)
+
+  pub tasks-next : (length (p .tasks) ≡ 3 * q .tasks .count)
+      × (end ≤ q .afterWindows + 1 + 5 * (3 * q .tasks .count)) × (end ≤ length bytes)
+  tasks-next = counted-next 3 0 mostTasks 4 bytes (q .afterWindows) (p .tasks) end (q .tasks) (omega arith)
+
+  -- P takes 5 bytes at most, the windows 641 and the tasks 481
+  pub plan-end : end ≤ at + mostPlanBytes
+  plan-end =
+      omega (
+        arith,
+        number-next bytes at (p .frame) (q .afterFrame) (q .frame) .1,
+        count-legal 1 mostWindows 1 (q .windows .count) (q .windows .legal) .1,
+        windows-next .1,
+        count-legal 0 mostTasks 4 (q .tasks .count) (q .tasks .legal) .1,
+        tasks-next .1,
+      )
+
+  -- it is read there, unless bytes are left over
+  pub plan-at : planFrom bytes at ≡ unless (restFault bytes end) p
+  unfolding planFrom listsFrom
+  plan-at =
+      rw (
+        q .frame,
+        counted-at 2 windowCountFault bytes (q .afterFrame) (p .windows) (q .afterWindows) (q .windows),
+        counted-at 3 taskCountFault bytes (q .afterWindows) (p .tasks) end (q .tasks),
+      )
+
+-- a plan is given only where it stands, up to the end of the file
+pub plan-read : (bytes : List ℕ) (at : ℕ) (p : Plan) → planFrom bytes at ≡ given p → PlanAt bytes at p (length bytes)
+unfolding planFrom listsFrom
+plan-read bytes at p given-p =
+    orNine-given (readNumber bytes at) _ p given-p (λ P afterFrame frame r₁.
+    andThen-given (countedFrom 2 windowCountFault bytes afterFrame) _ p r₁ (λ ws windows r₂.
+    andThen-given (countedFrom 3 taskCountFault bytes (ws .next)) _ p r₂ (λ ts tasks r₃.
+    let v : Plan = record { frame = P; windows = ws .numbers; tasks = ts .numbers } in
+    let r = unless-given (restFault bytes (ts .next)) v p r₃ in
+    let q : PlanAt bytes at v (ts .next) =
     record {
       afterFrame = afterFrame;
-      windowCount = m;
-      windowsAt = windowsAt;
-      afterWindows = afterWindows;
-      taskCount = n;
-      tasksAt = tasksAt;
-      frame = e₁;
-      windowsCounted = e₂;
-      fewWindows = few;
-      windows = e₄;
-      tasksCounted = e₅;
-      fewTasks = fewTasks;
-      tasks = e₇;
+      afterWindows = ws .next;
+      frame = frame;
+      windows = counted-read 2 windowCountFault bytes afterFrame ws windows;
+      tasks = counted-read 3 taskCountFault bytes (ws .next) ts tasks;
     } in
-    let z : end ≡ length bytes = omega (arith, no-rest bytes end (r .0), tasks-next bytes v end q .2) in
-    subst (PlanAt bytes p) z (subst (λ (u : Plan). PlanAt bytes u end) (r .1) q))))))))
+    let z : ts .next ≡ length bytes = omega (arith, no-rest bytes (ts .next) (r .0), tasks-next bytes at v (ts .next) q .2) in
+    subst (PlanAt bytes at p) z (subst (λ (u : Plan). PlanAt bytes at u (ts .next)) (r .1) q))))
 
 pub longest-plan : (bytes : List ℕ) (p : Plan) → planOf bytes ≡ given p → length bytes ≤ mostPlanBytes
-longest-plan bytes p e = plan-end bytes p (length bytes) (plan-read bytes p e)
+unfolding planOf
+longest-plan bytes p e = plan-end bytes 0 p (length bytes) (plan-read bytes 0 p e)
 
 -- ---- the first k bytes, where these are more than a plan can have
 
@@ -148,7 +165,11 @@ past-same : {A : Type 0} (x : Fault) (a b : Answer A) → (x ≡ fine → a ≡ 
 past-same fine a b h = h refl
 past-same (fault n p) a b h = refl
 
-module _ (bytes : List ℕ) (k : ℕ) (long : mostPlanBytes < k) where
+andThen-same : {A B : Type 0} (x : Answer A) (f g : A → Answer B) → ((a : A) → x ≡ given a → f a ≡ g a) → andThen x f ≡ andThen x g
+andThen-same (given a) f g h = h a refl
+andThen-same (refused n p) f g h = refl
+
+module _ (bytes : List ℕ) (k : ℕ) where
   first-rest : (end : ℕ) → end < k → restFault (take k bytes) end ≡ restFault bytes end
   unfolding restFault
   first-rest end h =
@@ -158,34 +179,40 @@ module _ (bytes : List ℕ) (k : ℕ) (long : mostPlanBytes < k) where
         | no l ↦ rw (le-ltb end (length bytes) (omega arith), le-ltb end (length (take k bytes)) (omega arith))
       ]
 
-  first-tasks : (P : ℕ) (ws : List ℕ) (at : ℕ) → at ≤ 5 * (1 + 2 * mostWindows) + 1 →
-      tasksFrom (take k bytes) P ws at ≡ tasksFrom bytes P ws at
-  unfolding tasksFrom
-  first-tasks P ws at h =
-      rw (first-number bytes at k (omega arith)) (orNine-same (readNumber bytes at) _ _ (λ n next e.
-      past-same (taskCountFault n) _ _ (λ f.
-      let c = task-count n f in
+  first-counted : (each least most number at : ℕ) → most < 128 → at + 5 ≤ k → at + 1 + 5 * (each * most) ≤ k →
+      countedFrom each (countFault least most number) (take k bytes) at ≡ countedFrom each (countFault least most number) bytes at
+  unfolding countedFrom
+  first-counted each least most number at small h room =
+      rw (first-number bytes at k h) (orNine-same (readNumber bytes at) _ _ (λ n next e.
+      past-same (countFault least most number n) _ _ (λ f.
+      let c = count-legal least most number n f .1 in
       let s = number-small bytes at n next e (omega arith) in
-      rw (first-numbers bytes next k (3 * n) (omega arith)) (orNine-same (readNumbers bytes (3 * n) next) _ _ (λ ts end g.
-      rw (first-rest end (omega (arith, numbers-next bytes next (3 * n) ts end g .2))))))))
+      let m : each * n ≤ each * most = mul-le-mul-left each c in
+      rw (first-numbers bytes next k (each * n) (omega arith)))))
 
-  first-windows : (P at : ℕ) → at ≤ 5 → windowsFrom (take k bytes) P at ≡ windowsFrom bytes P at
-  unfolding windowsFrom
-  first-windows P at h =
-      rw (first-number bytes at k (omega arith)) (orNine-same (readNumber bytes at) _ _ (λ m next e.
-      past-same (windowCountFault m) _ _ (λ f.
-      let c = window-count m f .1 in
-      let s = number-small bytes at m next e (omega arith) in
-      rw (first-numbers bytes next k (2 * m) (omega arith)) (orNine-same (readNumbers bytes (2 * m) next) _ _ (λ ws after g.
-      first-tasks P ws after (omega (arith, numbers-next bytes next (2 * m) ws after g .2)))))))
+  pub first-plan : (at : ℕ) → at + mostPlanBytes < k → planFrom (take k bytes) at ≡ planFrom bytes at
+  unfolding planFrom listsFrom
+  first-plan at long =
+      rw (first-number bytes at k (omega arith)) (orNine-same (readNumber bytes at) _ _ (λ P next e.
+      let f = number-next bytes at P next e .1 in
+      rw (first-counted 2 1 mostWindows 1 next (omega arith) (omega arith) (omega arith))
+      (andThen-same (countedFrom 2 windowCountFault bytes next) _ _ (λ ws g.
+      let w = counted-read 2 windowCountFault bytes next ws g in
+      let m = count-legal 1 mostWindows 1 (w .count) (w .legal) .1 in
+      let u = counted-next 2 1 mostWindows 1 bytes next (ws .numbers) (ws .next) w (omega arith) .1 in
+      rw (first-counted 3 0 mostTasks 4 (ws .next) (omega arith) (omega arith) (omega arith))
+      (andThen-same (countedFrom 3 taskCountFault bytes (ws .next)) _ _ (λ ts i.
+      let t = counted-read 3 taskCountFault bytes (ws .next) ts i in
+      let n = count-legal 0 mostTasks 4 (t .count) (t .legal) .1 in
+      let v = counted-next 3 0 mostTasks 4 bytes (ws .next) (ts .numbers) (ts .next) t (omega arith) .1 in
+      rw (first-rest (ts .next) (omega arith))))))))
 
   -- they decide what the file reads to, so a bounded read of a file is exact
-  pub first-bytes : planOf (take k bytes) ≡ planOf bytes
-  unfolding planOf
-  first-bytes =
-      rw (first-number bytes 0 k (omega arith)) (orNine-same (readNumber bytes 0) _ _ (λ P after e.
-      first-windows P after (number-next bytes 0 P after e .1)))
+  module _ (long : mostPlanBytes < k) where
+    pub first-bytes : planOf (take k bytes) ≡ planOf bytes
+    unfolding planOf
+    first-bytes = first-plan 0 long
 
-  pub first-answer : planAnswer (take k bytes) ≡ planAnswer bytes
-  unfolding planAnswer
-  first-answer = rw first-bytes
+    pub first-answer : planAnswer (take k bytes) ≡ planAnswer bytes
+    unfolding planAnswer
+    first-answer = rw first-bytes

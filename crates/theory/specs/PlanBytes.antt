@@ -1,18 +1,19 @@
 -- A plan's bytes and the plan they read to: each determines the other
-use mathlib.Core.Path.{_≡_, ap, _∙_, subst}
+use mathlib.Core.Path.{_≡_, refl, sym, ap, _∙_, subst}
 use mathlib.Core.List.{List, [], _∷_, _++_, append-assoc, append-nil}
 use Prim.Native.Nat.{ℕ, _+_, _*_, _/_, _≤_, _<_}
 use native.Mathlib.Omega.{arith}
+use native.Mathlib.Nat.{zero-add}
 use lib.ListN.{length, drop, length-append}
 use lib.Seq.{drop-length}
 use borrow.Author.Tests.{lt-ltb, le-ltb}
-use Rattle.scope.specs.Limits.{mostNumber}
-use Rattle.scope.specs.Answers.{Fault.fine, Answer.given, Answer.refused, windowListFault, taskListFault}
-use Rattle.scope.specs.Plan.{Plan, restFault, planOf, numberBytes, numbersBytes, planBytes}
+use Rattle.scope.specs.Limits.{mostNumber, mostWindows, mostTasks}
+use Rattle.scope.specs.Answers.{Fault, Fault.fine, Answer.given, Answer.refused, windowListFault, taskListFault}
+use Rattle.scope.specs.Plan.{Plan, windowCountFault, taskCountFault, restFault, planOf, numberBytes, numbersBytes, countedBytes, planBytes}
 use Rattle.theory.specs.Answers.{window-list-legal, window-list-fine, task-list-legal, task-list-fine}
 use Rattle.theory.specs.Seven.{UpTo, number-most, number-ahead, written-number}
 use Rattle.theory.specs.Series.{numbers-most, numbers-ahead, drop-past, written-numbers}
-use Rattle.theory.specs.Plan.{window-count, window-count-fine, task-count, task-count-fine, PlanAt, windows-next, tasks-next, plan-at, plan-read}
+use Rattle.theory.specs.Plan.{count-legal, count-fine, CountedAt, PlanAt, windows-next, tasks-next, plan-at, plan-read}
 
 -- ---- plans that a file can hold
 
@@ -23,120 +24,140 @@ pub record Writable (p : Plan) : Type 0 where
   pub windowList : windowListFault (p .windows) ≡ fine
   pub taskList : taskListFault (p .tasks) ≡ fine
 
--- ---- the five parts of a plan's bytes
-
-five-parts : (a b c d e rest : List ℕ) → a ++ b ++ c ++ d ++ e ++ rest ≡ a ++ (b ++ (c ++ (d ++ (e ++ rest))))
-five-parts a b c d e rest =
-    rw (append-assoc (a ++ b ++ c ++ d) e rest, append-assoc (a ++ b ++ c) d (e ++ rest))
-    (append-assoc (a ++ b) c (d ++ (e ++ rest)) ∙ append-assoc a b (c ++ (d ++ (e ++ rest))))
+-- ---- the parts of a plan's bytes
 
 parts : (p : Plan) (rest : List ℕ) → planBytes p ++ rest ≡
-    numberBytes (p .frame)
-    ++ (numberBytes (length (p .windows) / 2) ++ (numbersBytes (p .windows)
-    ++ (numberBytes (length (p .tasks) / 3) ++ (numbersBytes (p .tasks) ++ rest))))
+    numberBytes (p .frame) ++ (countedBytes 2 (p .windows) ++ (countedBytes 3 (p .tasks) ++ rest))
 unfolding planBytes
-parts p rest = five-parts (numberBytes (p .frame)) _ (numbersBytes (p .windows)) _ (numbersBytes (p .tasks)) rest
+parts p rest =
+    append-assoc (numberBytes (p .frame) ++ countedBytes 2 (p .windows)) _ rest ∙ append-assoc (numberBytes (p .frame)) _ _
 
 pub plan-length : (p : Plan) → length (planBytes p) ≡
     length (numberBytes (p .frame))
     + length (numberBytes (length (p .windows) / 2)) + length (numbersBytes (p .windows))
     + length (numberBytes (length (p .tasks) / 3)) + length (numbersBytes (p .tasks))
 unfolding planBytes
-plan-length p = simp length-append
+plan-length p =
+    let counted : (k : ℕ) (l : List ℕ) → length (countedBytes k l) ≡ length (numberBytes (length l / k)) + length (numbersBytes l) =
+    λ k l. length-append (numberBytes (length l / k)) (numbersBytes l) in
+    omega (
+      arith,
+      length-append (numberBytes (p .frame) ++ countedBytes 2 (p .windows)) (countedBytes 3 (p .tasks)),
+      length-append (numberBytes (p .frame)) (countedBytes 2 (p .windows)),
+      counted 2 (p .windows),
+      counted 3 (p .tasks),
+    )
+
+-- ---- a count and its numbers, written where they stand and standing where they are written
+
+module _ (k : ℕ) (check : ℕ → Fault) (bytes : List ℕ) (at : ℕ) (l : List ℕ) where
+  written-counted : (rest : List ℕ) → UpTo mostNumber l → k * (length l / k) ≡ length l → length l / k ≤ mostNumber →
+      check (length l / k) ≡ fine → drop at bytes ≡ countedBytes k l ++ rest → CountedAt k check bytes at l (at + length (countedBytes k l))
+  written-counted rest u whole few legal h =
+      let count = numberBytes (length l / k) in
+      let e : drop at bytes ≡ count ++ (numbersBytes l ++ rest) = h ∙ append-assoc count (numbersBytes l) rest in
+      let after : ℕ = at + length count in
+      let z : after + length (numbersBytes l) ≡ at + length (countedBytes k l) = omega (arith, length-append count (numbersBytes l)) in
+      subst (CountedAt k check bytes at l) z (record {
+        count = length l / k;
+        afterCount = after;
+        counted = written-number bytes _ at (length l / k) few e;
+        legal = legal;
+        numbers = rw whole (written-numbers bytes rest l after u (drop-past bytes count _ at e));
+      })
+
+  counted-ahead : UpTo 255 bytes → (end : ℕ) (q : CountedAt k check bytes at l end) → length l / k ≡ q .count →
+      drop at bytes ≡ countedBytes k l ++ drop end bytes
+  counted-ahead u end q e =
+      rw (
+        e,
+        append-assoc,
+        ← numbers-ahead bytes (q .afterCount) u (k * q .count) l end (q .numbers),
+      )
+      (number-ahead bytes at (q .count) (q .afterCount) (q .counted) u)
 
 -- ---- a plan that is written stands where its bytes do
 
 module _ (p : Plan) (w : Writable p) where
-  pub written-plan : (rest : List ℕ) → PlanAt (planBytes p ++ rest) p (length (planBytes p))
-  written-plan rest =
-      let bytes = planBytes p ++ rest in
+  pub written-plan : (bytes rest : List ℕ) (at : ℕ) → drop at bytes ≡ planBytes p ++ rest → PlanAt bytes at p (at + length (planBytes p))
+  unfolding planBytes
+  written-plan bytes rest at h =
       let l = window-list-legal (p .windows) (w .windowList) in
       let k = task-list-legal (p .tasks) (w .taskList) in
-      let m : ℕ = length (p .windows) / 2 in
-      let n : ℕ = length (p .tasks) / 3 in
-      let twice : 2 * m ≡ length (p .windows) = omega (arith, l .0) in
-      let thrice : 3 * n ≡ length (p .tasks) = omega (arith, k .0) in
-      let h₀ : drop 0 bytes ≡ _ = parts p rest in
-      let a₁ : ℕ = 0 + length (numberBytes (p .frame)) in
-      let h₁ = drop-past bytes (numberBytes (p .frame)) _ 0 h₀ in
-      let a₂ : ℕ = a₁ + length (numberBytes m) in
-      let h₂ = drop-past bytes (numberBytes m) _ a₁ h₁ in
-      let a₃ : ℕ = a₂ + length (numbersBytes (p .windows)) in
-      let h₃ = drop-past bytes (numbersBytes (p .windows)) _ a₂ h₂ in
-      let a₄ : ℕ = a₃ + length (numberBytes n) in
-      let h₄ = drop-past bytes (numberBytes n) _ a₃ h₃ in
-      let a₅ : ℕ = a₄ + length (numbersBytes (p .tasks)) in
-      let z : a₅ ≡ length (planBytes p) = omega (arith, plan-length p) in
-      subst (PlanAt bytes p) z (record {
+      let frame = numberBytes (p .frame) in
+      let windows = countedBytes 2 (p .windows) in
+      let tasks = countedBytes 3 (p .tasks) in
+      let h₀ : drop at bytes ≡ frame ++ (windows ++ (tasks ++ rest)) = h ∙ parts p rest in
+      let a₁ : ℕ = at + length frame in
+      let h₁ : drop a₁ bytes ≡ windows ++ (tasks ++ rest) = drop-past bytes frame _ at h₀ in
+      let a₂ : ℕ = a₁ + length windows in
+      let h₂ : drop a₂ bytes ≡ tasks ++ rest = drop-past bytes windows _ a₁ h₁ in
+      let z : a₂ + length tasks ≡ at + length (planBytes p) = omega (arith, length-append (frame ++ windows) tasks, length-append frame windows) in
+      subst (PlanAt bytes at p) z (record {
         afterFrame = a₁;
-        windowCount = m;
-        windowsAt = a₂;
-        afterWindows = a₃;
-        taskCount = n;
-        tasksAt = a₄;
-        frame = written-number bytes _ 0 (p .frame) (w .frame) h₀;
-        windowsCounted = written-number bytes _ a₁ m (omega (arith, l .2)) h₁;
-        fewWindows = window-count-fine m (omega (arith, l .1)) (omega (arith, l .2));
-        windows = rw twice (written-numbers bytes _ (p .windows) a₂ (w .windows) h₂);
-        tasksCounted = written-number bytes _ a₃ n (omega (arith, k .1)) h₃;
-        fewTasks = task-count-fine n (omega (arith, k .1));
-        tasks = rw thrice (written-numbers bytes rest (p .tasks) a₄ (w .tasks) h₄);
+        afterWindows = a₂;
+        frame = written-number bytes _ at (p .frame) (w .frame) h₀;
+        windows = written-counted 2 windowCountFault bytes a₁ (p .windows) _ (w .windows) (omega (arith, l .0)) (omega (arith, l .2))
+            (count-fine 1 mostWindows 1 (length (p .windows) / 2) (omega (arith, l .0, l .1)) (omega (arith, l .2))) h₁;
+        tasks = written-counted 3 taskCountFault bytes a₂ (p .tasks) _ (w .tasks) (omega (arith, k .0)) (omega (arith, k .1))
+            (count-fine 0 mostTasks 4 (length (p .tasks) / 3) (omega arith) (omega (arith, k .1))) h₂;
       })
 
   -- it reads back
   pub round-trip : planOf (planBytes p) ≡ given p
-  unfolding restFault
+  unfolding planOf restFault
   round-trip =
       let bytes = planBytes p in
-      rw (append-nil bytes, le-ltb (length bytes) (length bytes) (omega arith)) at (plan-at (bytes ++ []) p (length bytes) (written-plan []))
+      let at = written-plan bytes [] 0 (sym (append-nil bytes)) in
+      rw (zero-add, le-ltb (length bytes) (length bytes) (omega arith)) at (plan-at bytes 0 p _ at)
 
   -- with bytes left over, the first of them is named
   pub left-over : (b : ℕ) (rest : List ℕ) → planOf (planBytes p ++ (b ∷ rest)) ≡ refused 9 (length (planBytes p))
-  unfolding restFault
+  unfolding planOf restFault
   left-over b rest =
       let front = planBytes p in
       let all = front ++ (b ∷ rest) in
       let more : length front < length all = omega (arith, length-append front (b ∷ rest)) in
-      rw (lt-ltb (length front) (length all) more) at (plan-at all p (length front) (written-plan (b ∷ rest)))
+      rw (zero-add, lt-ltb (length front) (length all) more) at (plan-at all 0 p _ (written-plan all (b ∷ rest) 0 refl))
 
 -- ---- bytes in which a plan stands are that plan's bytes
 
-module _ (bytes : List ℕ) (p : Plan) (end : ℕ) (q : PlanAt bytes p end) where
+module _ (bytes : List ℕ) (at : ℕ) (p : Plan) (end : ℕ) (q : PlanAt bytes at p end) where
   pub plan-writable : Writable p
   plan-writable =
-      let m = window-count (q .windowCount) (q .fewWindows) in
-      let n = task-count (q .taskCount) (q .fewTasks) in
-      let w = windows-next bytes p end q .0 in
-      let t = tasks-next bytes p end q .0 in
+      let windows = q .windows in
+      let tasks = q .tasks in
+      let m = count-legal 1 mostWindows 1 (windows .count) (windows .legal) in
+      let n = count-legal 0 mostTasks 4 (tasks .count) (tasks .legal) in
+      let w = windows-next bytes at p end q .0 in
+      let t = tasks-next bytes at p end q .0 in
       record {
-        frame = number-most bytes 0 (p .frame) (q .afterFrame) (q .frame);
-        windows = numbers-most bytes (q .windowsAt) (2 * q .windowCount) (p .windows) (q .afterWindows) (q .windows);
-        tasks = numbers-most bytes (q .tasksAt) (3 * q .taskCount) (p .tasks) end (q .tasks);
+        frame = number-most bytes at (p .frame) (q .afterFrame) (q .frame);
+        windows = numbers-most bytes (windows .afterCount) (2 * windows .count) (p .windows) (q .afterWindows) (windows .numbers);
+        tasks = numbers-most bytes (tasks .afterCount) (3 * tasks .count) (p .tasks) end (tasks .numbers);
         windowList = window-list-fine (p .windows) (omega arith) (omega (arith, m .0)) (omega (arith, m .1));
-        taskList = task-list-fine (p .tasks) (omega arith) (omega arith);
+        taskList = task-list-fine (p .tasks) (omega arith) (omega (arith, n .1));
       }
 
-  pub plan-ahead : UpTo 255 bytes → bytes ≡ planBytes p ++ drop end bytes
+  pub plan-ahead : UpTo 255 bytes → drop at bytes ≡ planBytes p ++ drop end bytes
   plan-ahead u =
-      let m : length (p .windows) / 2 ≡ q .windowCount = omega (arith, windows-next bytes p end q .0) in
-      let n : length (p .tasks) / 3 ≡ q .taskCount = omega (arith, tasks-next bytes p end q .0) in
+      let m : length (p .windows) / 2 ≡ q .windows .count = omega (arith, windows-next bytes at p end q .0) in
+      let n : length (p .tasks) / 3 ≡ q .tasks .count = omega (arith, tasks-next bytes at p end q .0) in
       rw (
         parts p (drop end bytes),
-        m,
-        n,
-        ← numbers-ahead bytes (q .tasksAt) u (3 * q .taskCount) (p .tasks) end (q .tasks),
-        ← number-ahead bytes (q .afterWindows) (q .taskCount) (q .tasksAt) (q .tasksCounted) u,
-        ← numbers-ahead bytes (q .windowsAt) u (2 * q .windowCount) (p .windows) (q .afterWindows) (q .windows),
-        ← number-ahead bytes (q .afterFrame) (q .windowCount) (q .windowsAt) (q .windowsCounted) u,
+        ← counted-ahead 3 taskCountFault bytes (q .afterWindows) (p .tasks) u end (q .tasks) n,
+        ← counted-ahead 2 windowCountFault bytes (q .afterFrame) (p .windows) u (q .afterWindows) (q .windows) m,
       )
-      (number-ahead bytes 0 (p .frame) (q .afterFrame) (q .frame) u)
+      (number-ahead bytes at (p .frame) (q .afterFrame) (q .frame) u)
 
 -- a plan that is given has lists of the right shape, and numbers that a file can hold
 pub read-writable : (bytes : List ℕ) (p : Plan) → planOf bytes ≡ given p → Writable p
-read-writable bytes p e = plan-writable bytes p (length bytes) (plan-read bytes p e)
+unfolding planOf
+read-writable bytes p e = plan-writable bytes 0 p (length bytes) (plan-read bytes 0 p e)
 
 -- no other bytes read to it than those that are written
 pub only-bytes : (bytes : List ℕ) (p : Plan) → UpTo 255 bytes → planOf bytes ≡ given p → bytes ≡ planBytes p
+unfolding planOf
 only-bytes bytes p u e =
-    plan-ahead bytes p (length bytes) (plan-read bytes p e) u
+    plan-ahead bytes 0 p (length bytes) (plan-read bytes 0 p e) u
     ∙ ap (λ (r : List ℕ). planBytes p ++ r) (drop-length bytes) ∙ append-nil (planBytes p)

@@ -1,10 +1,22 @@
+use borrow.Author.Needs.{needs}
 use borrow.Author.Tests.{lt-ltb, le-ltb}
 use Rattle.machine.specs.Bits.{betterOf}
-use borrow.Author.Needs.{needs}
 use Rattle.machine.proofs.pending.better.Statement.{statement}
 use Rattle.machine.proofs.pending.better.Tie as tie
 use Rattle.machine.proofs.pending.better.Reads as reads
 use Rattle.machine.proofs.pending.better.Lts as lts
+
+mul-x : tie.Need-mul-x
+mul-x c = search needs
+
+add-x : tie.Need-add-x
+add-x c = search needs
+
+mul-y : tie.Need-mul-y
+mul-y c = search needs
+
+add-y : tie.Need-add-y
+add-y c = search needs
 
 mul-if2 : tie.Need-mul-if2
 mul-if2 c = search needs
@@ -34,6 +46,10 @@ pub better-spec : {M : Type 1} → statement M
 better-spec =
     tie.close
     (tie.spec
+    mul-x
+    add-x
+    mul-y
+    add-y
     mul-if2
     shared-slice-read-if2
     mul-if2-2

@@ -7,7 +7,7 @@ use Rattle.palikudyom.proofs.lines.verdict.Tie as tie
 use Rattle.palikudyom.proofs.lines.verdict.Reads as reads
 use Rattle.palikudyom.proofs.lines.verdict.Lts as lts
 use Rattle.io.proofs.write_all.Reads as write-all-reads
-use Rattle.plan.proofs.line.line.Reads as line-reads
+use Rattle.print.proofs.line.line.Reads as line-reads
 
 slice-aggregate-line : tie.Need-slice-aggregate-line
 slice-aggregate-line c = search needs

@@ -1,44 +1,75 @@
+use native.Mathlib.Omega.{arith}
 use mathlib.Core.Path.{sym, ap, _∙_}
+use lib.Seq.{length-take-le}
+use Rattle.plan.specs.Told.{toldPlan}
+use Rattle.plan.proofs.ReadLaws.{plan-refused, plan-judged}
 use borrow.Author.Needs.{needs}
-use Rattle.plan.specs.Told.{toldNumber}
-use Rattle.plan.proofs.CheckLaws.{frame-bad, frame-good}
 use Rattle.plan.proofs.check.check_plan.Statement.{statement}
 use Rattle.plan.proofs.check.check_plan.Tie as tie
 use Rattle.plan.proofs.check.check_plan.Reads as reads
 use Rattle.plan.proofs.check.check_plan.Lts as lts
-use Rattle.plan.proofs.check.check_windows_from.Reads as check-windows-from-reads
-use Rattle.plan.proofs.check.nine.Reads as nine-reads
-use Rattle.plan.proofs.number.read_number.Reads as read-number-reads
+use Rattle.checker.proofs.verdict.verdict.Reads as verdict-reads
+use Rattle.plan.proofs.read.read_plan.Reads as read-plan-reads
 
-read-number-requires : tie.Need-read-number-requires
-read-number-requires c κs = search needs
+slice-aggregate-read-plan : tie.Need-slice-aggregate-read-plan
+slice-aggregate-read-plan c = search needs
 
-enum-known-offset : tie.Need-enum-known-offset
-enum-known-offset c = search needs
+slice-aggregate-read-plan-2 : tie.Need-slice-aggregate-read-plan-2
+slice-aggregate-read-plan-2 c = search needs
 
-nine-requires : tie.Need-nine-requires
-nine-requires c κs = search needs
+read-plan-requires : tie.Need-read-plan-requires
+read-plan-requires c κs = search needs
 
-enum-known-value : tie.Need-enum-known-value
-enum-known-value c = search needs
+enum-known-refusal : tie.Need-enum-known-refusal
+enum-known-refusal c = search needs
 
-check-windows-from-requires : tie.Need-check-windows-from-requires
-check-windows-from-requires c κs = search needs
+enum-known-frame : tie.Need-enum-known-frame
+enum-known-frame c = search needs
+
+array-share-prefix-windows : tie.Need-array-share-prefix-windows
+array-share-prefix-windows c =
+    let h = rw (c .before .frame .given .1) at (c .before .before .before .before .before .read-plan .ensures .1) in
+    omega (arith, h .0)
+
+slice-aggregate-verdict : tie.Need-slice-aggregate-verdict
+slice-aggregate-verdict c = sym (length-take-le _ _ (array-share-prefix-windows (c .before)))
+
+array-share-prefix-tasks : tie.Need-array-share-prefix-tasks
+array-share-prefix-tasks c =
+    let h = rw (c .before .before .frame .given .1) at (c .before .before .before .before .before .before .read-plan .ensures .1) in
+    omega (arith, h .1)
+
+slice-aggregate-verdict-2 : tie.Need-slice-aggregate-verdict-2
+slice-aggregate-verdict-2 c = sym (length-take-le _ _ (array-share-prefix-tasks (c .before)))
+
+verdict-requires : tie.Need-verdict-requires
+verdict-requires c κs = search needs
 
 returns : tie.Need-returns
-returns c = c .nine .ensures ∙ frame-bad _ _ (sym (c .before .before .before .before .read-number .ensures) ∙ ap toldNumber (c .before .before .offset .given .1))
+returns c =
+    let r = c .before .before .before .before .before .read-plan in
+    let e = ap (λ z. toldPlan z (r .last .1 .1 .0) (r .last .1 .1 .1 .0)) (c .before .refusal .given .1) in
+    plan-refused _ (c .before .refusal .given .0 .0) (sym (r .ensures .0) ∙ e)
 
 returns-2 : tie.Need-returns-2
-returns-2 c = c .check-windows-from .ensures ∙ frame-good _ _ _ (sym (c .before .before .before .before .read-number .ensures) ∙ ap toldNumber (c .before .before .value .given .1))
+returns-2 c =
+    let r = c .before .before .before .before .before .before .before .before .read-plan in
+    let e = ap (λ z. toldPlan z (r .last .1 .1 .0) (r .last .1 .1 .1 .0)) (c .before .before .before .before .frame .given .1) in
+    c .verdict .ensures ∙ plan-judged _ _ (sym (r .ensures .0) ∙ e)
 
 pub check-plan-spec : {M : Type 1} → statement M
 check-plan-spec =
     tie.close
     (tie.spec
-    read-number-requires
-    enum-known-offset
-    nine-requires
-    enum-known-value
-    check-windows-from-requires
+    slice-aggregate-read-plan
+    slice-aggregate-read-plan-2
+    read-plan-requires
+    enum-known-refusal
+    enum-known-frame
+    array-share-prefix-windows
+    slice-aggregate-verdict
+    array-share-prefix-tasks
+    slice-aggregate-verdict-2
+    verdict-requires
     returns
     returns-2)

@@ -50,7 +50,10 @@ shared-slice-read-byte : tie.Need-shared-slice-read-byte Inv-loop μ-loop
 shared-slice-read-byte c = search needs
 
 cast-byte : tie.Need-cast-byte Inv-loop μ-loop
-cast-byte c = let byte = c .shared-slice-known2 .given (c .before .before .before .before .before .before .args .at + c .before .before .before .loop .size) in omega arith
+cast-byte c =
+    let a = c .before .before .before .before .before .before .args in
+    let byte = c .shared-slice-known2 .given (a .at + c .before .before .before .loop .size) in
+    omega arith
 
 add-size : tie.Need-add-size Inv-loop μ-loop
 add-size c = search needs
@@ -58,13 +61,15 @@ add-size c = search needs
 mul-formed : tie.Need-mul-formed Inv-loop μ-loop
 mul-formed c =
     let l = c .before .before .before .before .loop in
-    let b = getD (c .before .before .before .before .before .before .before .args .bytes .now) (c .before .before .before .before .before .before .before .args .at + l .size) 0 in
+    let a = c .before .before .before .before .before .before .before .args in
+    let b = getD (a .bytes .now) (a .at + l .size) 0 in
     omega (arith, grown (l .value) (l .weight) (l .size) b (search needs) (l .inv .2) (l .inv .3) (omega (arith, c .if3 .taken)))
 
 add-formed : tie.Need-add-formed Inv-loop μ-loop
 add-formed c =
     let l = c .before .before .before .before .loop in
-    let b = getD (c .before .before .before .before .before .before .before .args .bytes .now) (c .before .before .before .before .before .before .before .args .at + l .size) 0 in
+    let a = c .before .before .before .before .before .before .before .args in
+    let b = getD (a .bytes .now) (a .at + l .size) 0 in
     omega (arith, grown (l .value) (l .weight) (l .size) b (search needs) (l .inv .2) (l .inv .3) (omega (arith, c .if3 .taken)))
 
 formed-requires : tie.Need-formed-requires Inv-loop μ-loop

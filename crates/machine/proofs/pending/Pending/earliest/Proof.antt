@@ -5,6 +5,7 @@ use lib.Bits.{xor-lt, and-le-l}
 use lib.Count.{trailingZeros}
 use Rattle.scope.specs.Limits.{mostTasks}
 use Rattle.machine.specs.Bits.{members, removed}
+use Rattle.machine.specs.Places.{dueAt}
 use Rattle.machine.proofs.Digits.{one-shl}
 use Rattle.machine.proofs.Sets.{Lowest, trailing-lowest}
 use Rattle.machine.proofs.Walk.{Seen, seen-none, seen-all, seen-more, seen-fewer}
@@ -15,10 +16,10 @@ use Rattle.machine.proofs.pending.Pending.earliest.Lts as lts
 use Rattle.machine.proofs.pending.better.Reads as better-reads
 
 abbrev Inv-loop : tie.InvT-loop
-Inv-loop due rest₀ best₀ rest best = (rest < 2 ^ 32) × Seen rest₀ due rest best
+Inv-loop places rest₀ best₀ rest best = (rest < 2 ^ 32) × Seen rest₀ (dueAt places) rest best
 
 abbrev μ-loop : tie.MeasureT-loop
-μ-loop due rest₀ best₀ rest best = members rest
+μ-loop places rest₀ best₀ rest best = members rest
 
 loop-holds : tie.Need-loop-holds Inv-loop μ-loop
 loop-holds c = (omega arith, seen-none _ _)

@@ -1,0 +1,3 @@
+pub mod Told
+pub mod Legal
+pub mod Determined

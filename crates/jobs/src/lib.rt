@@ -1,0 +1,3 @@
+// What a job list is, and its checks.
+pub mod check;
+pub mod job;

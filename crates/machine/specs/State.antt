@@ -1,0 +1,104 @@
+-- The code's state, in its own terms: what each part of a tick does
+use mathlib.Core.Bool.{Bool, cond}
+use mathlib.Core.List.{List}
+use Prim.Native.Nat.{ℕ, zero, suc, _+_, _-_, min, max}
+use lib.Dec.{eqb, ltb}
+use lib.ListN.{length}
+use Rattle.scope.specs.Limits.{mostTasks, mostNumber}
+use Rattle.scope.specs.Tasks.{Task, taskAt}
+use Rattle.scope.specs.Jobs.{Job, jobAt, releaseOf}
+use Rattle.machine.specs.Bits.{mem, added, removed, members, noTask, pickTo}
+use Rattle.machine.specs.Places.{noJob, dueAt, putAt, servedAt, endedAt, soonestOf, lateTo}
+use Rattle.machine.specs.declared.state.RunState.{RunState}
+
+-- the state with the places of the tasks
+pub record Whole : Type 0 where
+  pub state : RunState
+  pub places : List ℕ
+
+abbrev pub whole : RunState → List ℕ → Whole
+whole s p = record { state = s; places = p }
+
+-- before the first of n ticks
+abbrev pub begun : ℕ → RunState
+begun n = record { instant = 0; end = n; next = 0; pending = 0; backlog = 0; soon = mostNumber; done = noJob }
+
+-- the next job is released: it is of task i, and due at d
+abbrev pub admittedOf : ℕ → ℕ → RunState → RunState
+admittedOf i d s = record {
+  instant = s .instant;
+  end = s .end;
+  next = s .next + 1;
+  pending = added (s .pending) i;
+  backlog = s .backlog;
+  soon = min (s .soon) d;
+  done = s .done;
+}
+
+-- it takes its place
+abbrev pub nextOf : List Task → Job → Whole → Whole
+nextOf ts x w =
+    let d = x .release + (taskAt ts (x .task)) .D in
+    whole (admittedOf (x .task) d (w .state)) (putAt (w .places) (x .task) (x .work) d (w .state .next))
+
+-- the jobs that are released at the instant take their places, at most f of them
+unfoldable pub feed : List Task → List Job → ℕ → Whole → Whole
+feed ts js zero w = w
+feed ts js (suc f) w =
+    let more = feed ts js f (nextOf ts (jobAt js (w .state .next)) w) in
+    cond (eqb (releaseOf js (w .state .next)) (w .state .instant)) more w
+
+unfoldable pub releaseAt : List Task → List Job → Whole → Whole
+releaseAt ts js w = feed ts js (length js - w .state .next) w
+
+-- the backlog is counted
+abbrev pub countedOf : RunState → RunState
+countedOf s = record {
+  instant = s .instant;
+  end = s .end;
+  next = s .next;
+  pending = s .pending;
+  backlog = max (s .backlog) (members (s .pending));
+  soon = s .soon;
+  done = s .done;
+}
+
+-- the task that a tick goes to: the pending one with the earliest deadline, ties to the lower, if the tick is supplied; or none
+unfoldable pub goesToOf : Bool → ℕ → List ℕ → ℕ
+goesToOf on pending places = cond on (pickTo (mem pending) (dueAt places) mostTasks) noTask
+
+-- the tick is done; it went to task i, whose job `done` ended, if it is a job
+abbrev pub workedOf : ℕ → ℕ → RunState → RunState
+workedOf i done s = record {
+  instant = s .instant + 1;
+  end = s .end;
+  next = s .next;
+  pending = cond (ltb done noJob) (removed (s .pending) i) (s .pending);
+  backlog = s .backlog;
+  soon = s .soon;
+  done = done;
+}
+
+-- a late job ends the run; none is late before `soon`
+unfoldable pub testedOf : List ℕ → RunState → RunState
+testedOf places s = cond (ltb (s .instant) (s .soon)) s (record {
+  instant = s .instant;
+  end = cond (ltb (lateTo (s .pending) places (s .instant) mostTasks) noJob) (s .instant) (s .end);
+  next = s .next;
+  pending = s .pending;
+  backlog = s .backlog;
+  soon = soonestOf (s .pending) places;
+  done = s .done;
+})
+
+-- the end of a tick that goes to task i, once the jobs are released
+abbrev pub finishOf : ℕ → Whole → Whole
+finishOf i w =
+    let places = servedAt i (w .places) in
+    whole (testedOf places (workedOf i (endedAt i (w .places)) (countedOf (w .state)))) places
+
+-- the whole tick
+unfoldable pub tickOf : (ℕ → Bool) → List Task → List Job → Whole → Whole
+tickOf σ ts js w =
+    let fed = releaseAt ts js w in
+    finishOf (goesToOf (σ (w .state .instant)) (fed .state .pending) (fed .places)) fed
