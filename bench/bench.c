@@ -70,9 +70,9 @@ typedef struct palikudyom_answer ask(const struct input *x, uint32_t *buffer);
 SIDE(palikudyom)
 SIDE(plain)
 
-static struct palikudyom_answer plain_asked_for_run_checked_once(const struct input *x, uint32_t *buffer)
+static struct palikudyom_answer plain_asked_for_run_every_tick(const struct input *x, uint32_t *buffer)
 {
-    return plain_run_checked_once(x->frame, x->windows, x->windows_len, x->tasks, x->tasks_len, x->asked, x->jobs, x->jobs_len, buffer, ROOM);
+    return plain_run_every_tick(x->frame, x->windows, x->windows_len, x->tasks, x->tasks_len, x->asked, x->jobs, x->jobs_len, buffer, ROOM);
 }
 
 struct entry {
@@ -87,7 +87,7 @@ static const struct entry DELAY = {"delay", palikudyom_asked_for_delay, plain_as
 static const struct entry VERDICT = {"verdict", palikudyom_asked_for_verdict, plain_asked_for_verdict};
 static const struct entry BOUND = {"bound", palikudyom_asked_for_bound, plain_asked_for_bound};
 static const struct entry RUN = {"run", palikudyom_asked_for_run, plain_asked_for_run};
-static const struct entry RUN_CHECKED_ONCE = {"run", palikudyom_asked_for_run, plain_asked_for_run_checked_once};
+static const struct entry RUN_EVERY_TICK = {"run", palikudyom_asked_for_run, plain_asked_for_run_every_tick};
 
 /* Comparing */
 
@@ -487,9 +487,9 @@ static const struct one_case CASES[] = {
 };
 
 static const struct one_case CHECKED_ONCE[] = {
-    {&RUN_CHECKED_ONCE, "small", PALIKUDYOM_MET, small_run},
-    {&RUN_CHECKED_ONCE, "typical", PALIKUDYOM_MET, typical_run},
-    {&RUN_CHECKED_ONCE, "worst", PALIKUDYOM_MET, worst_run},
+    {&RUN_EVERY_TICK, "small", PALIKUDYOM_MET, small_run},
+    {&RUN_EVERY_TICK, "typical", PALIKUDYOM_MET, typical_run},
+    {&RUN_EVERY_TICK, "worst", PALIKUDYOM_MET, worst_run},
 };
 
 struct growth {
@@ -588,7 +588,7 @@ int main(void)
     printf("| entry | input | proved | plain C | ratio |\n|---|---|---:|---:|---:|\n");
     for (size_t i = 0; i < LENGTH(CASES); i++)
         print_case(&CASES[i]);
-    printf("\nThe run's inputs again, beside plain C that checks the table once and not again at each tick:\n\n");
+    printf("\nThe run's inputs again, beside plain C that looks for a late job in all 32 places at every tick:\n\n");
     printf("| entry | input | proved | plain C | ratio |\n|---|---|---:|---:|---:|\n");
     for (size_t i = 0; i < LENGTH(CHECKED_ONCE); i++)
         print_case(&CHECKED_ONCE[i]);

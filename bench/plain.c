@@ -1,10 +1,12 @@
 /*
  * The yardstick: the proved code's algorithms once more, in plain C. Function by function the loops, checks and scans of crates/tables, supply,
- * checker and machine, no cleverer and no slower, so that a ratio tells what the proof costs and not what an algorithm costs. Where the proved code
- * hands a run's state on by value, C changes the one state in place, as a C programmer would.
+ * checker, jobs and machine, no cleverer and no slower, so that a ratio tells what the proof costs and not what an algorithm costs.
  */
 #include "plain.h"
 #include <stdbool.h>
+
+/* later than every deadline */
+#define NEVER UINT32_C(4294967295)
 
 enum {
     LONGEST_FRAME = 65536,
@@ -520,12 +522,13 @@ static struct checked check_run(uint32_t frame, struct list windows, struct list
     return room < needed ? bad(8, needed) : FINE;
 }
 
-/* The tick machine: pending.rt, state.rt, late.rt, run.rt */
+/* The tick machine: pending.rt, places.rt, state.rt, late.rt, tick.rt, run.rt */
 
 struct run_state {
     uint32_t pending;
     size_t next;
     uint32_t backlog;
+    uint32_t soon;
     uint32_t done;
     uint32_t left[MOST_TASKS];
     uint32_t due[MOST_TASKS];
@@ -539,6 +542,8 @@ static void put(struct run_state *s, uint32_t task, uint32_t work, uint32_t due,
     s->left[task] = work;
     s->due[task] = due;
     s->job[task] = job;
+    if (due < s->soon)
+        s->soon = due;
 }
 
 static void release(struct list tasks, struct list jobs, uint32_t k, struct run_state *s)
@@ -618,35 +623,36 @@ static void note(struct list jobs, uint32_t k, uint32_t job, uint32_t *counts)
     counts[job] = k - release_of(jobs, job);
 }
 
-/* the proved machine asks the public entry `supplied`, which checks the table first */
-static bool supplied(uint32_t frame, struct list windows, uint32_t k)
+/* no pending job is due before `soon` */
+static uint32_t soonest(const struct run_state *s)
 {
-    if (is_bad(check_table(frame, windows)))
-        return false;
-    return is_supplied(frame, windows, k);
+    uint32_t task = earliest(s);
+    return task < NO_TASK ? s->due[task] : NEVER;
 }
 
-typedef bool asks(uint32_t frame, struct list windows, uint32_t k);
-
-/* always inlined, so that asking for a tick through `is_on` costs no call */
-__attribute__((always_inline)) static inline struct palikudyom_answer run_legal(asks *is_on, uint32_t frame, struct list windows, struct list tasks,
+/* always inlined, so that what `every_tick` asks for costs no test: whether the late jobs are looked for at every tick, and not only from `soon` on */
+__attribute__((always_inline)) static inline struct palikudyom_answer run_legal(bool every_tick, uint32_t frame, struct list windows, struct list tasks,
                                                                                uint32_t ticks, struct list jobs, uint32_t *counts)
 {
     size_t count = jobs.len / 3;
     for (size_t i = 0; i < count; i++)
         counts[i] = 0;
-    struct run_state s = {.done = NO_JOB};
+    struct run_state s = {.soon = NEVER, .done = NO_JOB};
     uint32_t k = 0;
     while (k < ticks) {
-        bool on = is_on(frame, windows, k);
+        bool on = is_supplied(frame, windows, k);
         release(tasks, jobs, k, &s);
         count_backlog(&s);
         step(&s, on ? earliest(&s) : NO_TASK);
         k++;
         note(jobs, k, s.done, counts);
+        if (!every_tick && k < s.soon)
+            continue;
         uint32_t job = late(&s, k);
         if (job < NO_JOB)
             return (struct palikudyom_answer){PALIKUDYOM_MISSED, k, job, s.backlog, 0};
+        if (!every_tick)
+            s.soon = soonest(&s);
     }
     return one(PALIKUDYOM_MET, s.backlog);
 }
@@ -658,15 +664,15 @@ struct palikudyom_answer plain_run(uint32_t frame, const uint32_t *at, size_t le
     struct list tasks = {tasks_at, tasks_len};
     struct list jobs = {jobs_at, jobs_len};
     struct checked c = check_run(frame, windows, tasks, ticks, jobs, counts_len);
-    return is_bad(c) ? refused(c) : run_legal(supplied, frame, windows, tasks, ticks, jobs, counts);
+    return is_bad(c) ? refused(c) : run_legal(false, frame, windows, tasks, ticks, jobs, counts);
 }
 
-struct palikudyom_answer plain_run_checked_once(uint32_t frame, const uint32_t *at, size_t len, const uint32_t *tasks_at, size_t tasks_len,
-                                                uint32_t ticks, const uint32_t *jobs_at, size_t jobs_len, uint32_t *counts, size_t counts_len)
+struct palikudyom_answer plain_run_every_tick(uint32_t frame, const uint32_t *at, size_t len, const uint32_t *tasks_at, size_t tasks_len,
+                                              uint32_t ticks, const uint32_t *jobs_at, size_t jobs_len, uint32_t *counts, size_t counts_len)
 {
     struct list windows = {at, len};
     struct list tasks = {tasks_at, tasks_len};
     struct list jobs = {jobs_at, jobs_len};
     struct checked c = check_run(frame, windows, tasks, ticks, jobs, counts_len);
-    return is_bad(c) ? refused(c) : run_legal(is_supplied, frame, windows, tasks, ticks, jobs, counts);
+    return is_bad(c) ? refused(c) : run_legal(true, frame, windows, tasks, ticks, jobs, counts);
 }
