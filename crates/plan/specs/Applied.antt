@@ -4,16 +4,17 @@ use mathlib.Core.List.{List, [], _∷_}
 use Prim.Native.Nat.{ℕ, _≤_}
 use native.Mathlib.Omega.{arith}
 use lib.ListN.{getD}
-use Rattle.scope.specs.Numbers.{piecesFrom, pieces, badCount, all, firstBy}
+use Rattle.scope.specs.Numbers.{piecesFrom, pieces}
 use Rattle.scope.specs.Ticks.{leastSupply}
 use Rattle.scope.specs.Windows.{suppliedBy}
 use Rattle.scope.specs.Tasks.{tasksOf, demand}
 use Rattle.scope.specs.Verdict as Verdicts
-use Rattle.scope.specs.Jobs.{jobsOf, jobLegal, badJob}
+use Rattle.scope.specs.Jobs.{jobsOf}
 use Rattle.scope.specs.Answers.{Answer.given, Fault.fine, _orElse_, jobListFault, jobFault, roomFault, runAnswer, runOut}
-use Rattle.scope.specs.Plan.{Plan, groups, wellFormed, readNumber, readNumbers, restFault, countedFrom, listsFrom, planFrom, planOf, planAnswer}
+use Rattle.scope.specs.Plan.{Plan, planOf, planAnswer}
 use Rattle.scope.specs.Demands.{LeastMiss, Way, Served}
 use Rattle.scope.specs.Examples.{X, on}
+use Rattle.scope.specs.Computing.{everything}
 use Rattle.theory.specs.Applied.{w6, w7, w13, w6-misses, w7-meets, w6-plan, w6-file, w6-reads}
 use Rattle.tables.specs.declared.answer.Verdict.{Verdict}
 use Rattle.tables.specs.declared.answer.Verdict.the-variants.{Meets, Miss}
@@ -31,11 +32,11 @@ abbrev w7-file : List ℕ
 w7-file = 8 ∷ 2 ∷ 0 ∷ 2 ∷ 5 ∷ 7 ∷ 2 ∷ 1 ∷ 4 ∷ 4 ∷ 2 ∷ 8 ∷ 7 ∷ []
 
 w7-read : planOf w7-file ≡ given w7-plan
-unfolding groups wellFormed readNumber readNumbers restFault countedFrom listsFrom planFrom planOf
+unfolding everything
 w7-read = refl
 
 w13-legal : (jobListFault 10 w13 orElse jobFault (tasksOf w7) 10 (jobsOf w13) orElse roomFault 2 3) ≡ fine
-unfolding piecesFrom pieces badCount all firstBy jobLegal badJob jobListFault jobFault roomFault
+unfolding everything
 w13-legal = refl
 
 module _ (v : Verdict) (promised : toldVerdict v ≡ planAnswer w7-file) where

@@ -1,23 +1,22 @@
 -- Document 01, "Marked examples": W1 to W13, and after them what it says of limits, refusals and errors; one table under one statement, by computation.
-use Prim.Native.Nat.{ℕ, zero, suc}
+use Prim.Native.Nat.{ℕ}
+use Prim.Native.Char.{code}
+use Prim.Native.String.{String, [] as ε, _∷_ as _◂_}
 use mathlib.Core.Path.{_≡_, refl}
+use mathlib.Core.Bool.{Bool, true, false, _&&_}
 use mathlib.Core.List.{List, [], _∷_, map}
+use lib.Dec.{eqb}
 use lib.IntN.{ℤ, ℤ.negsuc}
 use lib.ListN.{length, replicate}
-use Rattle.scope.specs.Numbers.{sum, least, greatest, all, firstBy, listed, keep, piecesFrom, pieces, badCount, written}
-use Rattle.scope.specs.Ticks.{supply, leastSupply, leastStart}
-use Rattle.scope.specs.Windows.{Board, Window, window, gives, covers, supplied, windowLegal, badWindow}
-use Rattle.scope.specs.Partition.{rises, within, edge, maximalRuns, critical, lag, delay, outageBefore, outage}
-use Rattle.scope.specs.Tasks.{Task, task, tasksOf, taskLegal, badTask, taskDemand, demand, margin}
-use Rattle.scope.specs.Cycle.{gcdWithin, gcd, lcm, cycle}
-use Rattle.scope.specs.Verdict.{Verdict, Verdict.meets, Verdict.miss, violates, verdict}
-use Rattle.scope.specs.Bound.{Bound, Bound.bound, asked, suffices, response}
-use Rattle.scope.specs.Jobs.{jobLegal, badJob}
-use Rattle.scope.specs.Machine.{pending, tick, workLeft}
-use Rattle.scope.specs.Run.{Outcome.met, Outcome.missed, Ran, late, outcome, backlogIn, backlog, countOf, ran, counts}
-use Rattle.scope.specs.Answers.{Fault, Fault.fine, Fault.fault, Answer, Answer.given, Answer.refused, Delay, boardAnswer, windowAnswer, taskAnswer, lengthAnswer, runTicksAnswer, windowListFault, frameFault, windowFault, taskListFault, taskFault, cycleFault, lengthFault, absentFault, roomFault, jobListFault, jobFault, tableFault, groupFault, leastSupplyAnswer, criticalFault, criticalAnswer, criticalOut, delayAnswer, outageAnswer, demandAnswer, marginAnswer, verdictAnswer, boundAnswer, runFault, runAnswer, runOut}
-use Rattle.scope.specs.Plan.{groups, wellFormed, readNumber, readNumbers, restFault, countedFrom, listsFrom, planFrom, planOf, planAnswer, Plan, numberBytesWithin, numberBytes, numbersBytes, planBytes, writeFault, writeAnswer, writeOut}
-use Rattle.scope.specs.Line.{bytes, decimalWithin, decimal, line, lineAnswer, lineOut}
+use Rattle.scope.specs.Windows.{Board, Window, window}
+use Rattle.scope.specs.Tasks.{Task, task, tasksOf}
+use Rattle.scope.specs.Verdict.{Verdict, Verdict.meets, Verdict.miss}
+use Rattle.scope.specs.Bound.{Bound, Bound.bound}
+use Rattle.scope.specs.Run.{Outcome.met, Outcome.missed, Ran}
+use Rattle.scope.specs.Answers.{Fault, Fault.fine, Fault.fault, Answer, Answer.given, Answer.refused, Delay, boardAnswer, windowAnswer, taskAnswer, lengthAnswer, runTicksAnswer, windowListFault, taskListFault, cycleFault, jobListFault, leastSupplyAnswer, criticalAnswer, criticalOut, delayAnswer, outageAnswer, demandAnswer, marginAnswer, verdictAnswer, boundAnswer, runAnswer, runOut}
+use Rattle.scope.specs.Plan.{planAnswer, Plan, writeAnswer, writeOut}
+use Rattle.scope.specs.Line.{bytes, line, lineAnswer, lineOut}
+use Rattle.scope.specs.Computing.{everything}
 
 -- ---- what is asked of an entry, and what it answers; of a lent buffer, what it holds before and after
 
@@ -86,12 +85,13 @@ reply (cycleOf P ts) = faults (cycleFault (on P) (tasksOf ts) ∷ [])
 -- ---- the table
 
 pub record Example : Type 0 where
+  pub name : String
   pub question : Question
   pub expected : Reply
 
-infix 4 _gives_
-abbrev _gives_ : Question → Reply → Example
-q gives r = record { question = q; expected = r }
+infix 4 _asks_gives_
+abbrev _asks_gives_ : String → Question → Reply → Example
+n asks q gives r = record { name = n; question = q; expected = r }
 
 -- the windows of X, whose frame is 8
 abbrev pub X : List ℕ
@@ -99,108 +99,102 @@ X = 0 ∷ 2 ∷ 5 ∷ 7 ∷ []
 
 unfoldable pub table : List Example
 table =
-    -- W1
-    (leastSupplies 8 X (0 ∷ 1 ∷ 2 ∷ 3 ∷ 4 ∷ 5 ∷ 6 ∷ 7 ∷ 8 ∷ [])
+    ("W1" asks leastSupplies 8 X (0 ∷ 1 ∷ 2 ∷ 3 ∷ 4 ∷ 5 ∷ 6 ∷ 7 ∷ 8 ∷ [])
     gives amounts (map given (0 ∷ 0 ∷ 0 ∷ 0 ∷ 1 ∷ 2 ∷ 2 ∷ 3 ∷ 4 ∷ [])))
     -- W2: (3,5), (6,8); the rest of the buffer stays
-    ∷ (criticalWindows 8 X (9 ∷ 9 ∷ 9 ∷ 9 ∷ 9 ∷ []) gives windows (given 2) (3 ∷ 5 ∷ 6 ∷ 8 ∷ 9 ∷ []))
-    -- W3
-    ∷ (delayOf 8 X gives aDelay (given (record { delay = 12; A = 4 })))
-    -- W4
-    ∷ (verdictOf 8 X (1 ∷ 4 ∷ 4 ∷ []) gives aVerdict (given (meets 8)))
-    -- W5
-    ∷ (verdictOf 8 X (1 ∷ 4 ∷ 3 ∷ []) gives aVerdict (given (miss 3 2 1 0)))
+    ∷ ("W2" asks criticalWindows 8 X (9 ∷ 9 ∷ 9 ∷ 9 ∷ 9 ∷ []) gives windows (given 2) (3 ∷ 5 ∷ 6 ∷ 8 ∷ 9 ∷ []))
+    ∷ ("W3" asks delayOf 8 X gives aDelay (given (record { delay = 12; A = 4 })))
+    ∷ ("W4" asks verdictOf 8 X (1 ∷ 4 ∷ 4 ∷ []) gives aVerdict (given (meets 8)))
+    ∷ ("W5" asks verdictOf 8 X (1 ∷ 4 ∷ 3 ∷ []) gives aVerdict (given (miss 3 2 1 0)))
     -- W6, as an answer, as the printed line of the plan file, and with its margin; negsuc 0 is −1
-    ∷ (verdictOf 8 X (1 ∷ 4 ∷ 4 ∷ 2 ∷ 8 ∷ 6 ∷ []) gives aVerdict (given (miss 6 2 3 2)))
-    ∷ (lineOf (8 ∷ 2 ∷ 0 ∷ 2 ∷ 5 ∷ 7 ∷ 2 ∷ 1 ∷ 4 ∷ 4 ∷ 2 ∷ 8 ∷ 6 ∷ [])
+    ∷ ("W6" asks verdictOf 8 X (1 ∷ 4 ∷ 4 ∷ 2 ∷ 8 ∷ 6 ∷ []) gives aVerdict (given (miss 6 2 3 2)))
+    ∷ ("W6, its line" asks lineOf (8 ∷ 2 ∷ 0 ∷ 2 ∷ 5 ∷ 7 ∷ 2 ∷ 1 ∷ 4 ∷ 4 ∷ 2 ∷ 8 ∷ 6 ∷ [])
     gives text (bytes "MISS length 6 start 2 demand 3 supply 2\n"))
-    ∷ (marginOf 8 X (1 ∷ 4 ∷ 4 ∷ 2 ∷ 8 ∷ 6 ∷ []) 6 gives aMargin (given (negsuc 0)))
-    -- W7
-    ∷ (verdictOf 8 X (1 ∷ 4 ∷ 4 ∷ 2 ∷ 8 ∷ 7 ∷ []) gives aVerdict (given (meets 8)))
-    -- W8
-    ∷ (verdictOf 8 X (5 ∷ 8 ∷ 8 ∷ []) gives aVerdict (given (miss 8 0 5 4)))
-    -- W9
-    ∷ (verdictOf 8 X (13 ∷ 24 ∷ 24 ∷ []) gives aVerdict (given (miss 24 0 13 12)))
-    -- W10
-    ∷ (verdictOf 8 X [] gives aVerdict (given (meets 8)))
-    -- W11
-    ∷ (boundsOf 8 X (1 ∷ 4 ∷ 4 ∷ 1 ∷ 8 ∷ 8 ∷ []) (0 ∷ 1 ∷ []) gives bounds (map (λ t. given (bound t)) (4 ∷ 7 ∷ [])))
-    -- W12
-    ∷ (boundsOf 1 (0 ∷ 1 ∷ []) (1 ∷ 10 ∷ 10 ∷ 1 ∷ 5 ∷ 5 ∷ 1 ∷ 15 ∷ 15 ∷ 2 ∷ 10 ∷ 10 ∷ 2 ∷ 30 ∷ 30 ∷ []) (0 ∷ 1 ∷ 2 ∷ 3 ∷ 4 ∷ [])
+    ∷ ("W6, its margin" asks marginOf 8 X (1 ∷ 4 ∷ 4 ∷ 2 ∷ 8 ∷ 6 ∷ []) 6 gives aMargin (given (negsuc 0)))
+    ∷ ("W7" asks verdictOf 8 X (1 ∷ 4 ∷ 4 ∷ 2 ∷ 8 ∷ 7 ∷ []) gives aVerdict (given (meets 8)))
+    ∷ ("W8" asks verdictOf 8 X (5 ∷ 8 ∷ 8 ∷ []) gives aVerdict (given (miss 8 0 5 4)))
+    ∷ ("W9" asks verdictOf 8 X (13 ∷ 24 ∷ 24 ∷ []) gives aVerdict (given (miss 24 0 13 12)))
+    ∷ ("W10" asks verdictOf 8 X [] gives aVerdict (given (meets 8)))
+    ∷ ("W11" asks boundsOf 8 X (1 ∷ 4 ∷ 4 ∷ 1 ∷ 8 ∷ 8 ∷ []) (0 ∷ 1 ∷ []) gives bounds (map (λ t. given (bound t)) (4 ∷ 7 ∷ [])))
+    ∷ ("W12" asks boundsOf 1 (0 ∷ 1 ∷ []) (1 ∷ 10 ∷ 10 ∷ 1 ∷ 5 ∷ 5 ∷ 1 ∷ 15 ∷ 15 ∷ 2 ∷ 10 ∷ 10 ∷ 2 ∷ 30 ∷ 30 ∷ []) (0 ∷ 1 ∷ 2 ∷ 3 ∷ 4 ∷ [])
     gives bounds (map (λ t. given (bound t)) (1 ∷ 2 ∷ 3 ∷ 5 ∷ 8 ∷ [])))
     -- W13: W7's tasks, both released in full at tick 2
-    ∷ (runOf 8 X (1 ∷ 4 ∷ 4 ∷ 2 ∷ 8 ∷ 7 ∷ []) 10 (2 ∷ 0 ∷ 1 ∷ 2 ∷ 1 ∷ 2 ∷ []) (9 ∷ 9 ∷ 9 ∷ [])
+    ∷ ("W13" asks runOf 8 X (1 ∷ 4 ∷ 4 ∷ 2 ∷ 8 ∷ 7 ∷ []) 10 (2 ∷ 0 ∷ 1 ∷ 2 ∷ 1 ∷ 2 ∷ []) (9 ∷ 9 ∷ 9 ∷ [])
     gives aRun (given (record { outcome = met; backlog = 2 })) (4 ∷ 7 ∷ 9 ∷ []))
     -- the longest outage: between windows, at both ends of a frame but not over its end, and none
-    ∷ (outageOf 8 X gives amounts (given 3 ∷ []))
-    ∷ (outageOf 8 (3 ∷ 5 ∷ []) gives amounts (given 3 ∷ []))
-    ∷ (outageOf 8 (0 ∷ 2 ∷ []) gives amounts (given 6 ∷ []))
-    ∷ (outageOf 8 (0 ∷ 8 ∷ []) gives amounts (given 0 ∷ []))
+    ∷ ("outage of X" asks outageOf 8 X gives amounts (given 3 ∷ []))
+    ∷ ("outage at both ends" asks outageOf 8 (3 ∷ 5 ∷ []) gives amounts (given 3 ∷ []))
+    ∷ ("outage after the windows" asks outageOf 8 (0 ∷ 2 ∷ []) gives amounts (given 6 ∷ []))
+    ∷ ("no outage" asks outageOf 8 (0 ∷ 8 ∷ []) gives amounts (given 0 ∷ []))
     -- of the four errors, W5 and W9 show two: here supply counted from tick 0 passes the first, and starts at window ends miss the second's least start
-    ∷ (verdictOf 8 X (2 ∷ 8 ∷ 3 ∷ []) gives aVerdict (given (miss 3 2 2 0)))
-    ∷ (verdictOf 8 X (2 ∷ 4 ∷ 4 ∷ []) gives aVerdict (given (miss 4 1 2 1)))
+    ∷ ("supply from tick 0" asks verdictOf 8 X (2 ∷ 8 ∷ 3 ∷ []) gives aVerdict (given (miss 3 2 2 0)))
+    ∷ ("starts at window ends" asks verdictOf 8 X (2 ∷ 4 ∷ 4 ∷ []) gives aVerdict (given (miss 4 1 2 1)))
     -- a bound counts jobs by the period, not by the deadline
-    ∷ (boundsOf 1 (0 ∷ 1 ∷ []) (1 ∷ 4 ∷ 1 ∷ 2 ∷ 8 ∷ 8 ∷ []) (1 ∷ []) gives bounds (given (bound 3) ∷ []))
+    ∷ ("bound by the period" asks boundsOf 1 (0 ∷ 1 ∷ []) (1 ∷ 4 ∷ 1 ∷ 2 ∷ 8 ∷ 8 ∷ []) (1 ∷ []) gives bounds (given (bound 3) ∷ []))
     -- ties go to the lower task of a group that meets, a missed run names instant and lowest job, and what is unfinished has count 0
-    ∷ (verdictOf 8 X (1 ∷ 8 ∷ 6 ∷ 1 ∷ 8 ∷ 6 ∷ []) gives aVerdict (given (meets 8)))
-    ∷ (runOf 8 X (1 ∷ 8 ∷ 6 ∷ 1 ∷ 8 ∷ 6 ∷ []) 10 (1 ∷ 0 ∷ 1 ∷ 1 ∷ 1 ∷ 1 ∷ []) (9 ∷ 9 ∷ [])
+    ∷ ("a tie" asks verdictOf 8 X (1 ∷ 8 ∷ 6 ∷ 1 ∷ 8 ∷ 6 ∷ []) gives aVerdict (given (meets 8)))
+    ∷ ("a tie, run" asks runOf 8 X (1 ∷ 8 ∷ 6 ∷ 1 ∷ 8 ∷ 6 ∷ []) 10 (1 ∷ 0 ∷ 1 ∷ 1 ∷ 1 ∷ 1 ∷ []) (9 ∷ 9 ∷ [])
     gives aRun (given (record { outcome = met; backlog = 2 })) (1 ∷ 5 ∷ []))
-    ∷ (runOf 8 X (1 ∷ 4 ∷ 4 ∷ 2 ∷ 8 ∷ 6 ∷ []) 10 (2 ∷ 0 ∷ 1 ∷ 2 ∷ 1 ∷ 2 ∷ []) (9 ∷ 9 ∷ [])
+    ∷ ("a run that misses" asks runOf 8 X (1 ∷ 4 ∷ 4 ∷ 2 ∷ 8 ∷ 6 ∷ []) 10 (2 ∷ 0 ∷ 1 ∷ 2 ∷ 1 ∷ 2 ∷ []) (9 ∷ 9 ∷ [])
     gives aRun (given (record { outcome = missed 8 1; backlog = 2 })) (4 ∷ 0 ∷ []))
-    ∷ (runOf 8 X (1 ∷ 4 ∷ 4 ∷ 2 ∷ 8 ∷ 7 ∷ []) 3 (2 ∷ 0 ∷ 1 ∷ 2 ∷ 1 ∷ 2 ∷ []) (9 ∷ 9 ∷ [])
+    ∷ ("a run that ends early" asks runOf 8 X (1 ∷ 4 ∷ 4 ∷ 2 ∷ 8 ∷ 7 ∷ []) 3 (2 ∷ 0 ∷ 1 ∷ 2 ∷ 1 ∷ 2 ∷ []) (9 ∷ 9 ∷ [])
     gives aRun (given (record { outcome = met; backlog = 2 })) (0 ∷ 0 ∷ []))
     -- at the limits: each limit, and one more
-    ∷ (verdictOf 8 (0 ∷ 2 ∷ 2 ∷ 4 ∷ []) [] gives aVerdict (refused 3 1))
-    ∷ (frames (0 ∷ 1 ∷ 65536 ∷ 65537 ∷ []) gives boards (refused 2 0 ∷ given (on 1) ∷ given (on 65536) ∷ refused 2 0 ∷ []))
-    ∷ (windowAlone 8 7 8 gives aWindow (given (window 7 8)))
-    ∷ (windowAlone 8 7 9 gives aWindow (refused 3 0))
-    ∷ (windowAlone 8 2 2 gives aWindow (refused 3 0))
-    ∷ (taskAlone 1000000 1000000 1000000 gives aTask (given (task 1000000 1000000 1000000)))
-    ∷ (taskAlone 1000001 8 8 gives aTask (refused 5 0))
-    ∷ (taskAlone 1 1000001 1 gives aTask (refused 5 0))
-    ∷ (taskAlone 0 4 4 gives aTask (refused 5 0))
-    ∷ (taskAlone 1 4 5 gives aTask (refused 5 0))
-    ∷ (askedLengths (0 ∷ 1000000 ∷ 1000001 ∷ []) gives amounts (given 0 ∷ given 1000000 ∷ refused 7 0 ∷ []))
-    ∷ (runTicks (0 ∷ 1100000 ∷ 1100001 ∷ []) gives amounts (given 0 ∷ given 1100000 ∷ refused 10 0 ∷ []))
-    ∷ (listsOf 128 96 12288 gives faults (fine ∷ fine ∷ fine ∷ []))
-    ∷ (listsOf 130 99 12291 gives faults (fault 1 0 ∷ fault 4 0 ∷ fault 10 0 ∷ []))
-    ∷ (listsOf 0 0 0 gives faults (fault 1 0 ∷ fine ∷ fine ∷ []))
-    ∷ (listsOf 3 4 5 gives faults (fault 1 0 ∷ fault 4 0 ∷ fault 10 0 ∷ []))
-    ∷ (cycleOf 8 (1 ∷ 1000000 ∷ 1000000 ∷ []) gives faults (fine ∷ []))
-    ∷ (verdictOf 8 X (1 ∷ 999999 ∷ 999999 ∷ []) gives aVerdict (refused 6 0))
-    ∷ (cycleOf 1 (1 ∷ 1001 ∷ 1 ∷ 1 ∷ 999 ∷ 1 ∷ []) gives faults (fine ∷ []))
-    ∷ (cycleOf 101 (1 ∷ 9901 ∷ 1 ∷ []) gives faults (fault 6 0 ∷ []))
-    ∷ (demandsOf (1 ∷ 4 ∷ 3 ∷ []) (2 ∷ 3 ∷ 1000000 ∷ 1000001 ∷ []) gives amounts (given 0 ∷ given 1 ∷ given 250000 ∷ refused 7 0 ∷ []))
+    ∷ ("touching windows" asks verdictOf 8 (0 ∷ 2 ∷ 2 ∷ 4 ∷ []) [] gives aVerdict (refused 3 1))
+    ∷ ("frames" asks frames (0 ∷ 1 ∷ 65536 ∷ 65537 ∷ []) gives boards (refused 2 0 ∷ given (on 1) ∷ given (on 65536) ∷ refused 2 0 ∷ []))
+    ∷ ("window to the frame's end" asks windowAlone 8 7 8 gives aWindow (given (window 7 8)))
+    ∷ ("window past the frame's end" asks windowAlone 8 7 9 gives aWindow (refused 3 0))
+    ∷ ("empty window" asks windowAlone 8 2 2 gives aWindow (refused 3 0))
+    ∷ ("largest task" asks taskAlone 1000000 1000000 1000000 gives aTask (given (task 1000000 1000000 1000000)))
+    ∷ ("C over its limit" asks taskAlone 1000001 8 8 gives aTask (refused 5 0))
+    ∷ ("T over its limit" asks taskAlone 1 1000001 1 gives aTask (refused 5 0))
+    ∷ ("C of 0" asks taskAlone 0 4 4 gives aTask (refused 5 0))
+    ∷ ("D over T" asks taskAlone 1 4 5 gives aTask (refused 5 0))
+    ∷ ("asked lengths" asks askedLengths (0 ∷ 1000000 ∷ 1000001 ∷ []) gives amounts (given 0 ∷ given 1000000 ∷ refused 7 0 ∷ []))
+    ∷ ("ticks of a run" asks runTicks (0 ∷ 1100000 ∷ 1100001 ∷ []) gives amounts (given 0 ∷ given 1100000 ∷ refused 10 0 ∷ []))
+    ∷ ("longest lists" asks listsOf 128 96 12288 gives faults (fine ∷ fine ∷ fine ∷ []))
+    ∷ ("lists one too long" asks listsOf 130 99 12291 gives faults (fault 1 0 ∷ fault 4 0 ∷ fault 10 0 ∷ []))
+    ∷ ("empty lists" asks listsOf 0 0 0 gives faults (fault 1 0 ∷ fine ∷ fine ∷ []))
+    ∷ ("lists not in pieces" asks listsOf 3 4 5 gives faults (fault 1 0 ∷ fault 4 0 ∷ fault 10 0 ∷ []))
+    ∷ ("cycle at its limit" asks cycleOf 8 (1 ∷ 1000000 ∷ 1000000 ∷ []) gives faults (fine ∷ []))
+    ∷ ("cycle far over its limit" asks verdictOf 8 X (1 ∷ 999999 ∷ 999999 ∷ []) gives aVerdict (refused 6 0))
+    ∷ ("cycle just below its limit" asks cycleOf 1 (1 ∷ 1001 ∷ 1 ∷ 1 ∷ 999 ∷ 1 ∷ []) gives faults (fine ∷ []))
+    ∷ ("cycle just over its limit" asks cycleOf 101 (1 ∷ 9901 ∷ 1 ∷ []) gives faults (fault 6 0 ∷ []))
+    ∷ ("demand at its limits" asks demandsOf (1 ∷ 4 ∷ 3 ∷ []) (2 ∷ 3 ∷ 1000000 ∷ 1000001 ∷ []) gives amounts (given 0 ∷ given 1 ∷ given 250000 ∷ refused 7 0 ∷ []))
     -- the order of refusals, each row with a fault of the next number or numbers too
-    ∷ (verdictOf 0 [] [] gives aVerdict (refused 1 0))
-    ∷ (verdictOf 0 (2 ∷ 2 ∷ []) [] gives aVerdict (refused 2 0))
-    ∷ (verdictOf 8 (2 ∷ 2 ∷ []) (1 ∷ []) gives aVerdict (refused 3 0))
-    ∷ (verdictOf 8 X (0 ∷ 4 ∷ 4 ∷ 1 ∷ []) gives aVerdict (refused 4 0))
-    ∷ (verdictOf 8 X (1 ∷ 999999 ∷ 999999 ∷ 0 ∷ 1 ∷ 1 ∷ []) gives aVerdict (refused 5 1))
-    ∷ (marginOf 8 X (0 ∷ 4 ∷ 4 ∷ []) 1000001 gives aMargin (refused 5 0))
-    ∷ (runOf 8 X (0 ∷ 4 ∷ 4 ∷ []) 10 (1 ∷ []) [] gives aRun (refused 5 0) [])
-    ∷ (runOf 8 X (1 ∷ 4 ∷ 4 ∷ []) 1100001 (2 ∷ 5 ∷ 1 ∷ []) [] gives aRun (refused 10 0) [])
+    ∷ ("1 before 2" asks verdictOf 0 [] [] gives aVerdict (refused 1 0))
+    ∷ ("2 before 3" asks verdictOf 0 (2 ∷ 2 ∷ []) [] gives aVerdict (refused 2 0))
+    ∷ ("3 before 4" asks verdictOf 8 (2 ∷ 2 ∷ []) (1 ∷ []) gives aVerdict (refused 3 0))
+    ∷ ("4 before 5" asks verdictOf 8 X (0 ∷ 4 ∷ 4 ∷ 1 ∷ []) gives aVerdict (refused 4 0))
+    ∷ ("5 before 6" asks verdictOf 8 X (1 ∷ 999999 ∷ 999999 ∷ 0 ∷ 1 ∷ 1 ∷ []) gives aVerdict (refused 5 1))
+    ∷ ("5 before 7" asks marginOf 8 X (0 ∷ 4 ∷ 4 ∷ []) 1000001 gives aMargin (refused 5 0))
+    ∷ ("5 before 10" asks runOf 8 X (0 ∷ 4 ∷ 4 ∷ []) 10 (1 ∷ []) [] gives aRun (refused 5 0) [])
+    ∷ ("10 before 11" asks runOf 8 X (1 ∷ 4 ∷ 4 ∷ []) 1100001 (2 ∷ 5 ∷ 1 ∷ []) [] gives aRun (refused 10 0) [])
     -- and that a refusal writes nothing
-    ∷ (criticalWindows 8 X (9 ∷ 9 ∷ 9 ∷ []) gives windows (refused 8 4) (9 ∷ 9 ∷ 9 ∷ []))
-    ∷ (criticalWindows 8 (0 ∷ 2 ∷ 2 ∷ 4 ∷ []) [] gives windows (refused 3 1) [])
-    ∷ (runOf 8 X (1 ∷ 4 ∷ 4 ∷ []) 10 (2 ∷ 0 ∷ 1 ∷ []) [] gives aRun (refused 8 1) [])
-    ∷ (runOf 8 X (1 ∷ 4 ∷ 4 ∷ []) 10 (2 ∷ 0 ∷ 2 ∷ []) [] gives aRun (refused 11 0) [])
-    ∷ (runOf 8 X (1 ∷ 4 ∷ 4 ∷ []) 10 (2 ∷ 0 ∷ []) (9 ∷ []) gives aRun (refused 10 0) (9 ∷ []))
-    ∷ (writtenPlan (record { frame = 8; windows = []; tasks = 1 ∷ [] }) (9 ∷ []) gives bytesIn (refused 1 0) (9 ∷ []))
-    ∷ (writtenPlan (record { frame = 300; windows = 0 ∷ 2 ∷ []; tasks = [] }) (9 ∷ 9 ∷ 9 ∷ 9 ∷ 9 ∷ 9 ∷ 9 ∷ []) gives bytesIn (given 6) (172 ∷ 2 ∷ 1 ∷ 0 ∷ 2 ∷ 0 ∷ 9 ∷ []))
-    ∷ (lineInto (8 ∷ 1 ∷ 0 ∷ 2 ∷ 0 ∷ []) (9 ∷ 9 ∷ []) gives bytesIn (refused 8 14) (9 ∷ 9 ∷ []))
+    ∷ ("partition without room" asks criticalWindows 8 X (9 ∷ 9 ∷ 9 ∷ []) gives windows (refused 8 4) (9 ∷ 9 ∷ 9 ∷ []))
+    ∷ ("3 before 8" asks criticalWindows 8 (0 ∷ 2 ∷ 2 ∷ 4 ∷ []) [] gives windows (refused 3 1) [])
+    ∷ ("run without room" asks runOf 8 X (1 ∷ 4 ∷ 4 ∷ []) 10 (2 ∷ 0 ∷ 1 ∷ []) [] gives aRun (refused 8 1) [])
+    ∷ ("11 before 8" asks runOf 8 X (1 ∷ 4 ∷ 4 ∷ []) 10 (2 ∷ 0 ∷ 2 ∷ []) [] gives aRun (refused 11 0) [])
+    ∷ ("run refused by 10" asks runOf 8 X (1 ∷ 4 ∷ 4 ∷ []) 10 (2 ∷ 0 ∷ []) (9 ∷ []) gives aRun (refused 10 0) (9 ∷ []))
+    ∷ ("plan refused by 1" asks writtenPlan (record { frame = 8; windows = []; tasks = 1 ∷ [] }) (9 ∷ []) gives bytesIn (refused 1 0) (9 ∷ []))
+    ∷ ("a plan written" asks writtenPlan (record { frame = 300; windows = 0 ∷ 2 ∷ []; tasks = [] }) (9 ∷ 9 ∷ 9 ∷ 9 ∷ 9 ∷ 9 ∷ 9 ∷ []) gives bytesIn (given 6) (172 ∷ 2 ∷ 1 ∷ 0 ∷ 2 ∷ 0 ∷ 9 ∷ []))
+    ∷ ("line without room" asks lineInto (8 ∷ 1 ∷ 0 ∷ 2 ∷ 0 ∷ []) (9 ∷ 9 ∷ []) gives bytesIn (refused 8 14) (9 ∷ 9 ∷ []))
     -- the other lines; bytes left over, a number cut short, one in too many bytes, one missing, the greatest number and one more, and the two early answers
-    ∷ (lineOf (8 ∷ 2 ∷ 0 ∷ 2 ∷ 5 ∷ 7 ∷ 0 ∷ []) gives text (bytes "MEETS cycle 8\n"))
-    ∷ (lineOf (8 ∷ 2 ∷ 0 ∷ 2 ∷ 2 ∷ 4 ∷ 0 ∷ []) gives text (bytes "REFUSED 3 at 1\n"))
-    ∷ (lineOf (8 ∷ 1 ∷ 0 ∷ 2 ∷ 0 ∷ 7 ∷ []) gives text (bytes "REFUSED 9 at 5\n"))
-    ∷ (lineOf (8 ∷ 1 ∷ 0 ∷ 130 ∷ []) gives text (bytes "REFUSED 9 at 3\n"))
-    ∷ (lineOf (8 ∷ 1 ∷ 0 ∷ 130 ∷ 0 ∷ []) gives text (bytes "REFUSED 9 at 3\n"))
-    ∷ (lineOf (8 ∷ 1 ∷ []) gives text (bytes "REFUSED 9 at 2\n"))
-    ∷ (lineOf (255 ∷ 255 ∷ 255 ∷ 255 ∷ 15 ∷ 1 ∷ 0 ∷ 2 ∷ 0 ∷ []) gives text (bytes "REFUSED 2 at 0\n"))
-    ∷ (lineOf (128 ∷ 128 ∷ 128 ∷ 128 ∷ 16 ∷ 1 ∷ 0 ∷ 2 ∷ 0 ∷ []) gives text (bytes "REFUSED 9 at 0\n"))
-    ∷ (lineOf (0 ∷ 65 ∷ []) gives text (bytes "REFUSED 1 at 0\n"))
-    ∷ (lineOf (0 ∷ 1 ∷ 0 ∷ 2 ∷ 33 ∷ []) gives text (bytes "REFUSED 4 at 0\n"))
+    ∷ ("line of a plan that meets" asks lineOf (8 ∷ 2 ∷ 0 ∷ 2 ∷ 5 ∷ 7 ∷ 0 ∷ []) gives text (bytes "MEETS cycle 8\n"))
+    ∷ ("line of a refusal" asks lineOf (8 ∷ 2 ∷ 0 ∷ 2 ∷ 2 ∷ 4 ∷ 0 ∷ []) gives text (bytes "REFUSED 3 at 1\n"))
+    ∷ ("a byte left over" asks lineOf (8 ∷ 1 ∷ 0 ∷ 2 ∷ 0 ∷ 7 ∷ []) gives text (bytes "REFUSED 9 at 5\n"))
+    ∷ ("a number cut short" asks lineOf (8 ∷ 1 ∷ 0 ∷ 130 ∷ []) gives text (bytes "REFUSED 9 at 3\n"))
+    ∷ ("a number in too many bytes" asks lineOf (8 ∷ 1 ∷ 0 ∷ 130 ∷ 0 ∷ []) gives text (bytes "REFUSED 9 at 3\n"))
+    ∷ ("a number missing" asks lineOf (8 ∷ 1 ∷ []) gives text (bytes "REFUSED 9 at 2\n"))
+    ∷ ("the greatest number" asks lineOf (255 ∷ 255 ∷ 255 ∷ 255 ∷ 15 ∷ 1 ∷ 0 ∷ 2 ∷ 0 ∷ []) gives text (bytes "REFUSED 2 at 0\n"))
+    ∷ ("a number too large" asks lineOf (128 ∷ 128 ∷ 128 ∷ 128 ∷ 16 ∷ 1 ∷ 0 ∷ 2 ∷ 0 ∷ []) gives text (bytes "REFUSED 9 at 0\n"))
+    ∷ ("1 as soon as it is read" asks lineOf (0 ∷ 65 ∷ []) gives text (bytes "REFUSED 1 at 0\n"))
+    ∷ ("4 as soon as it is read" asks lineOf (0 ∷ 1 ∷ 0 ∷ 2 ∷ 33 ∷ []) gives text (bytes "REFUSED 4 at 0\n"))
     ∷ []
+
+infixr 2 _&_
+abbrev _&_ : {A B : Type 0} → A → B → A × B
+a & b = (a, b)
 
 -- every row's question gets its expected reply
 abbrev pub Hold : List Example → Type 0
@@ -208,17 +202,34 @@ Hold [] = Unit {0}
 Hold (e ∷ rows) = (reply (e .question) ≡ e .expected) × Hold rows
 
 pub examples : Hold table
-unfolding reply table sum least greatest all firstBy listed keep piecesFrom pieces badCount written supply leastSupply leastStart gives covers supplied windowLegal badWindow rises within edge maximalRuns critical lag delay taskLegal badTask taskDemand demand margin gcdWithin gcd lcm cycle violates verdict asked suffices response jobLegal badJob pending tick workLeft late outcome backlogIn backlog countOf ran counts windowListFault frameFault windowFault taskListFault taskFault cycleFault lengthFault absentFault roomFault jobListFault jobFault tableFault groupFault leastSupplyAnswer criticalFault criticalAnswer criticalOut delayAnswer outageAnswer demandAnswer marginAnswer verdictAnswer boundAnswer runFault runAnswer runOut groups wellFormed readNumber readNumbers restFault countedFrom listsFrom planFrom planOf planAnswer numberBytesWithin numberBytes numbersBytes planBytes writeFault writeAnswer writeOut decimalWithin decimal line lineAnswer lineOut boardAnswer windowAnswer taskAnswer lengthAnswer runTicksAnswer outageBefore outage
+unfolding everything reply table
 examples =
-    (refl, (refl, (refl, (refl, (refl, (refl, (refl, (refl, (refl, (refl, (refl, (refl, (refl, (refl, (refl, (refl, (refl, (refl, (refl, (refl, (refl, (refl, (refl, (refl, (refl, (refl, (refl, (refl, (refl, (refl, (refl, (refl, (refl, (refl, (refl, (refl, (refl, (refl, (refl, (refl, (refl, (refl, (refl, (refl, (refl, (refl, (refl, (refl, (refl, (refl, (refl, (refl, (refl, (refl, (refl, (refl, (refl, (refl, (refl, (refl, (refl, (refl, (refl, (refl, (refl, (refl, (refl, (refl, (refl, (refl, (refl, (refl, (refl, tt)))))))))))))))))))))))))))))))))))))))))))))))))))))))))))))))))))))))))
+    refl & refl & refl & refl & refl & refl & refl & refl & refl & refl & refl & refl & refl & refl & refl & refl & refl & refl & refl & refl &
+    refl & refl & refl & refl & refl & refl & refl & refl & refl & refl & refl & refl & refl & refl & refl & refl & refl & refl & refl & refl &
+    refl & refl & refl & refl & refl & refl & refl & refl & refl & refl & refl & refl & refl & refl & refl & refl & refl & refl & refl & refl &
+    refl & refl & refl & refl & refl & refl & refl & refl & refl & refl & refl & refl & refl & tt
 
--- row i of a table that holds, counted from 0
-abbrev pub RowHolds : List Example → ℕ → Type 0
-RowHolds [] i = Unit {0}
-RowHolds (e ∷ rows) zero = reply (e .question) ≡ e .expected
-RowHolds (e ∷ rows) (suc i) = RowHolds rows i
+-- ---- a row by its name
 
-pub row : (rows : List Example) → Hold rows → (i : ℕ) → RowHolds rows i
-row [] h i = tt
-row (e ∷ rows) h zero = h .0
-row (e ∷ rows) h (suc i) = row rows (h .1) i
+abbrev same : String → String → Bool
+same ε ε = true
+same ε (d ◂ t) = false
+same (c ◂ s) ε = false
+same (c ◂ s) (d ◂ t) = eqb (code c) (code d) && same s t
+
+abbrev either : Bool → Type 0 → Type 0 → Type 0
+either true A B = A
+either false A B = B
+
+-- what the first row of that name says
+abbrev pub RowHolds : List Example → String → Type 0
+RowHolds [] n = Unit {0}
+RowHolds (e ∷ rows) n = either (same (e .name) n) (reply (e .question) ≡ e .expected) (RowHolds rows n)
+
+pub row : (rows : List Example) → Hold rows → (n : String) → RowHolds rows n
+row [] h n = tt
+row (e ∷ rows) h n = go (same (e .name) n) (h .0) (row rows (h .1) n)
+  where
+    go : {A B : Type 0} (b : Bool) → A → B → either b A B
+    go true a b = a
+    go false a b = b

@@ -14,4 +14,5 @@ pub mod Answers
 pub mod Plan
 pub mod Line
 pub mod Demands
+pub mod Computing
 pub mod Examples

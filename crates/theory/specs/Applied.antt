@@ -6,14 +6,14 @@ use Prim.Native.Nat.{ℕ, zero, suc, _-_, _*_, _≤_, _<_}
 use native.Mathlib.Omega.{arith}
 use lib.Dec.{ltb}
 use lib.ListN.{length, getD, take, replicate, length-append}
-use Rattle.scope.specs.Numbers.{firstBy, piecesFrom, pieces, badCount, greatest, lexically}
-use Rattle.scope.specs.Ticks.{supply, leastSupply}
-use Rattle.scope.specs.Windows.{gives, covers, supplied, suppliedBy}
+use Rattle.scope.specs.Numbers.{piecesFrom, pieces, badCount, greatest, lexically}
+use Rattle.scope.specs.Ticks.{leastSupply}
+use Rattle.scope.specs.Windows.{suppliedBy}
 use Rattle.scope.specs.Tasks.{tasksOf, demand}
 use Rattle.scope.specs.Verdict.{Verdict.meets, Verdict.miss}
 use Rattle.scope.specs.Bound.{Bound.bound, asked}
 use Rattle.scope.specs.Jobs.{jobsOf, taskOf, deadline}
-use Rattle.scope.specs.Machine.{edf, pending, tick, workLeft}
+use Rattle.scope.specs.Machine.{edf, workLeft}
 use Rattle.scope.specs.Limits.{mostWindows, mostTasks, mostNumber}
 use Rattle.scope.specs.Plan.{Plan, planOf, planAnswer, numberBytesWithin, numberBytes, numbersBytes, planBytes, writeAnswer, writeOut}
 use Rattle.scope.specs.Line.{lineAnswer, lineOut}
@@ -21,6 +21,7 @@ use Rattle.scope.specs.Run.{Outcome.met, outcome, countOf, counts}
 use Rattle.scope.specs.Answers.{Answer.given, Answer.refused, windowListFault, taskListFault, verdictAnswer, boundAnswer, runAnswer, runOut, criticalAnswer, criticalOut}
 use Rattle.scope.specs.Demands.{LeastMiss, Way, givenTo, Served}
 use Rattle.scope.specs.Examples.{Reply.windows, Reply.bytesIn, Reply.aVerdict, Reply.bounds, Reply.aRun, X, on, reply, table, examples, row}
+use Rattle.scope.specs.Computing.{everything}
 use Rattle.theory.specs.Numbers.{by-lexically}
 use Rattle.theory.specs.Answers.{run-given}
 use Rattle.theory.specs.Exact.{exact-meets, exact-miss}
@@ -50,17 +51,17 @@ w13 = 2 ∷ 0 ∷ 1 ∷ 2 ∷ 1 ∷ 2 ∷ []
 
 pub w6-misses : verdictAnswer (on 8) X w6 ≡ given (miss 6 2 3 2)
 unfolding reply table
-w6-misses = let e : aVerdict (verdictAnswer (on 8) X w6) ≡ aVerdict (given (miss 6 2 3 2)) = row table examples 5 in cc
+w6-misses = let e : aVerdict (verdictAnswer (on 8) X w6) ≡ aVerdict (given (miss 6 2 3 2)) = row table examples "W6" in cc
 
 pub w7-meets : verdictAnswer (on 8) X w7 ≡ given (meets 8)
 unfolding reply table
-w7-meets = let e : aVerdict (verdictAnswer (on 8) X w7) ≡ aVerdict (given (meets 8)) = row table examples 8 in cc
+w7-meets = let e : aVerdict (verdictAnswer (on 8) X w7) ≡ aVerdict (given (meets 8)) = row table examples "W7" in cc
 
 w11-bounds : boundAnswer (on 8) X w11 1 ≡ given (bound 7)
 unfolding reply table
 w11-bounds =
     let e : bounds (boundAnswer (on 8) X w11 0 ∷ boundAnswer (on 8) X w11 1 ∷ []) ≡ bounds (given (bound 4) ∷ given (bound 7) ∷ []) =
-    row table examples 12 in
+    row table examples "W11" in
     cc
 
 pub w13-runs : runAnswer (on 8) X w7 10 w13 3 ≡ given (record { outcome = met; backlog = 2 })
@@ -68,7 +69,7 @@ unfolding reply table
 w13-runs =
     let e : aRun (runAnswer (on 8) X w7 10 w13 3) (runOut (on 8) X w7 10 w13 (9 ∷ 9 ∷ 9 ∷ []))
     ≡ aRun (given (record { outcome = met; backlog = 2 })) (4 ∷ 7 ∷ 9 ∷ []) =
-    row table examples 14 in
+    row table examples "W13" in
     cc
 
 -- ---- demand 2
@@ -102,14 +103,14 @@ tied-jobs = 1 ∷ 0 ∷ 1 ∷ 1 ∷ 1 ∷ 1 ∷ []
 
 tied-meets : verdictAnswer (on 8) X tied ≡ given (meets 8)
 unfolding reply table
-tied-meets = let e : aVerdict (verdictAnswer (on 8) X tied) ≡ aVerdict (given (meets 8)) = row table examples 22 in cc
+tied-meets = let e : aVerdict (verdictAnswer (on 8) X tied) ≡ aVerdict (given (meets 8)) = row table examples "a tie" in cc
 
 tied-runs : runAnswer (on 8) X tied 10 tied-jobs 2 ≡ given (record { outcome = met; backlog = 2 })
 unfolding reply table
 tied-runs =
     let e : aRun (runAnswer (on 8) X tied 10 tied-jobs 2) (runOut (on 8) X tied 10 tied-jobs (9 ∷ 9 ∷ []))
     ≡ aRun (given (record { outcome = met; backlog = 2 })) (1 ∷ 5 ∷ []) =
-    row table examples 23 in
+    row table examples "a tie, run" in
     cc
 
 -- a run under earliest deadline first whose ties go to the higher task is another run: its first job has count 5. By the theorem that is at most 6
@@ -120,7 +121,7 @@ other-ties =
     workLeft (suppliedBy (on 8) X) (λ a b. lexically (deadline ts js a) (deadline ts js b) (ltb (taskOf js b) (taskOf js a))) js
 
 other-ties-differ : countOf other-ties (jobsOf tied-jobs) 10 0 ≡ 5
-unfolding firstBy piecesFrom pieces gives covers supplied pending tick workLeft countOf other-ties
+unfolding everything other-ties
 other-ties-differ = refl
 
 other-ties-in-time : countOf other-ties (jobsOf tied-jobs) 10 0 ≤ 6
@@ -139,7 +140,7 @@ w4-way : Way
 w4-way k = some (record { task = 0; turn = k - 5 })
 
 w4-served : Served (suppliedBy (on 8) X) (tasksOf (1 ∷ 4 ∷ 4 ∷ [])) w4-way 2 8
-unfolding piecesFrom pieces gives covers supplied supply givenTo w4-way
+unfolding everything givenTo w4-way
 w4-served zero zero l d = omega arith
 w4-served zero (suc zero) l d = omega arith
 w4-served zero (suc (suc m)) l d = absurd (omega arith)
@@ -151,7 +152,7 @@ w4-served (suc i) m l d = absurd (omega arith)
 x-kept : criticalOut (on 8) X (9 ∷ 9 ∷ 9 ∷ []) ≡ 9 ∷ 9 ∷ 9 ∷ []
 unfolding reply table
 x-kept =
-    let e : windows (criticalAnswer (on 8) X 3) (criticalOut (on 8) X (9 ∷ 9 ∷ 9 ∷ [])) ≡ windows (refused 8 4) (9 ∷ 9 ∷ 9 ∷ []) = row table examples 55 in
+    let e : windows (criticalAnswer (on 8) X 3) (criticalOut (on 8) X (9 ∷ 9 ∷ 9 ∷ [])) ≡ windows (refused 8 4) (9 ∷ 9 ∷ 9 ∷ []) = row table examples "partition without room" in
     let short : criticalAnswer (on 8) X 3 ≡ refused 8 4 = cc in
     critical-kept 8 4 (on 8) X (9 ∷ 9 ∷ 9 ∷ []) short
 
@@ -159,7 +160,7 @@ x-kept =
 run-kept-at : runOut (on 8) X (1 ∷ 4 ∷ 4 ∷ []) 10 (2 ∷ 0 ∷ []) (9 ∷ []) ≡ 9 ∷ []
 unfolding reply table
 run-kept-at =
-    let e : aRun (runAnswer (on 8) X (1 ∷ 4 ∷ 4 ∷ []) 10 (2 ∷ 0 ∷ []) 1) (runOut (on 8) X (1 ∷ 4 ∷ 4 ∷ []) 10 (2 ∷ 0 ∷ []) (9 ∷ [])) ≡ aRun (refused 10 0) (9 ∷ []) = row table examples 59 in
+    let e : aRun (runAnswer (on 8) X (1 ∷ 4 ∷ 4 ∷ []) 10 (2 ∷ 0 ∷ []) 1) (runOut (on 8) X (1 ∷ 4 ∷ 4 ∷ []) 10 (2 ∷ 0 ∷ []) (9 ∷ [])) ≡ aRun (refused 10 0) (9 ∷ []) = row table examples "run refused by 10" in
     let bad : runAnswer (on 8) X (1 ∷ 4 ∷ 4 ∷ []) 10 (2 ∷ 0 ∷ []) 1 ≡ refused 10 0 = cc in
     run-kept 10 0 (on 8) X (1 ∷ 4 ∷ 4 ∷ []) 10 (2 ∷ 0 ∷ []) (9 ∷ []) bad
 
@@ -169,7 +170,7 @@ no-windows = record { frame = 8; windows = []; tasks = 1 ∷ [] }
 write-kept-at : writeOut no-windows (9 ∷ []) ≡ 9 ∷ []
 unfolding reply table
 write-kept-at =
-    let e : bytesIn (writeAnswer no-windows 1) (writeOut no-windows (9 ∷ [])) ≡ bytesIn (refused 1 0) (9 ∷ []) = row table examples 60 in
+    let e : bytesIn (writeAnswer no-windows 1) (writeOut no-windows (9 ∷ [])) ≡ bytesIn (refused 1 0) (9 ∷ []) = row table examples "plan refused by 1" in
     let bad : writeAnswer no-windows 1 ≡ refused 1 0 = cc in
     write-kept 1 0 no-windows (9 ∷ []) bad
 
@@ -177,7 +178,7 @@ line-kept-at : lineOut (planAnswer (8 ∷ 1 ∷ 0 ∷ 2 ∷ 0 ∷ [])) (9 ∷ 9 
 unfolding reply table
 line-kept-at =
     let a = planAnswer (8 ∷ 1 ∷ 0 ∷ 2 ∷ 0 ∷ []) in
-    let e : bytesIn (lineAnswer a 2) (lineOut a (9 ∷ 9 ∷ [])) ≡ bytesIn (refused 8 14) (9 ∷ 9 ∷ []) = row table examples 62 in
+    let e : bytesIn (lineAnswer a 2) (lineOut a (9 ∷ 9 ∷ [])) ≡ bytesIn (refused 8 14) (9 ∷ 9 ∷ []) = row table examples "line without room" in
     let short : lineAnswer a 2 ≡ refused 8 14 = cc in
     line-kept 8 14 a (9 ∷ 9 ∷ []) short
 

@@ -7,24 +7,25 @@ use Prim.Native.Nat.{ℕ, zero, suc, _≤_, _<_, _∣_}
 use native.Mathlib.Omega.{arith}
 use native.Mathlib.Nat.{dvd-refl}
 use lib.ListN.{length, getD}
-use Rattle.scope.specs.Numbers.{least, all, firstBy, listed, piecesFrom, pieces}
+use Rattle.scope.specs.Numbers.{least}
 use Rattle.scope.specs.Ticks.{Periodic, supply, leastSupply}
-use Rattle.scope.specs.Windows.{Board, gives, covers, supplied, suppliedBy}
+use Rattle.scope.specs.Windows.{Board, suppliedBy}
 use Rattle.scope.specs.Tasks.{Task, task, tasksOf, taskAt, taskDemand, demand}
 use Rattle.scope.specs.Verdict.{Verdict.meets, Verdict.miss}
-use Rattle.scope.specs.Jobs.{Job, jobsOf, releaseOf, taskOf, deadline, jobLegal, badJob}
-use Rattle.scope.specs.Machine.{edf, pending, tick, workLeft}
-use Rattle.scope.specs.Run.{late, outcome, countOf, counts}
+use Rattle.scope.specs.Jobs.{Job, jobsOf, releaseOf, taskOf, deadline, badJob}
+use Rattle.scope.specs.Machine.{edf}
+use Rattle.scope.specs.Run.{counts}
 use Rattle.scope.specs.Answers.{Answer.given, verdictAnswer}
 use Rattle.scope.specs.Demands.{Way, givenTo}
 use Rattle.scope.specs.Examples.{X, on}
+use Rattle.scope.specs.Computing.{everything}
 use Rattle.theory.specs.Tasks.{TaskRules, Periods}
 use Rattle.theory.specs.Applied.{w6, w7, w13, w6-misses, w7-meets}
 
 -- "meets" does not leave supply over: W7 asks for all 3 ticks that length 7 holds at least
 pub not-strictly : ((b : Board) (ws ts : List ℕ) (H : ℕ) → verdictAnswer b ws ts ≡ given (meets H) →
     (t : ℕ) → 1 ≤ t → demand (tasksOf ts) t < leastSupply (suppliedBy b ws) (b .frame) t) → ⊥
-unfolding piecesFrom pieces gives covers supplied supply least leastSupply taskDemand demand
+unfolding everything
 not-strictly claim =
     let asked : demand (tasksOf w7) 7 ≡ 3 = refl in
     let held : leastSupply (suppliedBy (on 8) X) 8 7 ≡ 3 = refl in
@@ -58,7 +59,7 @@ not-past-period claim =
 pub not-below-deadline : ((b : Board) (ws ts : List ℕ) (H : ℕ) → verdictAnswer b ws ts ≡ given (meets H) →
     (n : ℕ) (js : List Job) → badJob (tasksOf ts) n js ≡ none → (j : ℕ) → j < length js → deadline (tasksOf ts) js j ≤ n →
     getD (counts (suppliedBy b ws) (edf (tasksOf ts) js) (tasksOf ts) js n) j 0 < (taskAt (tasksOf ts) (taskOf js j)) .D) → ⊥
-unfolding all firstBy listed piecesFrom pieces gives covers supplied jobLegal badJob pending tick workLeft late outcome countOf counts
+unfolding everything
 not-below-deadline claim =
     let count : getD (counts (suppliedBy (on 8) X) (edf (tasksOf w7) (jobsOf w13)) (tasksOf w7) (jobsOf w13) 10) 1 0 ≡ 7 = refl in
     omega (arith, claim (on 8) X w7 8 w7-meets 10 (jobsOf w13) refl 1 (omega arith) (omega arith))
@@ -67,7 +68,7 @@ not-below-deadline claim =
 pub not-each-release : ((b : Board) (ws ts : List ℕ) (H : ℕ) → verdictAnswer b ws ts ≡ given (meets H) →
     (n : ℕ) (js : List Job) → badJob (tasksOf ts) n js ≡ none → (j : ℕ) → j < length js → releaseOf js j ≤ n →
     1 ≤ getD (counts (suppliedBy b ws) (edf (tasksOf ts) js) (tasksOf ts) js n) j 0) → ⊥
-unfolding all firstBy listed piecesFrom pieces gives covers supplied jobLegal badJob pending tick workLeft late outcome countOf counts
+unfolding everything
 not-each-release claim =
     let count : getD (counts (suppliedBy (on 8) X) (edf (tasksOf w7) (jobsOf w13)) (tasksOf w7) (jobsOf w13) 3) 0 0 ≡ 0 = refl in
     omega (arith, claim (on 8) X w7 8 w7-meets 3 (jobsOf w13) refl 0 (omega arith) (omega arith))
@@ -75,5 +76,5 @@ not-each-release claim =
 -- a miss starves not every job, but some: of W6 the first job of task 0 can well be served
 pub not-every-job : ((b : Board) (ws ts : List ℕ) (t s d p : ℕ) → verdictAnswer b ws ts ≡ given (miss t s d p) →
     (w : Way) (i m : ℕ) → i < length (tasksOf ts) → (taskAt (tasksOf ts) i) .C ≤ givenTo (suppliedBy b ws) w i m s t → ⊥) → ⊥
-unfolding piecesFrom pieces gives covers supplied supply givenTo
+unfolding everything givenTo
 not-every-job claim = claim (on 8) X w6 6 2 3 2 w6-misses (λ k. some (record { task = 0; turn = 0 })) 0 0 (omega arith) (omega arith)

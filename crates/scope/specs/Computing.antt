@@ -1,0 +1,79 @@
+-- What computes: to unfold one of these is to unfold the definitions that its line names, and to unfold `everything` is to unfold them all
+use Rattle.scope.specs.Numbers.{sum, least, greatest, all, firstBy, listed, keep, piecesFrom, pieces, badCount, written}
+use Rattle.scope.specs.Ticks.{supply, leastSupply, leastStart}
+use Rattle.scope.specs.Windows.{gives, covers, supplied, windowLegal, badWindow}
+use Rattle.scope.specs.Partition.{rises, within, edge, maximalRuns, critical, lag, delay, outageBefore, outage}
+use Rattle.scope.specs.Tasks.{taskLegal, badTask, taskDemand, demand, margin}
+use Rattle.scope.specs.Cycle.{gcdWithin, gcd, lcm, cycle}
+use Rattle.scope.specs.Verdict.{violates, verdict}
+use Rattle.scope.specs.Bound.{asked, suffices, response}
+use Rattle.scope.specs.Jobs.{jobLegal, badJob}
+use Rattle.scope.specs.Machine.{pending, tick, workLeft}
+use Rattle.scope.specs.Run.{late, outcome, backlogIn, backlog, countOf, ran, counts}
+use Rattle.scope.specs.Answers.{windowListFault, frameFault, windowFault, tableFault, lengthFault, roomFault, criticalFault, taskListFault, taskFault}
+use Rattle.scope.specs.Answers.{groupFault, cycleFault, absentFault, jobListFault, jobFault, runFault, boardAnswer, windowAnswer, taskAnswer}
+use Rattle.scope.specs.Answers.{lengthAnswer, runTicksAnswer, leastSupplyAnswer, criticalAnswer, criticalOut, delayAnswer, outageAnswer, demandAnswer}
+use Rattle.scope.specs.Answers.{marginAnswer, verdictAnswer, boundAnswer, runAnswer, runOut}
+use Rattle.scope.specs.Plan.{groups, wellFormed, readNumber, readNumbers, restFault, countedFrom, listsFrom, planFrom, planOf, planAnswer}
+use Rattle.scope.specs.Plan.{numberBytesWithin, numberBytes, numbersBytes, planBytes, writeFault, writeAnswer, writeOut}
+use Rattle.scope.specs.Line.{decimalWithin, decimal, line, lineAnswer, lineOut}
+
+unfoldable pub numbers·compute : Unit {0}
+unfolding sum least greatest all firstBy listed keep piecesFrom pieces badCount written
+numbers·compute = tt
+
+unfoldable pub tables·compute : Unit {0}
+unfolding supply leastSupply leastStart gives covers supplied windowLegal badWindow
+tables·compute = tt
+
+unfoldable pub partitions·compute : Unit {0}
+unfolding rises within edge maximalRuns critical lag delay outageBefore outage
+partitions·compute = tt
+
+unfoldable pub tests·compute : Unit {0}
+unfolding taskLegal badTask taskDemand demand margin gcdWithin gcd lcm cycle violates verdict asked suffices response
+tests·compute = tt
+
+unfoldable pub runs·compute : Unit {0}
+unfolding jobLegal badJob pending tick workLeft late outcome backlogIn backlog countOf ran counts
+runs·compute = tt
+
+unfoldable pub tableFaults·compute : Unit {0}
+unfolding windowListFault frameFault windowFault tableFault lengthFault roomFault criticalFault
+tableFaults·compute = tt
+
+unfoldable pub groupFaults·compute : Unit {0}
+unfolding taskListFault taskFault groupFault cycleFault absentFault jobListFault jobFault runFault
+groupFaults·compute = tt
+
+unfoldable pub constructors·compute : Unit {0}
+unfolding boardAnswer windowAnswer taskAnswer lengthAnswer runTicksAnswer
+constructors·compute = tt
+
+unfoldable pub tableAnswers·compute : Unit {0}
+unfolding leastSupplyAnswer criticalAnswer criticalOut delayAnswer outageAnswer
+tableAnswers·compute = tt
+
+unfoldable pub groupAnswers·compute : Unit {0}
+unfolding demandAnswer marginAnswer verdictAnswer boundAnswer runAnswer runOut
+groupAnswers·compute = tt
+
+unfoldable pub reading·compute : Unit {0}
+unfolding groups wellFormed readNumber readNumbers restFault countedFrom listsFrom planFrom planOf planAnswer
+reading·compute = tt
+
+unfoldable pub writing·compute : Unit {0}
+unfolding numberBytesWithin numberBytes numbersBytes planBytes writeFault writeAnswer writeOut decimalWithin decimal line lineAnswer lineOut
+writing·compute = tt
+
+unfoldable pub amounts·compute : Unit {0}
+unfolding numbers·compute tables·compute partitions·compute tests·compute runs·compute
+amounts·compute = tt
+
+unfoldable pub answers·compute : Unit {0}
+unfolding tableFaults·compute groupFaults·compute constructors·compute tableAnswers·compute groupAnswers·compute
+answers·compute = tt
+
+unfoldable pub everything : Unit {0}
+unfolding amounts·compute answers·compute reading·compute writing·compute
+everything = tt
