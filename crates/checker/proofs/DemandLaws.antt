@@ -56,7 +56,8 @@ jobs-most x t ok h =
 task-most : (x : Task) (t : ℕ) → TaskRule x → t ≤ mostLength → taskDemand x t ≤ mostLength * mostOfTask
 task-most x t ok h = omega (arith, demand-jobs x t, mul-le-mul (jobs-most x t ok h) (ok .work-most))
 
-pub demandTo-most : (ts : List ℕ) (t i : ℕ) → LegalGroup ts → t ≤ mostLength → i ≤ length ts / 3 → demandTo (tasksOf ts) t i ≤ mostTasks * (mostLength * mostOfTask)
+pub demandTo-most : (ts : List ℕ) (t i : ℕ) → LegalGroup ts → t ≤ mostLength →
+    i ≤ length ts / 3 → demandTo (tasksOf ts) t i ≤ mostTasks * (mostLength * mostOfTask)
 unfolding demandTo
 demandTo-most ts t i ok h l =
     let x : ℕ → Task = taskAt (tasksOf ts) in

@@ -36,7 +36,8 @@ fn exceeds(board: Board, windows: &[u32], length: u32, before: u64, demand: u64)
 // The first length whose demand exceeds the least supply, and its first start that holds the least supply.
 fn search(board: Board, windows: &[u32], tasks: &[u32], cycle: u32) -> Verdict
     requires { ⌜ (0 < board .frame) × LegalGroup (now tasks) × (cycle ≤ mostCycle) ⌝ }
-    ensures { λ r. ⌜ toldVerdict r ≡ given (verdictBy (suppliedBy (boardOf board) (now (windows .entry))) (board .frame) (tasksOf (now (tasks .entry))) cycle) ⌝ }
+    ensures { λ r. ⌜ toldVerdict r ≡ given (verdictBy (suppliedBy (boardOf board) (now (windows .entry)))
+        (board .frame) (tasksOf (now (tasks .entry))) cycle) ⌝ }
 {
     let frame = board.frame;
     let mut found = Verdict::Meets { cycle };

@@ -78,14 +78,17 @@ module _ {M : Type 1} (𝓤 : URA M) (H : Heap 𝓤) (A : Atoms 𝓤) (W : Given
   pub row-makes : Makes 𝓤 H A Row (Is Row)
   row-makes = array-makes 𝓤 H A W T.the-row (LL.makes T.the-type T′.the-plain 𝓤 H A) enoughRecords
 
-  cut-front : (xs : List Task) (k b o : ℕ) → ent 𝓤 (sem 𝓤 H A (row T.the-row fullShare xs b o)) (sep 𝓤 (sem 𝓤 H A (row T.the-row fullShare (take k xs) b o)) (sem 𝓤 H A (behind xs k b o)))
+  cut-front : (xs : List Task) (k b o : ℕ) →
+      ent 𝓤 (sem 𝓤 H A (row T.the-row fullShare xs b o)) (sep 𝓤 (sem 𝓤 H A (row T.the-row fullShare (take k xs) b o)) (sem 𝓤 H A (behind xs k b o)))
   cut-front xs zero b o = qed W (‵ (row T.the-row fullShare xs b o) ∷ []) ∵ nothing ! $ done !
   cut-front [] (suc k) b o = qed W (‵ ftrue ∷ []) ∵ nothing ! $ done !
   cut-front (x ∷ xs) (suc k) b o =
       qed W (‵ (row T.the-row fullShare (x ∷ xs) b o) ∷ []) ∵ fsplit ! $ move ! (1 ∷ []) $
-      use1 W (‵ (row T.the-row fullShare (take k xs) b (o + mem T.the-row .size)) ⊛ ‵ (behind xs k b (o + mem T.the-row .size))) (cut-front xs k b (o + mem T.the-row .size)) $ split ! $ move ! (2 ∷ 0 ∷ []) $ fjoin ! $ done !
+      use1 W (‵ (row T.the-row fullShare (take k xs) b (o + mem T.the-row .size)) ⊛ ‵ (behind xs k b (o + mem T.the-row .size)))
+      (cut-front xs k b (o + mem T.the-row .size)) $ split ! $ move ! (2 ∷ 0 ∷ []) $ fjoin ! $ done !
 
-  put-front : (xs : List Task) (k b o : ℕ) → ent 𝓤 (sep 𝓤 (sem 𝓤 H A (row T.the-row fullShare (take k xs) b o)) (sem 𝓤 H A (behind xs k b o))) (sem 𝓤 H A (row T.the-row fullShare xs b o))
+  put-front : (xs : List Task) (k b o : ℕ) →
+      ent 𝓤 (sep 𝓤 (sem 𝓤 H A (row T.the-row fullShare (take k xs) b o)) (sem 𝓤 H A (behind xs k b o))) (sem 𝓤 H A (row T.the-row fullShare xs b o))
   put-front xs zero b o = qed W (‵ ftrue ∷ ‵ (row T.the-row fullShare xs b o) ∷ []) ∵ drop ! $ done !
   put-front [] (suc k) b o = qed W (‵ ftrue ∷ ‵ ftrue ∷ []) ∵ drop ! $ done !
   put-front (x ∷ xs) (suc k) b o =
@@ -93,22 +96,28 @@ module _ {M : Type 1} (𝓤 : URA M) (H : Heap 𝓤) (A : Atoms 𝓤) (W : Given
       use2 W (‵ (row T.the-row fullShare xs b (o + mem T.the-row .size))) (put-front xs k b (o + mem T.the-row .size)) $ move ! (1 ∷ 0 ∷ []) $ fjoin ! $ done !
 
   pub lends-front : (κ : Lft) (xs : List Task) (k l : ℕ) → Is Row xs (row-vals xs) → Room T.the-row (length (take k xs))
-      → ent 𝓤 (H .at fullShare row-mir l 0 (row-val xs)) (H .⇛ (ex 𝓤 (λ (γ : GName). sep 𝓤 (sep 𝓤 (sem 𝓤 H A (Front κ l γ xs k)) (sem 𝓤 H A (LentFront κ l xs k))) (sem 𝓤 H A (behind xs k l 0)))))
+      → ent 𝓤 (H .at fullShare row-mir l 0 (row-val xs))
+      (H .⇛ (ex 𝓤 (λ (γ : GName). sep 𝓤 (sep 𝓤 (sem 𝓤 H A (Front κ l γ xs k)) (sem 𝓤 H A (LentFront κ l xs k))) (sem 𝓤 H A (behind xs k l 0)))))
   unfolding partOf
   lends-front κ xs k l is room =
-      qed W (‵ (fat fullShare row-mir l 0 (row-val xs)) ∷ []) ∵ updating ! $ use1 W (‵ (cellAt fullShare (Row .mir) (row-vals xs) l 0)) (W .laws .at-raw fullShare row-mir l 0 (row-val xs)) $
+      qed W (‵ (fat fullShare row-mir l 0 (row-val xs)) ∷ []) ∵ updating ! $
+      use1 W (‵ (cellAt fullShare (Row .mir) (row-vals xs) l 0)) (W .laws .at-raw fullShare row-mir l 0 (row-val xs)) $
       owned ! Row (Is Row) row-makes xs _ is $ move ! (1 ∷ 0 ∷ []) $ fjoin ! $
       fpack ! (List Val) (λ us. fsep (cellAt fullShare (Row .mir) us l 0) (Row .own xs us)) (row-vals xs) $
-      use1 W (‵ (arr-parts (shares T.the-row) enoughRecords .part fullShare xs l 0)) (array-apart 𝓤 H A W T.the-row fullShare tt enoughRecords xs l 0) $ fsplit ! $ drop ! $
-      use1 W (‵ (row T.the-row fullShare (take k xs) l 0) ⊛ ‵ (behind xs k l 0)) (cut-front xs k l 0) $ split ! $ feqI ! ℕ (length (take k xs)) (length (take k xs)) refl $ fjoin ! $
-      use1 W (later (some (λ (γ : GName). ‵ (Front κ l γ xs k) ⊛ ‵ (LentFront κ l xs k)))) (lends-shr-slice 𝓤 H A W T.the-row (named 1) κ fullShare (take k xs) l 0 room) $ await ! tt $ pick ! (λ γ. at-once ! $
+      use1 W (‵ (arr-parts (shares T.the-row) enoughRecords .part fullShare xs l 0)) (array-apart 𝓤 H A W T.the-row fullShare tt enoughRecords xs l 0) $
+      fsplit ! $ drop ! $
+      use1 W (‵ (row T.the-row fullShare (take k xs) l 0) ⊛ ‵ (behind xs k l 0)) (cut-front xs k l 0) $
+      split ! $ feqI ! ℕ (length (take k xs)) (length (take k xs)) refl $ fjoin ! $
+      use1 W (later (some (λ (γ : GName). ‵ (Front κ l γ xs k) ⊛ ‵ (LentFront κ l xs k))))
+      (lends-shr-slice 𝓤 H A W T.the-row (named 1) κ fullShare (take k xs) l 0 room) $ await ! tt $ pick ! (λ γ. at-once ! $
       show ! (λ (δ : GName). sep 𝓤 (sep 𝓤 (sem 𝓤 H A (Front κ l δ xs k)) (sem 𝓤 H A (LentFront κ l xs k))) (sem 𝓤 H A (behind xs k l 0))) γ $ done !)
 
   pub front-back : (κ : Lft) (xs : List Task) (k l : ℕ) → length xs ≡ enoughRecords
       → ent 𝓤 (sep 𝓤 (A .dead κ) (sep 𝓤 (sem 𝓤 H A (LentFront κ l xs k)) (sem 𝓤 H A (behind xs k l 0)))) (H .⇛ (H .at fullShare row-mir l 0 (row-val xs)))
   unfolding partOf
   front-back κ xs k l e =
-      qed W (‵ (fdead κ) ∷ ‵ (LentFront κ l xs k) ∷ ‵ (behind xs k l 0) ∷ []) ∵ updating ! $ lent-back ! tt $ fsplit ! $ drop ! $ use2 W (‵ (row T.the-row fullShare xs l 0)) (put-front xs k l 0) $
+      qed W (‵ (fdead κ) ∷ ‵ (LentFront κ l xs k) ∷ ‵ (behind xs k l 0) ∷ []) ∵ updating ! $
+      lent-back ! tt $ fsplit ! $ drop ! $ use2 W (‵ (row T.the-row fullShare xs l 0)) (put-front xs k l 0) $
       feqI ! ℕ (length xs) enoughRecords e $ fjoin ! $ use1 W (‵ (partAt Row fullShare xs l 0)) (array-whole 𝓤 H A W T.the-row fullShare enoughRecords xs l 0) $
       fpick ! (λ vs. fsplit ! $ spelt ! Row (Is Row) (shows 𝓤 H A Row) row-vals row-tells fullShare xs vs l 0 $
       use1 W (‵ (fat fullShare row-mir l 0 (row-val xs))) (W .laws .raw-at fullShare row-mir l 0 (row-val xs)) $ at-once ! $ keep ! (0 ∷ []) $ done !)

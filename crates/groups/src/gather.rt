@@ -7,7 +7,8 @@ ghost use lib.ListN.{length, take};
 ghost use Rattle.records.specs.Numbers.{enoughRecords};
 ghost use Rattle.groups.specs.Records.{recordAt, recordsOf, madeRecords, lentRecords};
 
-// How many records are lent: all that the numbers are, or of a list that is refused one more than a group may have. `records` refuses those with 4 too, whatever they hold.
+// How many records are lent: all that the numbers are, or of a list that is refused one more than a group may have.
+// `records` refuses those with 4 too, whatever they hold.
 pub(crate) fn count(numbers: &[u32]) -> usize
     ensures { λ r. ⌜ r ≡ lentRecords (now (numbers .entry)) ⌝ }
 {
@@ -46,7 +47,8 @@ fn made(numbers: &[u32]) -> usize
 
 // The records that are made. The array has room for one more than a group may have.
 pub(crate) fn gathered(numbers: &[u32]) -> [Task; Task::MOST + 1]
-    ensures { λ r. ⌜ (length r ≡ enoughRecords) × (take (madeRecords (now (numbers .entry))) r ≡ take (madeRecords (now (numbers .entry))) (recordsOf (now (numbers .entry)))) ⌝ }
+    ensures { λ r. ⌜ (length r ≡ enoughRecords)
+        × (take (madeRecords (now (numbers .entry))) r ≡ take (madeRecords (now (numbers .entry))) (recordsOf (now (numbers .entry)))) ⌝ }
 {
     let mut tasks = [Task {
         work: 0,

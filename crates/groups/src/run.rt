@@ -22,8 +22,10 @@ fn run_of(
     counts: &mut [u32],
 ) -> Ran
     requires { ⌜ count ≤ enoughRecords ⌝ }
-    ensures answer { λ r. ⌜ toldRan r ≡ runAnswer (boardOf board) (now (windows .entry)) (numbersOf (take count tasks)) n (now (jobs .entry)) (length (now (counts .entry))) ⌝ }
-    ensures buffer { λ _. ⌜ now (counts .exit) ≡ runOut (boardOf board) (now (windows .entry)) (numbersOf (take count tasks)) n (now (jobs .entry)) (now (counts .entry)) ⌝ }
+    ensures answer { λ r. ⌜ toldRan r ≡ runAnswer (boardOf board) (now (windows .entry)) (numbersOf (take count tasks))
+        n (now (jobs .entry)) (length (now (counts .entry))) ⌝ }
+    ensures buffer { λ _. ⌜ now (counts .exit) ≡ runOut (boardOf board) (now (windows .entry)) (numbersOf (take count tasks))
+        n (now (jobs .entry)) (now (counts .entry)) ⌝ }
 {
     records::run::run(board, windows, &tasks[..count], n, jobs, counts)
 }
@@ -37,8 +39,10 @@ pub fn run(
     jobs: &[u32],
     counts: &mut [u32],
 ) -> Ran
-    ensures answer { λ r. ⌜ toldRan r ≡ runAnswer (boardOf board) (now (windows .entry)) (now (numbers .entry)) n (now (jobs .entry)) (length (now (counts .entry))) ⌝ }
-    ensures buffer { λ _. ⌜ now (counts .exit) ≡ runOut (boardOf board) (now (windows .entry)) (now (numbers .entry)) n (now (jobs .entry)) (now (counts .entry)) ⌝ }
+    ensures answer { λ r. ⌜ toldRan r ≡ runAnswer (boardOf board) (now (windows .entry)) (now (numbers .entry))
+        n (now (jobs .entry)) (length (now (counts .entry))) ⌝ }
+    ensures buffer { λ _. ⌜ now (counts .exit) ≡ runOut (boardOf board) (now (windows .entry)) (now (numbers .entry))
+        n (now (jobs .entry)) (now (counts .entry)) ⌝ }
 {
     run_of(
         gathered(numbers),

@@ -50,7 +50,8 @@ Last cs ys = finally u32 (cs .name) ys
 -- ---- the code lends the buffer, which is the local c, anew, in the locals r and l
 
 abbrev pub anew : ℕ → ℕ → ℕ → Body → Body
-anew c r l body = seq (assign (place r []) (addrOf (place c (field 0 ∷ deref (tyInt w32) ∷ [])))) (seq (assign (place l []) (aggregate (copy (place r []) ∷ copy (place c (field 1 ∷ [])) ∷ []))) body)
+anew c r l body = seq (assign (place r []) (addrOf (place c (field 0 ∷ deref (tyInt w32) ∷ []))))
+    (seq (assign (place l []) (aggregate (copy (place r []) ∷ copy (place c (field 1 ∷ [])) ∷ []))) body)
 
 abbrev pub lent-anew : Numbers → Carried
 lent-anew cs = (tyRef erased mut (tyInt w32), vptr (cs .ptr .0) (cs .ptr .1)) ∷ (sliceTy (tyRef erased mut (tyInt w32)), numbers-val cs) ∷ []
@@ -74,25 +75,33 @@ module _ (κ : Lft) (n : ℕ) (js : Numbers) where
   Rest counts = fsep (u32 .own n (vint w32 n ∷ [])) (fsep (JobsOwn κ js) (fsep counts ftrue))
 
 module _ {M : Type 1} (𝓤 : URA M) (H : Heap 𝓤) (A : Atoms 𝓤) (W : Given 𝓤 H A) where
-  pub rest-out : (κ : Lft) (n : ℕ) (js : Numbers) (counts : Fml) → ent 𝓤 (sem 𝓤 H A (Rest κ n js counts)) (⋆ 𝓤 H A ((‵ (JobsOwn κ js) ⊛ ‵ counts ⊛ ‵ (JobsOwn κ js)) ∷ []))
+  pub rest-out : (κ : Lft) (n : ℕ) (js : Numbers) (counts : Fml) →
+      ent 𝓤 (sem 𝓤 H A (Rest κ n js counts)) (⋆ 𝓤 H A ((‵ (JobsOwn κ js) ⊛ ‵ counts ⊛ ‵ (JobsOwn κ js)) ∷ []))
   rest-out κ n js counts =
-      qed W (‵ (Rest κ n js counts) ∷ []) ∵ fsplit ! $ drop ! $ fsplit ! $ use1 W (‵ (JobsOwn κ js) ⊛ ‵ (JobsOwn κ js)) (shr-slice-copy 𝓤 H A W (named 1) κ u32 .twice js (numbers-val js ∷ [])) $ split ! $ move ! (2 ∷ []) $
+      qed W (‵ (Rest κ n js counts) ∷ []) ∵ fsplit ! $ drop ! $ fsplit ! $
+      use1 W (‵ (JobsOwn κ js) ⊛ ‵ (JobsOwn κ js)) (shr-slice-copy 𝓤 H A W (named 1) κ u32 .twice js (numbers-val js ∷ [])) $ split ! $ move ! (2 ∷ []) $
       fsplit ! $ move ! (2 ∷ 0 ∷ 3 ∷ []) $ group ! 3 $ keep ! (0 ∷ []) $ done !
 
-  pub rest-in : (κ : Lft) (n : ℕ) (js : Numbers) (counts : Fml) → n < 2 ^ 32 → ent 𝓤 (⋆ 𝓤 H A (‵ (JobsOwn κ js) ∷ ‵ counts ∷ [])) (sem 𝓤 H A (Rest κ n js counts))
+  pub rest-in : (κ : Lft) (n : ℕ) (js : Numbers) (counts : Fml) → n < 2 ^ 32 →
+      ent 𝓤 (⋆ 𝓤 H A (‵ (JobsOwn κ js) ∷ ‵ counts ∷ [])) (sem 𝓤 H A (Rest κ n js counts))
   rest-in κ n js counts fits =
-      qed W (‵ (JobsOwn κ js) ∷ ‵ counts ∷ []) ∵ nothing ! $ move ! (2 ∷ 0 ∷ []) $ fjoin ! $ move ! (1 ∷ 0 ∷ []) $ fjoin ! $ owned ! u32 (Is u32) (uint-makes 𝓤 H A W w32) n _ (refl, fits) $ fjoin ! $ done !
+      qed W (‵ (JobsOwn κ js) ∷ ‵ counts ∷ []) ∵ nothing ! $ move ! (2 ∷ 0 ∷ []) $ fjoin ! $
+      move ! (1 ∷ 0 ∷ []) $ fjoin ! $ owned ! u32 (Is u32) (uint-makes 𝓤 H A W w32) n _ (refl, fits) $ fjoin ! $ done !
 
   module _ (b : Board) (ws : Windows) (ts : List ℕ) (n : ℕ) (js cs : Numbers) (r : Ran) where
     -- of six parameters, of which the buffer is the last, and both clauses
     abbrev pub Ensured : List ℕ → Item 𝓤
-    Ensured ys = ‵ (fsep ftrue (fsep ftrue (fsep ftrue (fsep ftrue (fsep ftrue (fsep (fsep (Last cs ys) (feq ℕ (length ys) (length (cs .now)))) ftrue)))))) ⊛ raw (fact 𝓤 (Answered b ws ts n js cs r)) ⊛ raw (fact 𝓤 (Written b ws ts n js cs ys))
+    Ensured ys =
+        ‵ (fsep ftrue (fsep ftrue (fsep ftrue (fsep ftrue (fsep ftrue (fsep (fsep (Last cs ys) (feq ℕ (length ys) (length (cs .now)))) ftrue))))))
+        ⊛ raw (fact 𝓤 (Answered b ws ts n js cs r)) ⊛ raw (fact 𝓤 (Written b ws ts n js cs ys))
 
     abbrev pub Lasted : Item 𝓤
     Lasted = some (λ (ys : List ℕ). given (Told b ws ts n js cs r ys) (‵ (Last cs ys)))
 
     pub lasted : (ys : List ℕ) → ent 𝓤 (mean 𝓤 H A (Ensured ys)) (⋆ 𝓤 H A (Lasted ∷ []))
     lasted ys =
-        qed W (Ensured ys ∷ []) ∵ split3 ! $ move ! (1 ∷ []) $ heard ! (Answered b ws ts n js cs r) (λ e. move ! (1 ∷ []) $ heard ! (Written b ws ts n js cs ys) (λ e′.
-        fsplit ! $ drop ! $ fsplit ! $ drop ! $ fsplit ! $ drop ! $ fsplit ! $ drop ! $ fsplit ! $ drop ! $ fsplit ! $ fsplit ! $ move ! (1 ∷ []) $ feqL ! (λ same. keep ! (0 ∷ []) $
+        qed W (Ensured ys ∷ []) ∵ split3 ! $ move ! (1 ∷ []) $
+        heard ! (Answered b ws ts n js cs r) (λ e. move ! (1 ∷ []) $ heard ! (Written b ws ts n js cs ys) (λ e′.
+        fsplit ! $ drop ! $ fsplit ! $ drop ! $ fsplit ! $ drop ! $ fsplit ! $ drop ! $
+        fsplit ! $ drop ! $ fsplit ! $ fsplit ! $ move ! (1 ∷ []) $ feqL ! (λ same. keep ! (0 ∷ []) $
         show ! (λ (zs : List ℕ). guard 𝓤 (Told b ws ts n js cs r zs) (sem 𝓤 H A (Last cs zs))) ys $ check ! (e, e′, same) $ done !)))

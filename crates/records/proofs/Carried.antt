@@ -69,15 +69,19 @@ module _ {M : Type 1} {𝓤 : URA M} where
   spread (p ∷ ps) bs Γ = ‵ (fat fullShare (p .0) (bs .0) 0 (p .1)) ∷ ‵ (fdies (p .0) (bs .0)) ∷ spread ps (bs .1) Γ
 
 module _ {M : Type 1} {𝓤 : URA M} {H : Heap 𝓤} {A : Atoms 𝓤} (W : Given 𝓤 H A) where
-  pub allocs-all : (ps : Carried) {ls : List Local} {Γ : List (Item 𝓤)} {G : Env 𝓤 H → Goal 𝓤 H} → ((bs : Blocks ps) → Sq W (Rooms ps bs ∷ Γ) (allocs ls (λ E. G (envOf ps bs E)))) → Sq W Γ (allocs (locals ps ls) G)
+  pub allocs-all : (ps : Carried) {ls : List Local} {Γ : List (Item 𝓤)} {G : Env 𝓤 H → Goal 𝓤 H} →
+      ((bs : Blocks ps) → Sq W (Rooms ps bs ∷ Γ) (allocs ls (λ E. G (envOf ps bs E)))) → Sq W Γ (allocs (locals ps ls) G)
   allocs-all [] k = nothing ! $ k tt
   allocs-all (p ∷ ps) k = alloc1 ! (λ b. allocs-all ps (λ bs. move ! (1 ∷ 2 ∷ []) $ join ! $ join ! $ k (b, bs)))
 
-  pub passes-all : (ps : Carried) (bs : Blocks ps) (E : Env 𝓤 H) {Γ : List (Item 𝓤)} {G : Goal 𝓤 H} → Typed ps → Sq W (Cells ps bs ∷ Γ) G → Sq W (Rooms ps bs ∷ Γ) (passes (envOf ps bs E) (vals ps) G)
+  pub passes-all : (ps : Carried) (bs : Blocks ps) (E : Env 𝓤 H) {Γ : List (Item 𝓤)} {G : Goal 𝓤 H} →
+      Typed ps → Sq W (Cells ps bs ∷ Γ) G → Sq W (Rooms ps bs ∷ Γ) (passes (envOf ps bs E) (vals ps) G)
   passes-all [] bs E t k = pass0 ! $ k
-  passes-all (p ∷ ps) bs E t k = split ! $ split ! $ pass1 ! (init ! 0 refl (t .0)) $ move ! (2 ∷ []) $ passes-all ps (bs .1) E (t .1) (move ! (1 ∷ 2 ∷ []) $ join ! $ join ! $ k)
+  passes-all (p ∷ ps) bs E t k = split ! $ split ! $ pass1 ! (init ! 0 refl (t .0)) $
+      move ! (2 ∷ []) $ passes-all ps (bs .1) E (t .1) (move ! (1 ∷ 2 ∷ []) $ join ! $ join ! $ k)
 
-  pub frees-all : (ps : Carried) (bs : Blocks ps) (E : Env 𝓤 H) {Γ : List (Item 𝓤)} {G : Goal 𝓤 H} → Sq W Γ (frees E G) → Sq W (Cells ps bs ∷ Γ) (frees (envOf ps bs E) G)
+  pub frees-all : (ps : Carried) (bs : Blocks ps) (E : Env 𝓤 H) {Γ : List (Item 𝓤)} {G : Goal 𝓤 H} →
+      Sq W Γ (frees E G) → Sq W (Cells ps bs ∷ Γ) (frees (envOf ps bs E) G)
   frees-all [] bs E k = drop ! $ k
   frees-all (p ∷ ps) bs E k = split ! $ split ! $ forget ! 0 refl $ free1 ! $ frees-all ps (bs .1) E k
 
@@ -97,8 +101,10 @@ module _ {M : Type 1} {𝓤 : URA M} {H : Heap 𝓤} {A : Atoms 𝓤} where
 
   under : {i : Item 𝓤} {Γ Γ′ : List (Item 𝓤)} → Same H A Γ Γ′ → Same H A (i ∷ Γ) (i ∷ Γ′)
   under {i} {Γ} {Γ′} e = record {
-    out = via 𝓤 (sep 𝓤 (mean 𝓤 H A i) (⋆ 𝓤 H A Γ)) (pop 𝓤 H A i Γ) (via 𝓤 (sep 𝓤 (mean 𝓤 H A i) (⋆ 𝓤 H A Γ′)) (monoR 𝓤 (mean 𝓤 H A i) (e .out)) (push 𝓤 H A i Γ′));
-    back = via 𝓤 (sep 𝓤 (mean 𝓤 H A i) (⋆ 𝓤 H A Γ′)) (pop 𝓤 H A i Γ′) (via 𝓤 (sep 𝓤 (mean 𝓤 H A i) (⋆ 𝓤 H A Γ)) (monoR 𝓤 (mean 𝓤 H A i) (e .back)) (push 𝓤 H A i Γ));
+    out = via 𝓤 (sep 𝓤 (mean 𝓤 H A i) (⋆ 𝓤 H A Γ)) (pop 𝓤 H A i Γ)
+        (via 𝓤 (sep 𝓤 (mean 𝓤 H A i) (⋆ 𝓤 H A Γ′)) (monoR 𝓤 (mean 𝓤 H A i) (e .out)) (push 𝓤 H A i Γ′));
+    back = via 𝓤 (sep 𝓤 (mean 𝓤 H A i) (⋆ 𝓤 H A Γ′)) (pop 𝓤 H A i Γ′)
+        (via 𝓤 (sep 𝓤 (mean 𝓤 H A i) (⋆ 𝓤 H A Γ)) (monoR 𝓤 (mean 𝓤 H A i) (e .back)) (push 𝓤 H A i Γ));
   }
 
   then : {Γ Γ′ Γ″ : List (Item 𝓤)} → Same H A Γ Γ′ → Same H A Γ′ Γ″ → Same H A Γ Γ″
@@ -119,7 +125,8 @@ module _ {M : Type 1} {𝓤 : URA M} {H : Heap 𝓤} {A : Atoms 𝓤} (W : Given
   pub shut : (ps : Carried) (bs : Blocks ps) (Γ : List (Item 𝓤)) {G : Goal 𝓤 H} → Sq W (Cells ps bs ∷ Γ) G → Sq W (spread ps bs Γ) G
   shut ps bs Γ s = record { prf = via 𝓤 _ (spreads ps bs {Γ = Γ} itself .back) (s .prf) }
 
-  pub read-all : (i j : Item 𝓤) (ps : Carried) (bs : Blocks ps) (qs : Carried) (cs : Blocks qs) (Γ : List (Item 𝓤)) {E : Env 𝓤 H} {xs : List Operand} {vs : List Val} →
+  pub read-all : (i j : Item 𝓤) (ps : Carried) (bs : Blocks ps) (qs : Carried)
+      (cs : Blocks qs) (Γ : List (Item 𝓤)) {E : Env 𝓤 H} {xs : List Operand} {vs : List Val} →
       Opds (Go {0}) W (i ∷ j ∷ spread ps bs (spread qs cs Γ)) E xs vs → Opds (Go {0}) W (i ∷ j ∷ Cells ps bs ∷ Cells qs cs ∷ Γ) E xs vs
   read-all i j ps bs qs cs Γ o =
       let e : Same H A (i ∷ j ∷ Cells ps bs ∷ Cells qs cs ∷ Γ) (i ∷ j ∷ spread ps bs (spread qs cs Γ)) = under (under (spreads ps bs (spreads qs cs itself))) in

@@ -30,7 +30,8 @@ three-more l n a b c h =
     let e₁ : length l₁ ≡ length l = length-set l n a in
     let e₂ : length l₂ ≡ length l₁ = length-set l₁ (n + 1) b in
     one-more l₂ (n + 2) (n + 3) c (omega arith) (omega arith)
-    ∙ ap (λ (m : List ℕ). m ++ (c ∷ [])) (one-more l₁ (n + 1) (n + 2) b (omega arith) (omega arith) ∙ ap (λ (m : List ℕ). m ++ (b ∷ [])) (one-more l n (n + 1) a (omega arith) (omega arith)))
+    ∙ ap (λ (m : List ℕ). m ++ (c ∷ []))
+    (one-more l₁ (n + 1) (n + 2) b (omega arith) (omega arith) ∙ ap (λ (m : List ℕ). m ++ (b ∷ [])) (one-more l n (n + 1) a (omega arith) (omega arith)))
     ∙ rw (append-assoc, append-assoc)
 
 -- ---- the numbers of the first i records

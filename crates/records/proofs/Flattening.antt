@@ -66,7 +66,8 @@ module _ {M : Type 1} (𝓤 : URA M) (H : Heap 𝓤) (A : Atoms 𝓤) (W : Given
     (tasks : ℕ) (f : Name) (res : Ty) (ps es : Carried) (first : Body → Body) (xs : List Operand)
     (callee : Contract 𝓤) (κ : Lft) (q : Share) (ts : Records) (Entry : Item 𝓤) (Post′ : Val → SProp 𝓤) where
   -- Of the records, at the lifetime κ: that the entry has what `flatten` asks, and `Left`.
-  -- Of the call with what `flatten` returned: what it binds outside; that there is what it asks, and `Kept`; what it gives, a value X with what is said of it, and `Back`; and that these and `Kept` are what the entry ends with
+  -- Of the call with what `flatten` returned: what it binds outside; that there is what it asks, and `Kept`;
+  -- what it gives, a value X with what is said of it, and `Back`; and that these and `Kept` are what the entry ends with
   pub record Flattens : Type 2 where
     pub X : Type 0
     pub Said : Flat → X → Val → Type 0
@@ -75,35 +76,47 @@ module _ {M : Type 1} (𝓤 : URA M) (H : Heap 𝓤) (A : Atoms 𝓤) (W : Given
     pub Back : X → Item 𝓤
     pub opens : ent 𝓤 (mean 𝓤 H A Entry) (⋆ 𝓤 H A ((Left ⊛ raw (Flatten 𝓤 H A mem run .pre (to-flatten 𝓤 H A W mem run κ q ts))) ∷ []))
     pub to : Flat → Val → callee .Ghost
-    pub goes : (r : Flat) (v : Val) → Flattened (ts .now) r → Is F.the-row r (v ∷ []) → ent 𝓤 (⋆ 𝓤 H A (Token κ q ∷ Left ∷ [])) (⋆ 𝓤 H A ((Kept ⊛ raw (callee .pre (to r v))) ∷ []))
+    pub goes : (r : Flat) (v : Val) → Flattened (ts .now) r → Is F.the-row r (v ∷ []) →
+        ent 𝓤 (⋆ 𝓤 H A (Token κ q ∷ Left ∷ [])) (⋆ 𝓤 H A ((Kept ⊛ raw (callee .pre (to r v))) ∷ []))
     pub gives : (r : Flat) (v w : Val) → ent 𝓤 (callee .post (to r v) w) (mean 𝓤 H A (later (some (λ (x : X). given (Said r x w) (Back x)))))
     pub typed : (r : Flat) (x : X) (w : Val) → Said r x w → T (hasTy res w) × WT w
     pub ends : (r : Flat) (x : X) (w : Val) → Flattened (ts .now) r → Said r x w → ent 𝓤 (⋆ 𝓤 H A (Back x ∷ Kept ∷ [])) (Post′ w)
     -- the statements before the call
-    pub starts : (s : Spots ps es) {Γ : List (Item 𝓤)} {b : Body} {q : Post 𝓤 H} → Sq W (Cells es (s .more) ∷ Cells ps (s .passed) ∷ Γ) (runs C Λ (envAt res ps es s) b q)
+    pub starts : (s : Spots ps es) {Γ : List (Item 𝓤)} {b : Body} {q : Post 𝓤 H} →
+        Sq W (Cells es (s .more) ∷ Cells ps (s .passed) ∷ Γ) (runs C Λ (envAt res ps es s) b q)
         → Sq W (Rooms es (s .more) ∷ Cells ps (s .passed) ∷ Γ) (runs C Λ (envAt res ps es s) (first b) q)
     -- the operands of both calls
     pub reads-tasks : (s : Spots ps es) (i j : Item 𝓤) (Γ : List (Item 𝓤))
-        → Opds (Go {0}) W (i ∷ j ∷ spread ps (s .passed) (‵ ftrue ∷ Γ)) (envAt res ps es s) (copy (place tasks []) ∷ []) (Flatten 𝓤 H A mem run .args (to-flatten 𝓤 H A W mem run κ q ts))
+        → Opds (Go {0}) W (i ∷ j ∷ spread ps (s .passed) (‵ ftrue ∷ Γ)) (envAt res ps es s)
+        (copy (place tasks []) ∷ []) (Flatten 𝓤 H A mem run .args (to-flatten 𝓤 H A W mem run κ q ts))
     pub reads : (s : Spots ps es) (r : Flat) (v : Val) (Γ : List (Item 𝓤))
-        → Opds (Go {0}) W (raw (callee .pre (to r v)) ∷ ‵ (fat fullShare F′.mir (s .flat) 0 v) ∷ spread ps (s .passed) (spread es (s .more) Γ)) (envAt res ps es s) xs (callee .args (to r v))
+        → Opds (Go {0}) W (raw (callee .pre (to r v)) ∷ ‵ (fat fullShare F′.mir (s .flat) 0 v) ∷ spread ps (s .passed) (spread es (s .more) Γ))
+        (envAt res ps es s) xs (callee .args (to r v))
 
   module _ (flat : Flattens) (fm : FmC 𝓤 H (W .laws) C) (known-flatten : Triple 𝓤 (C #flatten) (Flatten 𝓤 H A mem run)) (known : Triple 𝓤 (C f) callee) where
-    pub flattens : (lifetimes params : ℕ) → Typed ps → ent 𝓤 (mean 𝓤 H A Entry) (WpFn 𝓤 H C Λ (flattening tasks f res ps es first xs lifetimes params) (vals ps) Post′)
+    pub flattens : (lifetimes params : ℕ) → Typed ps →
+        ent 𝓤 (mean 𝓤 H A Entry) (WpFn 𝓤 H C Λ (flattening tasks f res ps es first xs lifetimes params) (vals ps) Post′)
     flattens lifetimes params typed =
         qed W (Entry ∷ []) ∵ enter ! C Λ (flattening tasks f res ps es first xs lifetimes params) (vals ps) _ $
         alloc1 ! (λ l. allocs-all W ps (λ bs. alloc1 ! (λ m. allocs-all W es (λ cs. alloc0 ! $ params1 ! $ move ! (3 ∷ []) $ passes-all W ps bs _ typed (
         -- [ps; room of es; for what `flatten` returns; …; for _0; …; `Entry`]
-        nothing ! $ move ! (7 ∷ []) $ use1 W (flat .Left ⊛ raw (Flatten 𝓤 H A mem run .pre (to-flatten 𝓤 H A W mem run κ q ts))) (flat .opens) $ split ! $ move ! (1 ∷ 0 ∷ 3 ∷ 2 ∷ []) $
+        nothing ! $ move ! (7 ∷ []) $ use1 W (flat .Left ⊛ raw (Flatten 𝓤 H A mem run .pre (to-flatten 𝓤 H A W mem run κ q ts))) (flat .opens) $
+        split ! $ move ! (1 ∷ 0 ∷ 3 ∷ 2 ∷ []) $
         -- [what `flatten` asks; `Left`; ps; true; room of es; for what `flatten` returns; …; for _0; …]
-        calls-at ! fm (Flatten 𝓤 H A mem run) known-flatten (to-flatten 𝓤 H A W mem run κ q ts) (read-all W _ _ ps bs [] tt _ (flat .reads-tasks (spots ps es l bs m cs) _ _ _)) (λ v.
-        use1 W (later (some (λ (r : Flat). (Token κ q ⊛ ‵ (F.the-row .own r (v ∷ []))) ⊛ raw (ensured 𝓤 H A flatten.ended (flatten.clauses 𝓤 H A mem run) (κ, tt) (ts, tt) tt r)))) (id⊢ 𝓤 _) $ await ! tt $ pick ! (λ r.
-        split ! $ move ! (1 ∷ []) $ use1 W (raw (fact 𝓤 (Flattened (ts .now) r))) (flatten-of 𝓤 H A mem run κ ts r) $ heard ! (Flattened (ts .now) r) (λ told. split ! $ move ! (1 ∷ []) $
-        facts ! F.the-row (Is F.the-row) (shows 𝓤 H A F.the-row) r (v ∷ []) (λ is. land ! (found W (env-after _ ps bs _ 0)) (init ! 5 refl (LL.lawful F.the-type F′.the-laws 𝓤 H A W .typed r _ is .0)) $
+        calls-at ! fm (Flatten 𝓤 H A mem run) known-flatten (to-flatten 𝓤 H A W mem run κ q ts)
+        (read-all W _ _ ps bs [] tt _ (flat .reads-tasks (spots ps es l bs m cs) _ _ _)) (λ v.
+        use1 W (later (some (λ (r : Flat). (Token κ q ⊛ ‵ (F.the-row .own r (v ∷ [])))
+        ⊛ raw (ensured 𝓤 H A flatten.ended (flatten.clauses 𝓤 H A mem run) (κ, tt) (ts, tt) tt r)))) (id⊢ 𝓤 _) $ await ! tt $ pick ! (λ r.
+        split ! $ move ! (1 ∷ []) $ use1 W (raw (fact 𝓤 (Flattened (ts .now) r))) (flatten-of 𝓤 H A mem run κ ts r) $
+        heard ! (Flattened (ts .now) r) (λ told. split ! $ move ! (1 ∷ []) $
+        facts ! F.the-row (Is F.the-row) (shows 𝓤 H A F.the-row) r (v ∷ []) (λ is.
+        land ! (found W (env-after _ ps bs _ 0)) (init ! 5 refl (LL.lawful F.the-type F′.the-laws 𝓤 H A W .typed r _ is .0)) $
         -- [the records' token; `Left`; ps; true; room of es; what `flatten` returned; …; room for _0; …]
-        move ! (4 ∷ 2 ∷ []) $ flat .starts (spots ps es l bs m cs) (move ! (2 ∷ 3 ∷ []) $ use2 W (flat .Kept ⊛ raw (callee .pre (flat .to r v))) (flat .goes r v told is) $ split ! $ move ! (1 ∷ 5 ∷ 3 ∷ 2 ∷ []) $
+        move ! (4 ∷ 2 ∷ []) $ flat .starts (spots ps es l bs m cs) (move ! (2 ∷ 3 ∷ []) $
+        use2 W (flat .Kept ⊛ raw (callee .pre (flat .to r v))) (flat .goes r v told is) $ split ! $ move ! (1 ∷ 5 ∷ 3 ∷ 2 ∷ []) $
         -- [what is asked; what `flatten` returned; ps; es; `Kept`; true; …; room for _0; …]
         calls-at ! fm callee known (flat .to r v) (read-all W _ _ ps bs es cs _ (flat .reads (spots ps es l bs m cs) r v _)) (λ w.
-        use1 W (later (some (λ (x : flat .X). given (flat .Said r x w) (flat .Back x)))) (flat .gives r v w) $ await ! tt $ pick ! (λ x. learn ! (λ said. land ! (from ! (stop !)) (init ! 7 refl (flat .typed r x w said)) $
+        use1 W (later (some (λ (x : flat .X). given (flat .Said r x w) (flat .Back x)))) (flat .gives r v w) $
+        await ! tt $ pick ! (λ x. learn ! (λ said. land ! (from ! (stop !)) (init ! 7 refl (flat .typed r x w said)) $
         returns ! (look ! 7 refl) $ forget ! 1 refl $ forget ! 7 refl $ move ! (7 ∷ 8 ∷ []) $ free1 ! $ move ! (2 ∷ []) $ frees-all W ps bs _ (
         move ! (1 ∷ 5 ∷ []) $ free1 ! $ move ! (1 ∷ []) $ frees-all W es cs [] (free0 ! $ keep ! (0 ∷ 1 ∷ []) $ by ! (flat .ends r x w told said))))))))))))))))

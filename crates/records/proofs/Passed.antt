@@ -95,8 +95,10 @@ module _ {M : Type 1} (𝓤 : URA M) (H : Heap 𝓤) (A : Atoms 𝓤) (W : Given
 
   pub lists-out : ent 𝓤 (sem 𝓤 H A Params) (⋆ 𝓤 H A (Twice ∷ []))
   lists-out =
-      qed W (‵ Params ∷ []) ∵ fsplit ! $ drop ! $ fsplit ! $ use1 W (‵ (WindowsOwn κ ws) ⊛ ‵ (WindowsOwn κ ws)) (shr-slice-copy 𝓤 H A W (named 0) κ u32 .twice ws (windows-val ws ∷ [])) $ move ! (1 ∷ []) $
-      fsplit ! $ use1 W (‵ (RecordsOwn κ′ ts) ⊛ ‵ (RecordsOwn κ′ ts)) (shr-slice-copy 𝓤 H A W (named 1) κ′ T.the-row .twice ts (records-val ts ∷ [])) $ split ! $ move ! (1 ∷ 3 ∷ []) $ join ! $ move ! (1 ∷ 0 ∷ []) $ join ! $ keep ! (0 ∷ []) $ done !
+      qed W (‵ Params ∷ []) ∵ fsplit ! $ drop ! $ fsplit ! $
+      use1 W (‵ (WindowsOwn κ ws) ⊛ ‵ (WindowsOwn κ ws)) (shr-slice-copy 𝓤 H A W (named 0) κ u32 .twice ws (windows-val ws ∷ [])) $ move ! (1 ∷ []) $
+      fsplit ! $ use1 W (‵ (RecordsOwn κ′ ts) ⊛ ‵ (RecordsOwn κ′ ts)) (shr-slice-copy 𝓤 H A W (named 1) κ′ T.the-row .twice ts (records-val ts ∷ [])) $
+      split ! $ move ! (1 ∷ 3 ∷ []) $ join ! $ move ! (1 ∷ 0 ∷ []) $ join ! $ keep ! (0 ∷ []) $ done !
 
   pub lists-in : Is B.the-row b (board-vals b) → ent 𝓤 (⋆ 𝓤 H A (‵ (RecordsOwn κ′ ts) ∷ ‵ (WindowsOwn κ ws) ∷ ‵ rest ∷ [])) (sem 𝓤 H A Params)
   lists-in is =
@@ -110,10 +112,12 @@ module _ {M : Type 1} (𝓤 : URA M) (H : Heap 𝓤) (A : Atoms 𝓤) (mem : Mem
   Flatten = tripleOf 𝓤 H A flatten.signature (flatten.spec 𝓤 H A mem run)
 
   -- of its `ensured`, the clause alone: it has no last value
-  pub flatten-of : (κ : Lft) (ts : Records) (r : Flat) → ent 𝓤 (ensured 𝓤 H A flatten.ended (flatten.clauses 𝓤 H A mem run) (κ, tt) (ts, tt) tt r) (fact 𝓤 (Flattened (ts .now) r))
+  pub flatten-of : (κ : Lft) (ts : Records) (r : Flat) →
+      ent 𝓤 (ensured 𝓤 H A flatten.ended (flatten.clauses 𝓤 H A mem run) (κ, tt) (ts, tt) tt r) (fact 𝓤 (Flattened (ts .now) r))
   flatten-of κ ts r = exE 𝓤 _ (λ zs. snd∗ 𝓤 (sem 𝓤 H A (lasts flatten.ended (κ, tt) (ts, tt) zs)) (fact 𝓤 (Flattened (ts .now) r)))
 
-module _ {M : Type 1} (𝓤 : URA M) (H : Heap 𝓤) (A : Atoms 𝓤) (W : Given 𝓤 H A) (mem : Memory → SProp 𝓤) (run : Routine → Fun 𝓤) (κ : Lft) (q : Share) (ts : Records) where
+module _ {M : Type 1} (𝓤 : URA M) (H : Heap 𝓤) (A : Atoms 𝓤) (W : Given 𝓤 H A)
+    (mem : Memory → SProp 𝓤) (run : Routine → Fun 𝓤) (κ : Lft) (q : Share) (ts : Records) where
   -- what its triple binds outside, and that the caller has what it asks
   abbrev pub to-flatten : Flatten 𝓤 H A mem run .Ghost
   to-flatten = (((κ, tt), (q, tt), tt, (ts, tt), (records-val ts ∷ [], tt)), tt)
@@ -123,7 +127,8 @@ module _ {M : Type 1} (𝓤 : URA M) (H : Heap 𝓤) (A : Atoms 𝓤) (W : Given
 
 -- ---- the entries whose parameters after the records are plain data
 
-module _ {M : Type 1} (𝓤 : URA M) (H : Heap 𝓤) (A : Atoms 𝓤) (W : Given 𝓤 H A) (κ κ′ : Lft) (q q′ : Share) (b : Board) (ws : Windows) (ts : Records) (rest : Fml) where
+module _ {M : Type 1} (𝓤 : URA M) (H : Heap 𝓤) (A : Atoms 𝓤) (W : Given 𝓤 H A) (κ κ′ : Lft)
+    (q q′ : Share) (b : Board) (ws : Windows) (ts : Records) (rest : Fml) where
   abbrev pub Entry : Item 𝓤
   Entry = (‵ (flft κ q) ⊛ Token κ′ q′) ⊛ ‵ (Params 𝓤 H A W κ κ′ b ws ts rest)
 
@@ -138,26 +143,32 @@ module _ {M : Type 1} (𝓤 : URA M) (H : Heap 𝓤) (A : Atoms 𝓤) (W : Given
   abbrev pub OnNumbers : Flat → Val → Fml
   OnNumbers f v = fsep (BoardOwn b) (fsep (WindowsOwn κ ws) (fsep (F.the-row .own f (v ∷ [])) rest))
 
-  pub opened : (mem : Memory → SProp 𝓤) (run : Routine → Fun 𝓤) → ent 𝓤 (mean 𝓤 H A Entry) (⋆ 𝓤 H A ((Left ⊛ raw (Flatten 𝓤 H A mem run .pre (to-flatten 𝓤 H A W mem run κ′ q′ ts))) ∷ []))
+  pub opened : (mem : Memory → SProp 𝓤) (run : Routine → Fun 𝓤) →
+      ent 𝓤 (mean 𝓤 H A Entry) (⋆ 𝓤 H A ((Left ⊛ raw (Flatten 𝓤 H A mem run .pre (to-flatten 𝓤 H A W mem run κ′ q′ ts))) ∷ []))
   opened mem run =
-      qed W (Entry ∷ []) ∵ split ! $ move ! (1 ∷ []) $ use1 W (Twice 𝓤 H A W κ κ′ b ws ts rest) (lists-out 𝓤 H A W κ κ′ b ws ts rest) $ split ! $ move ! (2 ∷ []) $ split ! $
+      qed W (Entry ∷ []) ∵ split ! $ move ! (1 ∷ []) $
+      use1 W (Twice 𝓤 H A W κ κ′ b ws ts rest) (lists-out 𝓤 H A W κ κ′ b ws ts rest) $ split ! $ move ! (2 ∷ []) $ split ! $
       move ! (3 ∷ 0 ∷ []) $ join ! $ frame ! $ by ! (goes-flatten 𝓤 H A W mem run κ′ q′ ts)
 
   module _ (good : Is B.the-row b (board-vals b)) (made : ent 𝓤 (emp 𝓤) (sem 𝓤 H A rest)) where
     pub asked : (f : Flat) (v : Val) → f .len ≤ enoughNumbers → Is F.the-row f (v ∷ []) → ent 𝓤 (⋆ 𝓤 H A (Token κ′ q′ ∷ Left ∷ []))
         (⋆ 𝓤 H A ((Kept ⊛ ((Token κ q ⊛ ‵ (OnNumbers f v)) ⊛ raw (fact 𝓤 (f .len ≤ enoughNumbers)))) ∷ []))
     asked f v le is =
-        qed W (Token κ′ q′ ∷ Left ∷ []) ∵ move ! (1 ∷ []) $ split ! $ split ! $ move ! (1 ∷ []) $ split ! $ move ! (4 ∷ 2 ∷ 0 ∷ []) $ group ! 3 $ frame ! $ says ! le $
+        qed W (Token κ′ q′ ∷ Left ∷ []) ∵ move ! (1 ∷ []) $ split ! $ split ! $
+        move ! (1 ∷ []) $ split ! $ move ! (4 ∷ 2 ∷ 0 ∷ []) $ group ! 3 $ frame ! $ says ! le $
         -- [windows; their token]
         use0 W (‵ rest) made $ owned ! F.the-row (Is F.the-row) (LL.makes F.the-type F′.the-plain 𝓤 H A) f _ is $ fjoin ! $ move ! (1 ∷ 0 ∷ []) $ fjoin ! $
-        owned ! B.the-row (Is B.the-row) (LL.makes B.the-type B′.the-plain 𝓤 H A) b _ good $ fjoin ! $ nothing ! $ move ! (2 ∷ 0 ∷ []) $ join ! $ frame ! $ done !
+        owned ! B.the-row (Is B.the-row) (LL.makes B.the-type B′.the-plain 𝓤 H A) b _ good $ fjoin ! $
+        nothing ! $ move ! (2 ∷ 0 ∷ []) $ join ! $ frame ! $ done !
 
     module _ (R : RattleType) (makes : Makes 𝓤 H A R (Is R)) where
       pub answered : (Right : R .Denot → Type 0) (w : Val) (P : R .Denot → SProp 𝓤) → ((r : R .Denot) → ent 𝓤 (P r) (fact 𝓤 (Right r)))
-          → ent 𝓤 (mean 𝓤 H A (later (some (λ (r : R .Denot). (Token κ q ⊛ ‵ (R .own r (w ∷ []))) ⊛ raw (P r))))) (mean 𝓤 H A (later (some (λ (r : R .Denot). given (Right r × Is R r (w ∷ [])) (Token κ q)))))
+          → ent 𝓤 (mean 𝓤 H A (later (some (λ (r : R .Denot). (Token κ q ⊛ ‵ (R .own r (w ∷ []))) ⊛ raw (P r)))))
+          (mean 𝓤 H A (later (some (λ (r : R .Denot). given (Right r × Is R r (w ∷ [])) (Token κ q)))))
       answered Right w P hears =
           qed W (later (some (λ (r : R .Denot). (Token κ q ⊛ ‵ (R .own r (w ∷ []))) ⊛ raw (P r))) ∷ []) ∵ updating ! $ await ! tt $ pick ! (λ r.
-          split ! $ move ! (1 ∷ []) $ use1 W (raw (fact 𝓤 (Right r))) (hears r) $ heard ! (Right r) (λ e. split ! $ move ! (1 ∷ []) $ facts ! R (Is R) (shows 𝓤 H A R) r (w ∷ []) (λ is. at-once ! $
+          split ! $ move ! (1 ∷ []) $ use1 W (raw (fact 𝓤 (Right r))) (hears r) $ heard ! (Right r) (λ e. split ! $
+          move ! (1 ∷ []) $ facts ! R (Is R) (shows 𝓤 H A R) r (w ∷ []) (λ is. at-once ! $
           show ! (λ (x : R .Denot). mean 𝓤 H A (given (Right x × Is R x (w ∷ [])) (Token κ q))) r $ check ! (e, is) $ done !)))
 
       pub ended : (Right : R .Denot → Type 0) (r : R .Denot) (w : Val) → Right r → Is R r (w ∷ []) → ent 𝓤 (⋆ 𝓤 H A (Token κ q ∷ Kept ∷ []))
@@ -165,4 +176,5 @@ module _ {M : Type 1} (𝓤 : URA M) (H : Heap 𝓤) (A : Atoms 𝓤) (W : Given
       ended Right r w e is =
           qed W (Token κ q ∷ Kept ∷ []) ∵ says ! e $ split ! $ move ! (2 ∷ []) $ split ! $ move ! (2 ∷ 0 ∷ []) $ join ! $ frame ! $ split ! $
           -- [records; windows; true]
-          use0 W (‵ rest) made $ move ! (1 ∷ 2 ∷ 0 ∷ []) $ use3 W (‵ (Params 𝓤 H A W κ κ′ b ws ts rest)) (lists-in 𝓤 H A W κ κ′ b ws ts rest good) $ frame ! $ owned ! R (Is R) makes r _ is $ keep ! (0 ∷ []) $ done !
+          use0 W (‵ rest) made $ move ! (1 ∷ 2 ∷ 0 ∷ []) $ use3 W (‵ (Params 𝓤 H A W κ κ′ b ws ts rest)) (lists-in 𝓤 H A W κ κ′ b ws ts rest good) $
+          frame ! $ owned ! R (Is R) makes r _ is $ keep ! (0 ∷ []) $ done !

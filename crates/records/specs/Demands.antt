@@ -42,7 +42,8 @@ module _ (xs : List Task) where
         toldMargin x ≡ marginAnswer (boardOf b) ws (numbersOf xs) t → toldMargin y ≡ marginAnswer (boardOf b) ws (numbersOf xs) t → x ≡ y
     same-margin t x y p q = margin-determined x y (p ∙ sym q)
 
-    pub same-verdict : (x y : Verdict) → toldVerdict x ≡ verdictAnswer (boardOf b) ws (numbersOf xs) → toldVerdict y ≡ verdictAnswer (boardOf b) ws (numbersOf xs) → x ≡ y
+    pub same-verdict : (x y : Verdict) → toldVerdict x ≡ verdictAnswer (boardOf b) ws (numbersOf xs) →
+        toldVerdict y ≡ verdictAnswer (boardOf b) ws (numbersOf xs) → x ≡ y
     same-verdict x y p q = verdict-determined x y (p ∙ sym q)
 
     pub same-bound : (i : ℕ) (x y : Bound) →

@@ -11,23 +11,11 @@ use tables::task::is_task;
 ghost use mathlib.Core.Path.{_≡_};
 ghost use Prim.Native.Nat.{_≤_};
 ghost use lib.ListN.{take};
-ghost use Rattle.scope.specs.Tasks.{task, taskDemand};
+ghost use Rattle.scope.specs.Tasks.{task};
 ghost use Rattle.scope.specs.Answers.{demandAnswer, marginAnswer};
 ghost use Rattle.tables.specs.Told.{boardOf, toldAmount, toldMargin};
 ghost use Rattle.records.specs.Numbers.{numbersOf, enoughNumbers};
 ghost use Rattle.records.specs.Sums.{beginOf, addOf, finishOf, Roomy};
-
-// The demand of one task at a length.
-fn task_demand(work: u32, period: u32, deadline: u32, length: u32) -> u64
-    requires { ⌜ 1 ≤ period ⌝ }
-    ensures { λ r. ⌜ r ≡ taskDemand (task work period deadline) length ⌝ }
-{
-    if length < deadline {
-        return 0;
-    }
-    let jobs = ((length - deadline) / period) as u64 + 1;
-    jobs * work as u64
-}
 
 // Before the first task: more than a group may have are refused.
 fn begin(count: usize) -> Amount
@@ -48,7 +36,12 @@ fn add(sum: Amount, i: usize, work: u32, period: u32, deadline: u32, length: u32
         Amount::Refused(r) => Amount::Refused(r),
         Amount::Of(n) => {
             if is_task(work, period, deadline) {
-                let more = task_demand(work, period, deadline, length);
+                let task = Task {
+                    work,
+                    period,
+                    deadline,
+                };
+                let more = task.demand(length);
                 return Amount::Of(n + more);
             }
             let place = i as u64;

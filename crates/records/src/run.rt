@@ -21,15 +21,18 @@ fn run_of(
     counts: &mut [u32],
 ) -> Ran
     requires { ⌜ flat .len ≤ enoughNumbers ⌝ }
-    ensures answer { λ r. ⌜ toldRan r ≡ runAnswer (boardOf board) (now (windows .entry)) (take (flat .len) (flat .numbers)) n (now (jobs .entry)) (length (now (counts .entry))) ⌝ }
-    ensures buffer { λ _. ⌜ now (counts .exit) ≡ runOut (boardOf board) (now (windows .entry)) (take (flat .len) (flat .numbers)) n (now (jobs .entry)) (now (counts .entry)) ⌝ }
+    ensures answer { λ r. ⌜ toldRan r ≡ runAnswer (boardOf board) (now (windows .entry)) (take (flat .len) (flat .numbers))
+        n (now (jobs .entry)) (length (now (counts .entry))) ⌝ }
+    ensures buffer { λ _. ⌜ now (counts .exit) ≡ runOut (boardOf board) (now (windows .entry)) (take (flat .len) (flat .numbers))
+        n (now (jobs .entry)) (now (counts .entry)) ⌝ }
 {
     let numbers = flat.numbers;
     let most = flat.len;
     machine::run::run(board, windows, &numbers[..most], n, jobs, counts)
 }
 
-// Runs a job list of a group on a table for n ticks: the answer, and one count for each job in the lent buffer. Refusals 1 2 3 4 (only of too many records) 5 10 11 8.
+// Runs a job list of a group on a table for n ticks: the answer, and one count for each job in the lent buffer.
+// Refusals 1 2 3 4 (only of too many records) 5 10 11 8.
 pub fn run(
     board: Board,
     windows: &[u32],
@@ -38,8 +41,10 @@ pub fn run(
     jobs: &[u32],
     counts: &mut [u32],
 ) -> Ran
-    ensures answer { λ r. ⌜ toldRan r ≡ runAnswer (boardOf board) (now (windows .entry)) (numbersOf (now (tasks .entry))) n (now (jobs .entry)) (length (now (counts .entry))) ⌝ }
-    ensures buffer { λ _. ⌜ now (counts .exit) ≡ runOut (boardOf board) (now (windows .entry)) (numbersOf (now (tasks .entry))) n (now (jobs .entry)) (now (counts .entry)) ⌝ }
+    ensures answer { λ r. ⌜ toldRan r ≡ runAnswer (boardOf board) (now (windows .entry)) (numbersOf (now (tasks .entry)))
+        n (now (jobs .entry)) (length (now (counts .entry))) ⌝ }
+    ensures buffer { λ _. ⌜ now (counts .exit) ≡ runOut (boardOf board) (now (windows .entry)) (numbersOf (now (tasks .entry)))
+        n (now (jobs .entry)) (now (counts .entry)) ⌝ }
 {
     run_of(board, windows, flatten(tasks), n, jobs, counts)
 }

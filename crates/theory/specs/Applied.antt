@@ -160,7 +160,8 @@ x-kept =
 run-kept-at : runOut (on 8) X (1 ∷ 4 ∷ 4 ∷ []) 10 (2 ∷ 0 ∷ []) (9 ∷ []) ≡ 9 ∷ []
 unfolding reply table
 run-kept-at =
-    let e : aRun (runAnswer (on 8) X (1 ∷ 4 ∷ 4 ∷ []) 10 (2 ∷ 0 ∷ []) 1) (runOut (on 8) X (1 ∷ 4 ∷ 4 ∷ []) 10 (2 ∷ 0 ∷ []) (9 ∷ [])) ≡ aRun (refused 10 0) (9 ∷ []) = row table examples "run refused by 10" in
+    let e : aRun (runAnswer (on 8) X (1 ∷ 4 ∷ 4 ∷ []) 10 (2 ∷ 0 ∷ []) 1) (runOut (on 8) X (1 ∷ 4 ∷ 4 ∷ []) 10 (2 ∷ 0 ∷ []) (9 ∷ []))
+    ≡ aRun (refused 10 0) (9 ∷ []) = row table examples "run refused by 10" in
     let bad : runAnswer (on 8) X (1 ∷ 4 ∷ 4 ∷ []) 10 (2 ∷ 0 ∷ []) 1 ≡ refused 10 0 = cc in
     run-kept 10 0 (on 8) X (1 ∷ 4 ∷ 4 ∷ []) 10 (2 ∷ 0 ∷ []) (9 ∷ []) bad
 

@@ -48,7 +48,10 @@ module _ (σ : ℕ → Bool) (P : ℕ) (ts : List Task) (i : ℕ) where
 
   pub least-bound : (t : ℕ) → (response σ P ts i ≡ bound t) ↔ ((1 ≤ t) × (t ≤ due) × Enough t × ((u : ℕ) → 1 ≤ u → u < t → Enough u → ⊥))
   unfolding response
-  least-bound t = (λ e. go (first test (suc due)) refl e, λ w. ap orNoBound (some-first test (suc due) t (omega (arith, w .1)) (test-enough t (w .0) (w .2)) (λ u l. test-no u (λ a. w .3 u a l))))
+  least-bound t = (
+    λ e. go (first test (suc due)) refl e,
+    λ w. ap orNoBound (some-first test (suc due) t (omega (arith, w .1)) (test-enough t (w .0) (w .2)) (λ u l. test-no u (λ a. w .3 u a l))),
+  )
     where
       go : (o : Option ℕ) → first test (suc due) ≡ o → orNoBound o ≡ bound t → (1 ≤ t) × (t ≤ due) × Enough t × ((u : ℕ) → 1 ≤ u → u < t → Enough u → ⊥)
       go none f q = let z : _≡_ {A = ℕ} 0 1 = cc in absurd (omega arith)

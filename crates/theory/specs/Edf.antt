@@ -44,7 +44,11 @@ met-supply b ws ts H answered s t =
 -- the machine's order is strict: no job goes before itself
 pub edf-strict : (ts : List Task) (js : List Job) (j : ℕ) → edf ts js j j ≡ false
 edf-strict ts js j =
-    rw (le-ltb (deadline ts js j) (deadline ts js j) (omega arith), eq-eqb (deadline ts js j) (deadline ts js j) refl, le-ltb (taskOf js j) (taskOf js j) (omega arith))
+    rw (
+      le-ltb (deadline ts js j) (deadline ts js j) (omega arith),
+      eq-eqb (deadline ts js j) (deadline ts js j) refl,
+      le-ltb (taskOf js j) (taskOf js j) (omega arith),
+    )
 
 -- the tick machine's is one: of the earliest jobs it serves the one of the lowest task
 pub machine-edf : (σ : ℕ → Bool) (ts : List Task) (js : List Job) → Under σ js (deadline ts js) (workLeft σ (edf ts js) js)
@@ -82,7 +86,8 @@ module _ (σ : ℕ → Bool) (ts : List Task) (tasks : badTask ts ≡ none) (n :
         let o = task-rules ts tasks .0 (taskOf js j) (job-rules ts n js legal j l .known) in
         let sv = due-served e in
         done-by σ (length js) (releaseOf js) (workOf js) _ _ sv e k j
-        (quiet-at σ (length js) (releaseOf js) (workOf js) _ _ sv e (omega (arith, o .due)) (due-supplied e)) l (le-leb e e (omega arith)) (omega (arith, o .due)) h
+        (quiet-at σ (length js) (releaseOf js) (workOf js) _ _ sv e (omega (arith, o .due)) (due-supplied e)) l
+        (le-leb e e (omega arith)) (omega (arith, o .due)) h
 
     -- so each job whose deadline falls in the run is finished then, with a count of 1 to D
     pub edf-counts : (j : ℕ) → j < length js → deadline ts js j ≤ n →

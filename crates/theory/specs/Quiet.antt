@@ -51,7 +51,8 @@ module _ (σ : ℕ → Bool) (n : ℕ) (r w : ℕ → ℕ) (S : ℕ → Bool) (r
         arith,
         sum-zero n,
         sum-le (λ j. when (S j && leb (suc (r j)) 0) (rem 0 j)) (λ j. 0) n (λ j l.
-            le-of-eq (when-none (S j && leb (suc (r j)) 0) (rem 0 j) (λ e. absurd (omega (arith, leb-true (suc (r j)) 0 (and-both (S j) (leb (suc (r j)) 0) e .1)))))),
+            le-of-eq (when-none (S j && leb (suc (r j)) 0) (rem 0 j)
+            (λ e. absurd (omega (arith, leb-true (suc (r j)) 0 (and-both (S j) (leb (suc (r j)) 0) e .1)))))),
       )
 
   -- a quiet instant after b and no later than e
@@ -79,7 +80,12 @@ module _ (σ : ℕ → Bool) (n : ℕ) (r w : ℕ → ℕ) (S : ℕ → Bool) (r
           let j : ℕ = m .index in
           let z = when-pos (S j && leb (suc (r j)) x) (rem x j) (m .pos) in
           let s = and-both (S j) (leb (suc (r j)) x) (z .0) in
-          inr (rw (add-suc b t) (omega (arith, p, run .busy (b + t) u j (m .below) (omega arith) (omega (arith, leb-true (suc (r j)) x (s .1))) (s .0) (omega (arith, z .1, run .falls (b + t) j (m .below))))))
+          inr (rw (add-suc b t) (omega (
+            arith,
+            p,
+            run .busy (b + t) u j (m .below) (omega arith)
+                (omega (arith, leb-true (suc (r j)) x (s .1))) (s .0) (omega (arith, z .1, run .falls (b + t) j (m .below))),
+          )))
 
       step : Next b (b + t) ⊎ (workIn n r S rem u (b + t) + supply σ b t ≡ workIn n r S rem u b) →
           Next b (b + suc t) ⊎ (workIn n r S rem u (b + suc t) + supply σ b (suc t) ≡ workIn n r S rem u b)

@@ -29,7 +29,8 @@ due-within ts tasks n js legal s t =
     omega (
       arith,
       demand-sum ts t,
-      sum-eq (λ i. taskDemand (taskAt ts i) t) (λ i. jobsIn ((taskAt ts i) .T) ((taskAt ts i) .D) t * (taskAt ts i) .C) (length ts) (λ i l. demand-jobs (taskAt ts i) t),
+      sum-eq (λ i. taskDemand (taskAt ts i) t) (λ i. jobsIn ((taskAt ts i) .T) ((taskAt ts i) .D) t * (taskAt ts i) .C)
+          (length ts) (λ i l. demand-jobs (taskAt ts i) t),
       work-le (length ts) (λ i. (taskAt ts i) .C) (λ i. (taskAt ts i) .T) (length js) (taskOf js) (releaseOf js) (workOf js) (spaced ts n js legal)
           (length ts) (λ i l. task-rules ts tasks .0 i l .period) (λ i. (taskAt ts i) .D) (λ j. true) (λ j l e. job-rules ts n js legal j l .known) s t,
     )

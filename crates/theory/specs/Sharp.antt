@@ -43,7 +43,8 @@ not-past-period claim =
     go (c .0) (c .1) (c .2) (c .3)
   where
     rules : TaskRules (task 2 1 2 ∷ [])
-    rules zero l = record { work = omega arith; work-most = omega arith; period = omega arith; period-most = omega arith; due = omega arith; due-most = omega arith }
+    rules zero l =
+        record { work = omega arith; work-most = omega arith; period = omega arith; period-most = omega arith; due = omega arith; due-most = omega arith }
     rules (suc i) l = absurd (omega arith)
 
     periods : Periods (task 2 1 2 ∷ []) 1

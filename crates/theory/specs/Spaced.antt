@@ -85,8 +85,10 @@ module _ (m : ℕ) (C T : ℕ → ℕ) (n : ℕ) (c r w : ℕ → ℕ) (legal : 
           omega (
             arith,
             sum-le (λ j. at (c j) (when (test j) (w j)) i) (λ j. when (within j) (C i)) n (λ j m.
-                rw (when-when (eqb (c j) i) (test j) (w j)) (when-le (eqb (c j) i && test j) (within j) (w j) (C i) (λ e.
-                (true-inside n i (T i) b c r (pos i l) apart u j (told j e .0) (told j e .1) (omega (arith, told j e)), omega (arith, legal .works j m, ap C (told j e .0)))))),
+                rw (when-when (eqb (c j) i) (test j) (w j)) (when-le (eqb (c j) i && test j) (within j) (w j) (C i) (λ e. (
+                  true-inside n i (T i) b c r (pos i l) apart u j (told j e .0) (told j e .1) (omega (arith, told j e)),
+                  omega (arith, legal .works j m, ap C (told j e .0)),
+                )))),
             sum-when-same within (C i) n,
             mul-le-mul-right (C i) (count-le n i (T i) b c r (pos i l) apart n u (omega arith)),
             ap (λ (q : ℕ). q * C i) (add-div-right (t - g i) (pos i l)),

@@ -115,7 +115,13 @@ module _ (T D : ℕ) (pos : 0 < T) where
   pub jobsIn-whole : (q : ℕ) → 0 < D → D ≤ T → jobsIn T D (q * T) ≡ q
   jobsIn-whole zero d h = let e : 0 * T ≡ 0 = omega arith in ap (jobsIn T D) e ∙ jobsIn-short T D 0 d
   jobsIn-whole (suc q) d h =
-      omega (arith, jobsIn-cycles (suc q) 0, jobsIn-short T D 0 d, ap (jobsIn T D) (zero-add (suc q * T)), le-jobsIn (suc q * T) (suc q) (omega arith) (omega arith))
+      omega (
+        arith,
+        jobsIn-cycles (suc q) 0,
+        jobsIn-short T D 0 d,
+        ap (jobsIn T D) (zero-add (suc q * T)),
+        le-jobsIn (suc q * T) (suc q) (omega arith) (omega arith),
+      )
 
 -- ---- the demand of a group
 

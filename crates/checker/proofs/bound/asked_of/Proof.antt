@@ -38,11 +38,14 @@ task-at-requires-2 c κs = search needs
 rule : (c : tie.After-task-at2 Inv-loop μ-loop) → TaskRule (taskOf (c .task-at2 .result))
 rule c =
     let a = c .before .before .before .before .before .before in
-    read-rule (a .args .tasks .now) (c .before .before .loop .j) _ (a .pre .0) (omega (arith, pieces-length _ 3 task (a .args .tasks .now))) (c .task-at2 .ensures)
+    read-rule (a .args .tasks .now) (c .before .before .loop .j) _ (a .pre .0)
+    (omega (arith, pieces-length _ 3 task (a .args .tasks .now))) (c .task-at2 .ensures)
 
 -- what it asks for, that this is small, and that it is what the sum grows by
-term : (c : tie.After-struct-known2 Inv-loop μ-loop) → let a = c .before .before .before .before .before .before .before .before .args in let l = c .before .before .before .before .loop in
-    (c .before .rounded-up .result * c .before .before .task-at2 .result .work ≤ (mostLength + mostOfTask) * mostOfTask) × (l .sum ≤ mostTasks * ((mostLength + mostOfTask) * mostOfTask) + mostOfTask)
+term : (c : tie.After-struct-known2 Inv-loop μ-loop) →
+    let a = c .before .before .before .before .before .before .before .before .args in let l = c .before .before .before .before .loop in
+    (c .before .rounded-up .result * c .before .before .task-at2 .result .work ≤ (mostLength + mostOfTask) * mostOfTask)
+    × (l .sum ≤ mostTasks * ((mostLength + mostOfTask) * mostOfTask) + mostOfTask)
     × (askedTo (tasksOf (a .tasks .now)) (a .index) (a .length) (l .j + 1) ≡ l .sum + c .before .rounded-up .result * c .before .before .task-at2 .result .work)
 term c =
     let a = c .before .before .before .before .before .before .before .before in
@@ -50,10 +53,16 @@ term c =
     let r = c .before .before .task-at2 in
     let ts = a .args .tasks .now in
     let t = a .args .length in
-    let e : c .before .rounded-up .result * r .result .work ≡ askedBy t (taskOf (r .result)) = ap (λ (n : ℕ). n * r .result .work) (c .before .rounded-up .ensures) in
+    let e : c .before .rounded-up .result * r .result .work ≡ askedBy t (taskOf (r .result)) =
+    ap (λ (n : ℕ). n * r .result .work) (c .before .rounded-up .ensures) in
     let f : askedBy t (taskOf (r .result)) ≡ askedBy t (taskAt (tasksOf ts) (l .j)) = ap (askedBy t) (r .ensures) in (
       omega (arith, e, asked-most (taskOf (r .result)) t (rule (c .before .before)) (a .pre .2)),
-      omega (arith, l .inv .1, askedTo-most ts (a .args .index) t (l .j) (a .pre .0) (a .pre .2) (omega (arith, pieces-length _ 3 task ts)) (omega (arith, pieces-length _ 3 task ts))),
+      omega (
+        arith,
+        l .inv .1,
+        askedTo-most ts (a .args .index) t (l .j) (a .pre .0) (a .pre .2)
+            (omega (arith, pieces-length _ 3 task ts)) (omega (arith, pieces-length _ 3 task ts)),
+      ),
       omega (arith, l .inv .1, askedTo-next (tasksOf ts) (a .args .index) t (l .j), e, f),
     )
 

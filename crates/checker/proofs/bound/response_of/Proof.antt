@@ -66,8 +66,12 @@ loop-less : tie.Need-loop-less Inv-loop μ-loop
 loop-less c = search needs
 
 loop-again : tie.Need-loop-again Inv-loop μ-loop
-loop-again c =
-    (omega arith, omega arith, short-next _ _ _ _ _ _ _ (c .before .before .least-of .ensures) (c .before .asked-of .ensures) (c .if1 .left) (c .before .before .before .before .loop .inv .2))
+loop-again c = (
+  omega arith,
+  omega arith,
+  short-next _ _ _ _ _ _ _ (c .before .before .least-of .ensures)
+      (c .before .asked-of .ensures) (c .if1 .left) (c .before .before .before .before .loop .inv .2),
+)
 
 returns-2 : tie.Need-returns-2 Inv-loop μ-loop
 returns-2 c =

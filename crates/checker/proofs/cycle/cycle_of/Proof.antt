@@ -17,7 +17,8 @@ use Rattle.checker.proofs.cycle.gcd.Reads as gcd-reads
 use Rattle.tables.proofs.task.task_at.Reads as task-at-reads
 
 abbrev Inv-loop : tie.InvT-loop
-Inv-loop tasks frame count h₀ i₀ h i = (i ≤ count) × (count ≡ length tasks / 3) × (h ≤ mostCycle) × (cycle frame (tasksOf tasks) ≡ cycle h (drop i (tasksOf tasks)))
+Inv-loop tasks frame count h₀ i₀ h i =
+    (i ≤ count) × (count ≡ length tasks / 3) × (h ≤ mostCycle) × (cycle frame (tasksOf tasks) ≡ cycle h (drop i (tasksOf tasks)))
 
 abbrev μ-loop : tie.MeasureT-loop
 μ-loop tasks frame count h₀ i₀ h i = count - i
@@ -52,7 +53,8 @@ mul-h c =
     omega (arith, product-most (l .h) (c .gcd .result) (c .before .before .task-at .result .period) (l .inv .2) (period (c .before .before) .1))
 
 -- what is found is still on the way to the cycle
-turn : (c : tie.After-gcd Inv-loop μ-loop) → let a = c .before .before .before .before .before .before .args in let l = c .before .before .before .before .loop in
+turn : (c : tie.After-gcd Inv-loop μ-loop) →
+    let a = c .before .before .before .before .before .before .args in let l = c .before .before .before .before .loop in
     cycle (a .board .frame) (tasksOf (a .tasks .now))
     ≡ cycle (l .h / c .gcd .result * c .before .before .task-at .result .period) (drop (l .i + 1) (tasksOf (a .tasks .now)))
 turn c =

@@ -46,7 +46,8 @@ returns c = refused-by _ _ (or-fault _ _ (sym (c .before .before .before .check-
 
 returns-2 : tie.Need-returns-2
 unfolding demandAnswer
-returns-2 c = refused-by _ _ (or-fine _ _ (tasks-fine (c .before .before .before .before)) ∙ sym (c .before .before .before .check-length .ensures) ∙ ap faultOf (c .before .r2 .given .1))
+returns-2 c = refused-by _ _ (or-fine _ _ (tasks-fine (c .before .before .before .before))
+    ∙ sym (c .before .before .before .check-length .ensures) ∙ ap faultOf (c .before .r2 .given .1))
 
 returns-3 : tie.Need-returns-3
 unfolding demandAnswer

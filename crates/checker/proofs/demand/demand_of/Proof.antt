@@ -33,7 +33,13 @@ more : (c : tie.After-demand Inv-loop μ-loop) → let a = c .before .before .be
 more c =
     let a = c .before .before .before .before .before .args in
     let l = c .before .before .before .loop in
-    omega (arith, l .inv .2, demandTo-next (tasksOf (a .tasks .now)) (a .length) (l .i), c .demand .ensures, ap (λ (x : Task). taskDemand x (a .length)) (c .before .task-at .ensures))
+    omega (
+      arith,
+      l .inv .2,
+      demandTo-next (tasksOf (a .tasks .now)) (a .length) (l .i),
+      c .demand .ensures,
+      ap (λ (x : Task). taskDemand x (a .length)) (c .before .task-at .ensures),
+    )
 
 add-sum : tie.Need-add-sum Inv-loop μ-loop
 add-sum c =
@@ -53,8 +59,10 @@ loop-again c = (omega arith, refl, more c)
 returns : tie.Need-returns Inv-loop μ-loop
 returns c =
     let b = c .before .before .before in
-    let l = c .before .loop in
-    (l .inv .2 ∙ demandTo-whole _ _ _ (omega arith), omega (arith, l .inv .2, demandTo-most (b .args .tasks .now) (b .args .length) (l .i) (b .pre .0) (b .pre .1) (omega arith)))
+    let l = c .before .loop in (
+      l .inv .2 ∙ demandTo-whole _ _ _ (omega arith),
+      omega (arith, l .inv .2, demandTo-most (b .args .tasks .now) (b .args .length) (l .i) (b .pre .0) (b .pre .1) (omega arith)),
+    )
 
 pub demand-of-spec : {M : Type 1} → statement M
 demand-of-spec =

@@ -55,7 +55,8 @@ returns : tie.Need-returns
 returns c = margin-refused _ _ _ _ (sym (c .before .before .before .check-group .ensures) ∙ ap faultOf (c .before .r .given .1))
 
 returns-2 : tie.Need-returns-2
-returns-2 c = margin-late _ _ _ _ (group-fine (c .before .before .before .before)) (sym (c .before .before .before .check-length .ensures) ∙ ap faultOf (c .before .r2 .given .1))
+returns-2 c = margin-late _ _ _ _ (group-fine (c .before .before .before .before))
+    (sym (c .before .before .before .check-length .ensures) ∙ ap faultOf (c .before .r2 .given .1))
 
 returns-3 : tie.Need-returns-3
 returns-3 c =

@@ -80,24 +80,34 @@ module _ {M : Type 1} (𝓤 : URA M) (H : Heap 𝓤) (A : Atoms 𝓤) (W : Given
     abbrev to : (α l : ℕ) (γ : GName) → EntryMet .Ghost
     to α l γ = (((α ∷ [], tt), (fullShare, tt), tt, (front l γ xs k, (t, tt)), (records-val (front l γ xs k) ∷ [], (vint w32 t ∷ [], tt))), tt)
 
-    asked : (α l : ℕ) (γ : GName) → ent 𝓤 (⋆ 𝓤 H A (Entry ∷ ‵ (flft (α ∷ []) fullShare) ∷ ‵ (Front (α ∷ []) l γ xs k) ∷ [])) (⋆ 𝓤 H A ((‵ ftrue ⊛ raw (EntryMet .pre (to α l γ))) ∷ []))
+    asked : (α l : ℕ) (γ : GName) → ent 𝓤 (⋆ 𝓤 H A (Entry ∷ ‵ (flft (α ∷ []) fullShare) ∷ ‵ (Front (α ∷ []) l γ xs k) ∷ []))
+        (⋆ 𝓤 H A ((‵ ftrue ⊛ raw (EntryMet .pre (to α l γ))) ∷ []))
     asked α l γ =
         qed W (Entry ∷ ‵ (flft (α ∷ []) fullShare) ∷ ‵ (Front (α ∷ []) l γ xs k) ∷ []) ∵ drop ! $ nothing ! $ frame ! $
-        nothing ! $ owned ! u32 (Is u32) (uint-makes 𝓤 H A W w32) t _ (refl, t-fits) $ fjoin ! $ move ! (2 ∷ 0 ∷ []) $ fjoin ! $ nothing ! $ move ! (2 ∷ 0 ∷ []) $ join ! $ join ! $ frame ! $ done !
+        nothing ! $ owned ! u32 (Is u32) (uint-makes 𝓤 H A W w32) t _ (refl, t-fits) $ fjoin ! $
+        move ! (2 ∷ 0 ∷ []) $ fjoin ! $ nothing ! $ move ! (2 ∷ 0 ∷ []) $ join ! $ join ! $ frame ! $ done !
 
-    answered : (α l : ℕ) (γ : GName) (w : Val) → ent 𝓤 (EntryMet .post (to α l γ) w) (mean 𝓤 H A (later (some (λ (r : Amount). given (Said r w) (‵ (flft (α ∷ []) fullShare) ⊛ ‵ ftrue)))))
+    answered : (α l : ℕ) (γ : GName) (w : Val) →
+        ent 𝓤 (EntryMet .post (to α l γ) w) (mean 𝓤 H A (later (some (λ (r : Amount). given (Said r w) (‵ (flft (α ∷ []) fullShare) ⊛ ‵ ftrue)))))
     answered α l γ w =
-        qed W (later (some (λ (r : Amount). (Token (α ∷ []) fullShare ⊛ ‵ (U.the-row .own r (w ∷ []))) ⊛ raw (ensured 𝓤 H A entry.ended (entry.clauses 𝓤 H A mem run) (α ∷ [], tt) (front l γ xs k, (t, tt)) tt r))) ∷ []) ∵
+        qed W (later (some (λ (r : Amount). (Token (α ∷ []) fullShare ⊛ ‵ (U.the-row .own r (w ∷ [])))
+        ⊛ raw (ensured 𝓤 H A entry.ended (entry.clauses 𝓤 H A mem run) (α ∷ [], tt) (front l γ xs k, (t, tt)) tt r))) ∷ []) ∵
         updating ! $ await ! tt $ pick ! (λ r. split ! $ move ! (1 ∷ []) $
-        use1 W (raw (fact 𝓤 (Right r))) (exE 𝓤 _ (λ zs. snd∗ 𝓤 (sem 𝓤 H A (lasts entry.ended (α ∷ [], tt) (front l γ xs k, (t, tt)) zs)) (fact 𝓤 (Right r)))) $ heard ! (Right r) (λ e. split ! $ move ! (1 ∷ []) $
+        use1 W (raw (fact 𝓤 (Right r)))
+        (exE 𝓤 _ (λ zs. snd∗ 𝓤 (sem 𝓤 H A (lasts entry.ended (α ∷ [], tt) (front l γ xs k, (t, tt)) zs)) (fact 𝓤 (Right r)))) $
+        heard ! (Right r) (λ e. split ! $ move ! (1 ∷ []) $
         facts ! U.the-row (Is U.the-row) (shows 𝓤 H A U.the-row) r (w ∷ []) (λ is. at-once ! $
         show ! (λ (x : Amount). mean 𝓤 H A (given (Said x w) (‵ (flft (α ∷ []) fullShare) ⊛ ‵ ftrue))) r $ check ! (e, is) $ split ! $ done !)))
 
     ended : (r : Amount) (w : Val) → Said r w → ent 𝓤 (⋆ 𝓤 H A (‵ ftrue ∷ ‵ ftrue ∷ [])) (Post w)
     ended r w said =
-        qed W (‵ ftrue ∷ ‵ ftrue ∷ []) ∵ suffices ! _ (ends-at 𝓤 H A this.ended stayed (this.clauses 𝓤 H A mem run) W bound w r (tt, (tt, (tt, tt))) (tt, (tt, (tt, tt)))) $ says ! (said .0) $ frame ! $
-        owned ! u32 (Is u32) (uint-makes 𝓤 H A W w32) t _ (refl, t-fits) $ move ! (0 ∷ 1 ∷ []) $ fjoin ! $ owned ! usize (Is usize) (uint-makes 𝓤 H A W w64) k _ (refl, fits) $ fjoin ! $
-        owned ! Row (Is Row) (row-makes 𝓤 H A W) xs _ array $ fjoin ! $ frame ! $ owned ! U.the-row (Is U.the-row) (EL.makes U.the-type U′.the-plain 𝓤 H A) r _ (said .1) $ done !
+        qed W (‵ ftrue ∷ ‵ ftrue ∷ []) ∵
+        suffices ! _ (ends-at 𝓤 H A this.ended stayed (this.clauses 𝓤 H A mem run) W bound w r (tt, (tt, (tt, tt))) (tt, (tt, (tt, tt)))) $
+        says ! (said .0) $ frame ! $
+        owned ! u32 (Is u32) (uint-makes 𝓤 H A W w32) t _ (refl, t-fits) $ move ! (0 ∷ 1 ∷ []) $ fjoin ! $
+        owned ! usize (Is usize) (uint-makes 𝓤 H A W w64) k _ (refl, fits) $ fjoin ! $
+        owned ! Row (Is Row) (row-makes 𝓤 H A W) xs _ array $ fjoin ! $ frame ! $
+        owned ! U.the-row (Is U.the-row) (EL.makes U.the-type U′.the-plain 𝓤 H A) r _ (said .1) $ done !
 
     lend : (C : Calls 𝓤 H) (Λ : Loops 𝓤 H) → Lends 𝓤 H A W C Λ #entry U′.mir ((tyInt w32, vint w32 t) ∷ []) [] (λ body. body) operands EntryMet xs k Entry Post
     lend C Λ = record {
@@ -116,12 +126,18 @@ module _ {M : Type 1} (𝓤 : URA M) (H : Heap 𝓤) (A : Atoms 𝓤) (W : Given
 
   module _ (𝓣 : Tables 𝓤 H) (known : Triple 𝓤 (𝓣 .C #entry) EntryMet) where
     walks : Walks 𝓤 H A this.ended stayed (WpFn 𝓤 H (𝓣 .C) (𝓣 .Λ) code.function) (this.clauses 𝓤 H A mem run)
-    walks = walked 𝓤 H A this.ended stayed (this.clauses 𝓤 H A mem run) (WpFn 𝓤 H (𝓣 .C) (𝓣 .Λ) code.function) (λ κs. (row-vals, (uint-vals w64, (uint-vals w32, tt)))) (λ κs. (row-tells, (uint-tells w64, (uint-tells w32, tt))))
-        (λ κs qs bounds a g are. needs 𝓤 (a .1 .0 ≤ enoughRecords) _ (λ le. lends 𝓤 H A W (𝓣 .C) (𝓣 .Λ) #entry U′.mir _ [] (λ body. body) _ EntryMet (a .0) (a .1 .0) _ _
-        (lend (a .0) (are .0) (a .1 .0) (are .1 .0 .1) (a .1 .1 .0) (are .1 .1 .0 .1) (𝓣 .C) (𝓣 .Λ)) (fmOf 𝓤 H (W .laws) 𝓣) known 0 3 (are .0) (are .1 .0 .1) le ((tt, record { fits = are .1 .1 .0 .1 }), tt)))
+    walks = walked 𝓤 H A this.ended stayed (this.clauses 𝓤 H A mem run) (WpFn 𝓤 H (𝓣 .C) (𝓣 .Λ) code.function)
+        (λ κs. (row-vals, (uint-vals w64, (uint-vals w32, tt)))) (λ κs. (row-tells, (uint-tells w64, (uint-tells w32, tt))))
+        (λ κs qs bounds a g are. needs 𝓤 (a .1 .0 ≤ enoughRecords) _ (λ le.
+        lends 𝓤 H A W (𝓣 .C) (𝓣 .Λ) #entry U′.mir _ [] (λ body. body) _ EntryMet (a .0) (a .1 .0) _ _
+        (lend (a .0) (are .0) (a .1 .0) (are .1 .0 .1) (a .1 .1 .0) (are .1 .1 .0 .1) (𝓣 .C) (𝓣 .Λ))
+        (fmOf 𝓤 H (W .laws) 𝓣) known 0 3 (are .0) (are .1 .0 .1) le ((tt, record { fits = are .1 .1 .0 .1 }), tt)))
 
     meets : Meets 𝓤 H A this.signature (WpFn 𝓤 H (𝓣 .C) (𝓣 .Λ) code.function) (this.spec 𝓤 H A mem run)
-    meets = walk-meets 𝓤 H A this.ended stayed W (goes-none 𝓤 H A W 0 (λ _. Row) yes (λ κs x f. refl), (goes-none 𝓤 H A W 0 (λ _. usize) yes (λ κs x f. refl), (goes-none 𝓤 H A W 0 (λ _. u32) yes (λ κs x f. refl), tt))) (this.clauses 𝓤 H A mem run)
+    meets = walk-meets 𝓤 H A this.ended stayed W (
+      goes-none 𝓤 H A W 0 (λ _. Row) yes (λ κs x f. refl),
+      (goes-none 𝓤 H A W 0 (λ _. usize) yes (λ κs x f. refl), (goes-none 𝓤 H A W 0 (λ _. u32) yes (λ κs x f. refl), tt)),
+    ) (this.clauses 𝓤 H A mem run)
         (WpFn 𝓤 H (𝓣 .C) (𝓣 .Λ) code.function) (WpFn-mono 𝓤 H (W .laws) 𝓣 code.function) walks
 
 pub demand-of-spec : {M : Type 1} → stated.statement M
@@ -130,4 +146,5 @@ demand-of-spec 𝓤 H 𝓜 𝓖 𝓡 =
     entered 𝓤 H (tripleOf 𝓤 H (𝓖 .A) this.signature (this.spec 𝓤 H (𝓖 .A) (𝓜 .mem) (𝓡 .run)))
     (tables 𝓤 H 𝓜 𝓡 code.env .C) (tables 𝓤 H 𝓜 𝓡 code.env .Λ) #this code.function (code.unfolded 𝓤 H 𝓜 𝓡)
     (meets 𝓤 H (𝓖 .A) (givenOf 𝓤 H 𝓜 𝓖) (𝓜 .mem) (𝓡 .run) (tablesOf 𝓤 H 𝓜 (tables 𝓤 H 𝓜 𝓡 code.env))
-    (cited 𝓤 H (EntryMet 𝓤 H (𝓖 .A) (givenOf 𝓤 H 𝓜 𝓖) (𝓜 .mem) (𝓡 .run)) 𝓜 𝓡 code.env #entry entry-def.routine code.calls-records·demand·demand (entry-thm.met 𝓤 H 𝓜 𝓖 𝓡)))
+    (cited 𝓤 H (EntryMet 𝓤 H (𝓖 .A) (givenOf 𝓤 H 𝓜 𝓖) (𝓜 .mem) (𝓡 .run)) 𝓜 𝓡 code.env #entry entry-def.routine code.calls-records·demand·demand
+    (entry-thm.met 𝓤 H 𝓜 𝓖 𝓡)))

@@ -32,5 +32,7 @@ margin-of-spec 𝓤 H 𝓜 𝓖 𝓡 =
     let W = givenOf 𝓤 H 𝓜 𝓖 in
     entered 𝓤 H (tripleOf 𝓤 H (𝓖 .A) this.signature (this.spec 𝓤 H (𝓖 .A) (𝓜 .mem) (𝓡 .run)))
     (tables 𝓤 H 𝓜 𝓡 code.env .C) (tables 𝓤 H 𝓜 𝓡 code.env .Λ) #this code.function (code.unfolded 𝓤 H 𝓜 𝓡)
-    (meets U.the-row Right 𝓤 H (𝓖 .A) W #entry U′.mir (EL.makes U.the-type U′.the-plain 𝓤 H (𝓖 .A)) (λ r w is. EL.lawful U.the-type U′.the-laws 𝓤 H (𝓖 .A) W tt .typed r _ is .0) (tablesOf 𝓤 H 𝓜 (tables 𝓤 H 𝓜 𝓡 code.env))
-    (cited 𝓤 H (tripleOf 𝓤 H (𝓖 .A) entry.signature (entry.spec 𝓤 H (𝓖 .A) (𝓜 .mem) (𝓡 .run))) 𝓜 𝓡 code.env #entry entry-def.routine code.calls-records·demand·margin (entry-thm.met 𝓤 H 𝓜 𝓖 𝓡)))
+    (meets U.the-row Right 𝓤 H (𝓖 .A) W #entry U′.mir (EL.makes U.the-type U′.the-plain 𝓤 H (𝓖 .A))
+    (λ r w is. EL.lawful U.the-type U′.the-laws 𝓤 H (𝓖 .A) W tt .typed r _ is .0) (tablesOf 𝓤 H 𝓜 (tables 𝓤 H 𝓜 𝓡 code.env))
+    (cited 𝓤 H (tripleOf 𝓤 H (𝓖 .A) entry.signature (entry.spec 𝓤 H (𝓖 .A) (𝓜 .mem) (𝓡 .run))) 𝓜 𝓡
+    code.env #entry entry-def.routine code.calls-records·demand·margin (entry-thm.met 𝓤 H 𝓜 𝓖 𝓡)))

@@ -41,8 +41,12 @@ loop-again c =
     let start = c .before .before in
     let l = start .loop in
     let n : start .before .made .result ≡ madeRecords (start .before .before .before .args .numbers .now) = start .before .made .ensures in
-    let less = c .before .loop-test .taken in
-    (omega arith, search needs, record-more (start .before .before .before .args .numbers .now) (l .tasks) (l .i) (c .record-at .result) (omega arith) (omega (arith, l .inv .1)) (c .record-at .ensures) (l .inv .2))
+    let less = c .before .loop-test .taken in (
+      omega arith,
+      search needs,
+      record-more (start .before .before .before .args .numbers .now) (l .tasks)
+          (l .i) (c .record-at .result) (omega arith) (omega (arith, l .inv .1)) (c .record-at .ensures) (l .inv .2),
+    )
 
 returns : tie.Need-returns Inv-loop μ-loop
 returns c =

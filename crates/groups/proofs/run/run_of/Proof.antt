@@ -77,9 +77,11 @@ module _ {M : Type 1} (𝓤 : URA M) (H : Heap 𝓤) (A : Atoms 𝓤) (W : Given
   EntryMet = tripleOf 𝓤 H A entry.signature (entry.spec 𝓤 H A mem run)
 
   module _ (κ κ₂ κ₃ : Lft) (q q₂ q₃ : Share) (xs : List Task) (array : Is Row xs (row-vals xs)) (k : ℕ) (fits : k < 2 ^ 64)
-      (b : Board) (good : Is B.the-row b (board-vals b)) (ws : Windows) (n : ℕ) (n-fits : n < 2 ^ 32) (js cs : Numbers) (room : Room u32 (length (cs .now))) where
+      (b : Board) (good : Is B.the-row b (board-vals b)) (ws : Windows) (n : ℕ)
+      (n-fits : n < 2 ^ 32) (js cs : Numbers) (room : Room u32 (length (cs .now))) where
     abbrev passed : Carried
-    passed = (B′.mir, only (board-vals b)) ∷ (windows-mir, windows-val ws) ∷ (tyInt w32, vint w32 n) ∷ (sliceTy (tyRef (named 1) imm (tyInt w32)), numbers-val js) ∷ (sliceTy (tyRef (named 2) mut (tyInt w32)), numbers-val cs) ∷ []
+    passed = (B′.mir, only (board-vals b)) ∷ (windows-mir, windows-val ws) ∷ (tyInt w32, vint w32 n)
+        ∷ (sliceTy (tyRef (named 1) imm (tyInt w32)), numbers-val js) ∷ (sliceTy (tyRef (named 2) mut (tyInt w32)), numbers-val cs) ∷ []
 
     -- what is said of an answer and of the buffer's last numbers, and of the answer's machine value
     abbrev Right : Ran → List ℕ → Type 0
@@ -128,12 +130,16 @@ module _ {M : Type 1} (𝓤 : URA M) (H : Heap 𝓤) (A : Atoms 𝓤) (W : Given
     ended x w said =
         let r = x .0 in
         let ys = x .1 in
-        qed W (Back x ∷ Kept ∷ []) ∵ suffices ! _ (ends-at 𝓤 H A this.ended stayed (this.clauses 𝓤 H A mem run) W bound w r (last ys) (tt, (tt, (tt, (tt, (tt, (tt, (said .0 .2, tt)))))))) $
-        suffices ! _ (assoc∗ 𝓤 (onExit 𝓤 H A this.ended stayed (bound .0 .0) (bound .0 .1) (bound .0 .4) w r (bound .0 .3) (last ys)) (fact 𝓤 (Answered b ws (numbersOf (take k xs)) n js cs r)) (fact 𝓤 (Written b ws (numbersOf (take k xs)) n js cs ys))) $ says ! (said .0 .1) $ says ! (said .0 .0) $
+        qed W (Back x ∷ Kept ∷ []) ∵ suffices ! _
+        (ends-at 𝓤 H A this.ended stayed (this.clauses 𝓤 H A mem run) W bound w r (last ys) (tt, (tt, (tt, (tt, (tt, (tt, (said .0 .2, tt)))))))) $
+        suffices ! _ (assoc∗ 𝓤 (onExit 𝓤 H A this.ended stayed (bound .0 .0) (bound .0 .1) (bound .0 .4) w r (bound .0 .3) (last ys))
+        (fact 𝓤 (Answered b ws (numbersOf (take k xs)) n js cs r)) (fact 𝓤 (Written b ws (numbersOf (take k xs)) n js cs ys))) $
+        says ! (said .0 .1) $ says ! (said .0 .0) $
         split ! $ frame ! $ move ! (1 ∷ []) $ split ! $
         -- [windows; jobs; the buffer's last numbers]
         move ! (1 ∷ 2 ∷ []) $ use2 W (‵ (Buffered.Rest κ₂ n js (Last cs ys))) (rest-in 𝓤 H A W κ₂ n js (Last cs ys) n-fits) $ move ! (1 ∷ 0 ∷ []) $
-        use2 W (‵ (Held 𝓤 H A W κ b ws xs k (Buffered.Rest κ₂ n js (Last cs ys)))) (held-in 𝓤 H A W κ b ws xs k (Buffered.Rest κ₂ n js (Last cs ys)) good array fits) $ frame ! $
+        use2 W (‵ (Held 𝓤 H A W κ b ws xs k (Buffered.Rest κ₂ n js (Last cs ys))))
+        (held-in 𝓤 H A W κ b ws xs k (Buffered.Rest κ₂ n js (Last cs ys)) good array fits) $ frame ! $
         owned ! U.the-row (Is U.the-row) (EL.makes U.the-type U′.the-plain 𝓤 H A) r _ (said .1) $ done !
 
     module _ (α l : ℕ) (γ : GName) where
@@ -172,22 +178,28 @@ module _ {M : Type 1} (𝓤 : URA M) (H : Heap 𝓤) (A : Atoms 𝓤) (W : Given
       abbrev Says : Ran → SProp 𝓤
       Says = ensured 𝓤 H A entry.ended (entry.clauses 𝓤 H A mem run) (κ, (α ∷ [], (κ₂, (κ₃, tt)))) (b, (ws, (lent, (n, (js, (cs, tt)))))) tt
 
-      answered : (w : Val) → ent 𝓤 (EntryMet .post to w) (mean 𝓤 H A (later (some (λ (x : Ran × List ℕ). given (Said x w) (‵ (flft (α ∷ []) fullShare) ⊛ Back x)))))
+      answered : (w : Val) →
+          ent 𝓤 (EntryMet .post to w) (mean 𝓤 H A (later (some (λ (x : Ran × List ℕ). given (Said x w) (‵ (flft (α ∷ []) fullShare) ⊛ Back x)))))
       answered w =
           qed W (later (some (λ (r : Ran). (Returned ⊛ ‵ (U.the-row .own r (w ∷ []))) ⊛ raw (Says r))) ∷ []) ∵ updating ! $ await ! tt $ pick ! (λ r.
-          split ! $ move ! (1 ∷ []) $ use1 W (Lasted 𝓤 H A W b ws (numbersOf (take k xs)) n js cs r) (exE 𝓤 _ (λ zs. lasted 𝓤 H A W b ws (numbersOf (take k xs)) n js cs r (zs .1 .1 .1 .1 .1 .0))) $ pick ! (λ ys. learn ! (λ told. move ! (1 ∷ []) $ split ! $ move ! (1 ∷ []) $
+          split ! $ move ! (1 ∷ []) $ use1 W (Lasted 𝓤 H A W b ws (numbersOf (take k xs)) n js cs r)
+          (exE 𝓤 _ (λ zs. lasted 𝓤 H A W b ws (numbersOf (take k xs)) n js cs r (zs .1 .1 .1 .1 .1 .0))) $
+          pick ! (λ ys. learn ! (λ told. move ! (1 ∷ []) $ split ! $ move ! (1 ∷ []) $
           facts ! U.the-row (Is U.the-row) (shows 𝓤 H A U.the-row) r (w ∷ []) (λ is. at-once ! $
           show ! (λ (x : Ran × List ℕ). mean 𝓤 H A (given (Said x w) (‵ (flft (α ∷ []) fullShare) ⊛ Back x))) (r, ys) $ check ! (told, is) $
           split ! $ move ! (1 ∷ []) $ split ! $ frame ! $ move ! (1 ∷ 0 ∷ []) $ join ! $ done !))))
 
     module _ (C : Calls 𝓤 H) (Λ : Loops 𝓤 H) where
-      starts : (s : Spots passed (lent-anew cs)) {Γ : List (Item 𝓤)} {body : Body} {aim : Aim 𝓤 H} → Sq W (Cells (lent-anew cs) (s .more) ∷ Cells passed (s .passed) ∷ Γ) (runs C Λ (envAt U′.mir passed (lent-anew cs) s) body aim)
+      starts : (s : Spots passed (lent-anew cs)) {Γ : List (Item 𝓤)} {body : Body} {aim : Aim 𝓤 H} →
+          Sq W (Cells (lent-anew cs) (s .more) ∷ Cells passed (s .passed) ∷ Γ) (runs C Λ (envAt U′.mir passed (lent-anew cs) s) body aim)
           → Sq W (Rooms (lent-anew cs) (s .more) ∷ Cells passed (s .passed) ∷ Γ) (runs C Λ (envAt U′.mir passed (lent-anew cs) s) (anew 7 11 12 body) aim)
       starts s rest =
           split ! $ split ! $ move ! (2 ∷ []) $ split ! $ split ! $ move ! (5 ∷ []) $ opened W passed (s .passed) _ (
           -- [_3; …; _4; …; _5; …; _6; …; _7; …; true; room for _12; …; true; for _11; …]
           assigns ! (addr ! (from ! (fld ! refl (hop ! (look-in ! 8 (sub ! 0 refl (whole !))) (stop !))))) (from ! (stop !)) (init ! 14 refl (tt, tt)) $
-          assigns ! (agg ! (and-then ! (load ! (from ! (stop !)) (look ! 14 refl)) (and-then ! (load ! (from ! (fld ! refl (stop !))) (look-in ! 8 (sub ! 1 refl (whole !)))) (no-more !)))) (from ! (stop !)) (init ! 11 refl (tt, (tt, (record { fits = room .0 }, tt)))) $
+          assigns ! (agg ! (and-then ! (load ! (from ! (stop !)) (look ! 14 refl))
+          (and-then ! (load ! (from ! (fld ! refl (stop !))) (look-in ! 8 (sub ! 1 refl (whole !)))) (no-more !))))
+          (from ! (stop !)) (init ! 11 refl (tt, (tt, (record { fits = room .0 }, tt)))) $
           shut W passed (s .passed) _ (move ! (1 ∷ 2 ∷ []) $ join ! $ move ! (0 ∷ 2 ∷ []) $ join ! $ move ! (2 ∷ 3 ∷ []) $ join ! $ join ! $ rest))
 
       lend : Lends 𝓤 H A W C Λ #entry U′.mir passed (lent-anew cs) (anew 7 11 12) operands EntryMet xs k Entry Post
@@ -203,22 +215,32 @@ module _ {M : Type 1} (𝓤 : URA M) (H : Heap 𝓤) (A : Atoms 𝓤) (W : Given
         ends = ended;
         starts = starts;
         reads = λ s α γ Γ.
-            and-then ! (load ! (from ! (stop !)) (look ! 2 refl)) (and-then ! (load ! (from ! (stop !)) (look ! 4 refl)) (and-then ! (load ! (from ! (stop !)) (look ! 1 refl)) (and-then ! (load ! (from ! (stop !)) (look ! 6 refl))
+            and-then ! (load ! (from ! (stop !)) (look ! 2 refl)) (and-then ! (load ! (from ! (stop !)) (look ! 4 refl))
+            (and-then ! (load ! (from ! (stop !)) (look ! 1 refl)) (and-then ! (load ! (from ! (stop !)) (look ! 6 refl))
             (and-then ! (load ! (from ! (stop !)) (look ! 8 refl)) (and-then ! (load ! (from ! (stop !)) (look ! 15 refl)) (no-more !))))));
       }
 
   module _ (𝓣 : Tables 𝓤 H) (known : Triple 𝓤 (𝓣 .C #entry) EntryMet) where
     walks : Walks 𝓤 H A this.ended stayed (WpFn 𝓤 H (𝓣 .C) (𝓣 .Λ) code.function) (this.clauses 𝓤 H A mem run)
-    walks = walked 𝓤 H A this.ended stayed (this.clauses 𝓤 H A mem run) (WpFn 𝓤 H (𝓣 .C) (𝓣 .Λ) code.function) (λ κs. (row-vals, (uint-vals w64, (board-vals, (slice-vals, (uint-vals w32, (slice-vals, (slice-vals, tt))))))))
+    walks = walked 𝓤 H A this.ended stayed (this.clauses 𝓤 H A mem run) (WpFn 𝓤 H (𝓣 .C) (𝓣 .Λ) code.function)
+        (λ κs. (row-vals, (uint-vals w64, (board-vals, (slice-vals, (uint-vals w32, (slice-vals, (slice-vals, tt))))))))
         (λ κs. (
           row-tells,
           (
             uint-tells w64,
-            (LL.tells B.the-type B′.the-laws, (shr-slice-tells (named 0) (κs .0) u32, (uint-tells w32, (shr-slice-tells (named 1) (κs .1 .0) u32, (mut-slice-tells (named 2) (κs .1 .1 .0) u32, tt))))),
+            (
+              LL.tells B.the-type B′.the-laws,
+              (
+                shr-slice-tells (named 0) (κs .0) u32,
+                (uint-tells w32, (shr-slice-tells (named 1) (κs .1 .0) u32, (mut-slice-tells (named 2) (κs .1 .1 .0) u32, tt))),
+              ),
+            ),
           ),
         ))
-        (λ κs qs bounds a g are. needs 𝓤 (a .1 .0 ≤ enoughRecords) _ (λ le. lends 𝓤 H A W (𝓣 .C) (𝓣 .Λ) #entry U′.mir _ _ (anew 7 11 12) _ EntryMet (a .0) (a .1 .0) _ _
-        (lend (κs .0) (κs .1 .0) (κs .1 .1 .0) (qs .0) (qs .1 .0) (qs .1 .1 .0) (a .0) (are .0) (a .1 .0) (are .1 .0 .1) (a .1 .1 .0) (are .1 .1 .0) (a .1 .1 .1 .0) (a .1 .1 .1 .1 .0) (are .1 .1 .1 .1 .0 .1) (a .1 .1 .1 .1 .1 .0) (a .1 .1 .1 .1 .1 .1 .0) (are .1 .1 .1 .1 .1 .1 .0 .0 .1)
+        (λ κs qs bounds a g are. needs 𝓤 (a .1 .0 ≤ enoughRecords) _ (λ le.
+        lends 𝓤 H A W (𝓣 .C) (𝓣 .Λ) #entry U′.mir _ _ (anew 7 11 12) _ EntryMet (a .0) (a .1 .0) _ _
+        (lend (κs .0) (κs .1 .0) (κs .1 .1 .0) (qs .0) (qs .1 .0) (qs .1 .1 .0) (a .0) (are .0) (a .1 .0) (are .1 .0 .1) (a .1 .1 .0) (are .1 .1 .0)
+        (a .1 .1 .1 .0) (a .1 .1 .1 .1 .0) (are .1 .1 .1 .1 .0 .1) (a .1 .1 .1 .1 .1 .0) (a .1 .1 .1 .1 .1 .1 .0) (are .1 .1 .1 .1 .1 .1 .0 .0 .1)
         (𝓣 .C) (𝓣 .Λ)) (fmOf 𝓤 H (W .laws) 𝓣) known 3 7 (are .0) (are .1 .0 .1) le (
           LL.lawful B.the-type B′.the-laws 𝓤 H A W .typed (a .1 .1 .0) _ (are .1 .1 .0) .0,
           (
@@ -231,10 +253,14 @@ module _ {M : Type 1} (𝓤 : URA M) (H : Heap 𝓤) (A : Atoms 𝓤) (W : Given
         )))
 
     goes : AllGo 𝓤 H A W 3 (this.signature .params) (this.ended .kept) stayed
-    goes = held-goes 𝓤 H A W 2 slots (yes, (yes, (yes, tt))) slots-stay (goes-none 𝓤 H A W 3 (λ _. u32) yes (λ κs x f. refl), (goes-none-slice 𝓤 H A W 3 (1 ∷ []) tt (plain (λ _. u32)) yes, (goes-gave-slice 𝓤 H A W 3 2 tt (plain (λ _. u32)), tt)))
+    goes = held-goes 𝓤 H A W 2 slots (yes, (yes, (yes, tt))) slots-stay (
+      goes-none 𝓤 H A W 3 (λ _. u32) yes (λ κs x f. refl),
+      (goes-none-slice 𝓤 H A W 3 (1 ∷ []) tt (plain (λ _. u32)) yes, (goes-gave-slice 𝓤 H A W 3 2 tt (plain (λ _. u32)), tt)),
+    )
 
     meets : Meets 𝓤 H A this.signature (WpFn 𝓤 H (𝓣 .C) (𝓣 .Λ) code.function) (this.spec 𝓤 H A mem run)
-    meets = walk-meets 𝓤 H A this.ended stayed W goes (this.clauses 𝓤 H A mem run) (WpFn 𝓤 H (𝓣 .C) (𝓣 .Λ) code.function) (WpFn-mono 𝓤 H (W .laws) 𝓣 code.function) walks
+    meets = walk-meets 𝓤 H A this.ended stayed W goes (this.clauses 𝓤 H A mem run)
+        (WpFn 𝓤 H (𝓣 .C) (𝓣 .Λ) code.function) (WpFn-mono 𝓤 H (W .laws) 𝓣 code.function) walks
 
 pub run-of-spec : {M : Type 1} → stated.statement M
 unfolding code.routine tablesOf
@@ -242,4 +268,5 @@ run-of-spec 𝓤 H 𝓜 𝓖 𝓡 =
     entered 𝓤 H (tripleOf 𝓤 H (𝓖 .A) this.signature (this.spec 𝓤 H (𝓖 .A) (𝓜 .mem) (𝓡 .run)))
     (tables 𝓤 H 𝓜 𝓡 code.env .C) (tables 𝓤 H 𝓜 𝓡 code.env .Λ) #this code.function (code.unfolded 𝓤 H 𝓜 𝓡)
     (meets 𝓤 H (𝓖 .A) (givenOf 𝓤 H 𝓜 𝓖) (𝓜 .mem) (𝓡 .run) (tablesOf 𝓤 H 𝓜 (tables 𝓤 H 𝓜 𝓡 code.env))
-    (cited 𝓤 H (EntryMet 𝓤 H (𝓖 .A) (givenOf 𝓤 H 𝓜 𝓖) (𝓜 .mem) (𝓡 .run)) 𝓜 𝓡 code.env #entry entry-def.routine code.calls-records·run·run (entry-thm.met 𝓤 H 𝓜 𝓖 𝓡)))
+    (cited 𝓤 H (EntryMet 𝓤 H (𝓖 .A) (givenOf 𝓤 H 𝓜 𝓖) (𝓜 .mem) (𝓡 .run)) 𝓜 𝓡 code.env #entry entry-def.routine code.calls-records·run·run
+    (entry-thm.met 𝓤 H 𝓜 𝓖 𝓡)))

@@ -62,7 +62,8 @@ module _ {M : Type 1} (𝓤 : URA M) (H : Heap 𝓤) (A : Atoms 𝓤) (W : Given
   abbrev EntryMet : Contract 𝓤
   EntryMet = tripleOf 𝓤 H A entry.signature (entry.spec 𝓤 H A mem run)
 
-  module _ (κ : Lft) (q : Share) (xs : List Task) (array : Is Row xs (row-vals xs)) (k : ℕ) (fits : k < 2 ^ 64) (b : Board) (good : Is B.the-row b (board-vals b)) (ws : Windows) where
+  module _ (κ : Lft) (q : Share) (xs : List Task) (array : Is Row xs (row-vals xs)) (k : ℕ)
+      (fits : k < 2 ^ 64) (b : Board) (good : Is B.the-row b (board-vals b)) (ws : Windows) where
     abbrev passed : Carried
     passed = (B′.mir, only (board-vals b)) ∷ (windows-mir, windows-val ws) ∷ []
 
@@ -76,13 +77,23 @@ module _ {M : Type 1} (𝓤 : URA M) (H : Heap 𝓤) (A : Atoms 𝓤) (W : Given
     abbrev Post : Val → SProp 𝓤
     Post = walkOf 𝓤 H A this.ended stayed (this.clauses 𝓤 H A mem run) .post bound
 
-    lend : (C : Calls 𝓤 H) (Λ : Loops 𝓤 H) → Lends 𝓤 H A W C Λ #entry U′.mir passed [] (λ body. body) (copy (place 3 []) ∷ copy (place 4 []) ∷ copy (place 7 []) ∷ []) EntryMet xs k (Entry 𝓤 H A W κ b ws xs k ftrue q) Post
+    lend : (C : Calls 𝓤 H) (Λ : Loops 𝓤 H) → Lends 𝓤 H A W C Λ #entry U′.mir passed [] (λ body. body)
+        (copy (place 3 []) ∷ copy (place 4 []) ∷ copy (place 7 []) ∷ []) EntryMet xs k (Entry 𝓤 H A W κ b ws xs k ftrue q) Post
     lend C Λ = record {
       X = Verdict;
       Said = λ r w. Right r × Is U.the-row r (w ∷ []);
       Kept = ‵ (WindowsOwn κ ws);
       Back = λ _. Token κ q;
-      to = λ α l γ. (((κ, (α ∷ [], tt)), (q, (fullShare, tt)), tt, (b, (ws, (front l γ xs k, tt))), (board-vals b, (windows-val ws ∷ [], (records-val (front l γ xs k) ∷ [], tt)))), tt);
+      to = λ α l γ. (
+        (
+          (κ, (α ∷ [], tt)),
+          (q, (fullShare, tt)),
+          tt,
+          (b, (ws, (front l γ xs k, tt))),
+          (board-vals b, (windows-val ws ∷ [], (records-val (front l γ xs k) ∷ [], tt))),
+        ),
+        tt,
+      );
       goes = asked 𝓤 H A W κ b ws xs k ftrue q good array fits (id⊢ 𝓤 _);
       gives = λ α l γ w. answered 𝓤 H A W κ b ws xs k ftrue q good array fits (id⊢ 𝓤 _) U.the-row (EL.makes U.the-type U′.the-plain 𝓤 H A) Right α w
           (ensured 𝓤 H A entry.ended (entry.clauses 𝓤 H A mem run) (κ, (α ∷ [], tt)) (b, (ws, (front l γ xs k, tt))) tt)
@@ -91,19 +102,24 @@ module _ {M : Type 1} (𝓤 : URA M) (H : Heap 𝓤) (A : Atoms 𝓤) (W : Given
       ends = λ r w said. via 𝓤 _ (ended 𝓤 H A W κ b ws xs k ftrue q good array fits (id⊢ 𝓤 _) U.the-row (EL.makes U.the-type U′.the-plain 𝓤 H A) Right r w said)
           (ends-at 𝓤 H A this.ended stayed (this.clauses 𝓤 H A mem run) W bound w r (tt, (tt, (tt, (tt, tt)))) (tt, (tt, (tt, (tt, tt)))));
       starts = λ s k. k;
-      reads = λ s α γ Γ. and-then ! (load ! (from ! (stop !)) (look ! 2 refl)) (and-then ! (load ! (from ! (stop !)) (look ! 4 refl)) (and-then ! (load ! (from ! (stop !)) (look ! 1 refl)) (no-more !)));
+      reads = λ s α γ Γ. and-then ! (load ! (from ! (stop !)) (look ! 2 refl))
+          (and-then ! (load ! (from ! (stop !)) (look ! 4 refl)) (and-then ! (load ! (from ! (stop !)) (look ! 1 refl)) (no-more !)));
     }
 
   module _ (𝓣 : Tables 𝓤 H) (known : Triple 𝓤 (𝓣 .C #entry) EntryMet) where
     walks : Walks 𝓤 H A this.ended stayed (WpFn 𝓤 H (𝓣 .C) (𝓣 .Λ) code.function) (this.clauses 𝓤 H A mem run)
-    walks = walked 𝓤 H A this.ended stayed (this.clauses 𝓤 H A mem run) (WpFn 𝓤 H (𝓣 .C) (𝓣 .Λ) code.function) (λ κs. (row-vals, (uint-vals w64, (board-vals, (slice-vals, tt)))))
+    walks = walked 𝓤 H A this.ended stayed (this.clauses 𝓤 H A mem run) (WpFn 𝓤 H (𝓣 .C) (𝓣 .Λ) code.function)
+        (λ κs. (row-vals, (uint-vals w64, (board-vals, (slice-vals, tt)))))
         (λ κs. (row-tells, (uint-tells w64, (LL.tells B.the-type B′.the-laws, (shr-slice-tells (named 0) (κs .0) u32, tt)))))
-        (λ κs qs bounds a g are. needs 𝓤 (a .1 .0 ≤ enoughRecords) _ (λ le. lends 𝓤 H A W (𝓣 .C) (𝓣 .Λ) #entry U′.mir _ [] (λ body. body) _ EntryMet (a .0) (a .1 .0) _ _
-        (lend (κs .0) (qs .0) (a .0) (are .0) (a .1 .0) (are .1 .0 .1) (a .1 .1 .0) (are .1 .1 .0) (a .1 .1 .1 .0) (𝓣 .C) (𝓣 .Λ)) (fmOf 𝓤 H (W .laws) 𝓣) known 1 4 (are .0) (are .1 .0 .1) le
+        (λ κs qs bounds a g are. needs 𝓤 (a .1 .0 ≤ enoughRecords) _ (λ le.
+        lends 𝓤 H A W (𝓣 .C) (𝓣 .Λ) #entry U′.mir _ [] (λ body. body) _ EntryMet (a .0) (a .1 .0) _ _
+        (lend (κs .0) (qs .0) (a .0) (are .0) (a .1 .0) (are .1 .0 .1) (a .1 .1 .0) (are .1 .1 .0) (a .1 .1 .1 .0) (𝓣 .C) (𝓣 .Λ))
+        (fmOf 𝓤 H (W .laws) 𝓣) known 1 4 (are .0) (are .1 .0 .1) le
         (LL.lawful B.the-type B′.the-laws 𝓤 H A W .typed (a .1 .1 .0) _ (are .1 .1 .0) .0, ((tt, (tt, (record { fits = are .1 .1 .1 .0 .0 .1 .0 }, tt))), tt))))
 
     meets : Meets 𝓤 H A this.signature (WpFn 𝓤 H (𝓣 .C) (𝓣 .Λ) code.function) (this.spec 𝓤 H A mem run)
-    meets = walk-meets 𝓤 H A this.ended stayed W (held-goes 𝓤 H A W 0 [] tt tt tt) (this.clauses 𝓤 H A mem run) (WpFn 𝓤 H (𝓣 .C) (𝓣 .Λ) code.function) (WpFn-mono 𝓤 H (W .laws) 𝓣 code.function) walks
+    meets = walk-meets 𝓤 H A this.ended stayed W (held-goes 𝓤 H A W 0 [] tt tt tt) (this.clauses 𝓤 H A mem run)
+        (WpFn 𝓤 H (𝓣 .C) (𝓣 .Λ) code.function) (WpFn-mono 𝓤 H (W .laws) 𝓣 code.function) walks
 
 pub verdict-of-spec : {M : Type 1} → stated.statement M
 unfolding code.routine tablesOf
@@ -111,4 +127,5 @@ verdict-of-spec 𝓤 H 𝓜 𝓖 𝓡 =
     entered 𝓤 H (tripleOf 𝓤 H (𝓖 .A) this.signature (this.spec 𝓤 H (𝓖 .A) (𝓜 .mem) (𝓡 .run)))
     (tables 𝓤 H 𝓜 𝓡 code.env .C) (tables 𝓤 H 𝓜 𝓡 code.env .Λ) #this code.function (code.unfolded 𝓤 H 𝓜 𝓡)
     (meets 𝓤 H (𝓖 .A) (givenOf 𝓤 H 𝓜 𝓖) (𝓜 .mem) (𝓡 .run) (tablesOf 𝓤 H 𝓜 (tables 𝓤 H 𝓜 𝓡 code.env))
-    (cited 𝓤 H (EntryMet 𝓤 H (𝓖 .A) (givenOf 𝓤 H 𝓜 𝓖) (𝓜 .mem) (𝓡 .run)) 𝓜 𝓡 code.env #entry entry-def.routine code.calls-records·verdict·verdict (entry-thm.met 𝓤 H 𝓜 𝓖 𝓡)))
+    (cited 𝓤 H (EntryMet 𝓤 H (𝓖 .A) (givenOf 𝓤 H 𝓜 𝓖) (𝓜 .mem) (𝓡 .run)) 𝓜 𝓡 code.env #entry entry-def.routine code.calls-records·verdict·verdict
+    (entry-thm.met 𝓤 H 𝓜 𝓖 𝓡)))

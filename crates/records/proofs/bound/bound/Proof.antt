@@ -37,7 +37,9 @@ bound-spec 𝓤 H 𝓜 𝓖 𝓡 =
     let W = givenOf 𝓤 H 𝓜 𝓖 in
     entered 𝓤 H (tripleOf 𝓤 H (𝓖 .A) this.signature (this.spec 𝓤 H (𝓖 .A) (𝓜 .mem) (𝓡 .run)))
     (tables 𝓤 H 𝓜 𝓡 code.env .C) (tables 𝓤 H 𝓜 𝓡 code.env .Λ) #this code.function (code.unfolded 𝓤 H 𝓜 𝓡)
-    (meets U.the-row Right 𝓤 H (𝓖 .A) W (𝓜 .mem) (𝓡 .run) #callee U′.mir (EL.makes U.the-type U′.the-plain 𝓤 H (𝓖 .A)) (λ r w is. EL.lawful U.the-type U′.the-laws 𝓤 H (𝓖 .A) W tt .typed r _ is .0)
+    (meets U.the-row Right 𝓤 H (𝓖 .A) W (𝓜 .mem) (𝓡 .run) #callee U′.mir (EL.makes U.the-type U′.the-plain 𝓤 H (𝓖 .A))
+    (λ r w is. EL.lawful U.the-type U′.the-laws 𝓤 H (𝓖 .A) W tt .typed r _ is .0)
     (λ b ws ns ns′ i r alike e. e ∙ alike-bound ns ns′ alike (boardOf b) ws i) (tablesOf 𝓤 H 𝓜 (tables 𝓤 H 𝓜 𝓡 code.env))
     (cited 𝓤 H (Flatten 𝓤 H (𝓖 .A) (𝓜 .mem) (𝓡 .run)) 𝓜 𝓡 code.env #flatten flatten-def.routine code.calls-records·flat·flatten (flatten-thm.met 𝓤 H 𝓜 𝓖 𝓡))
-    (cited 𝓤 H (tripleOf 𝓤 H (𝓖 .A) callee.signature (callee.spec 𝓤 H (𝓖 .A) (𝓜 .mem) (𝓡 .run))) 𝓜 𝓡 code.env #callee callee-def.routine code.calls-records·bound·bound-of (callee-thm.met 𝓤 H 𝓜 𝓖 𝓡)))
+    (cited 𝓤 H (tripleOf 𝓤 H (𝓖 .A) callee.signature (callee.spec 𝓤 H (𝓖 .A) (𝓜 .mem) (𝓡 .run))) 𝓜 𝓡
+    code.env #callee callee-def.routine code.calls-records·bound·bound-of (callee-thm.met 𝓤 H 𝓜 𝓖 𝓡)))

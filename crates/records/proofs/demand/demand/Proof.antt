@@ -1,4 +1,6 @@
--- `demand` meets its contract: a walk of its MIR, by hand, with a loop. `begin` is called with the count; the slice is looked into once, before the loop, and shut once, after it; each turn copies one element out, and calls `add` with its three numbers; `finish` is called last.
+-- `demand` meets its contract: a walk of its MIR, by hand, with a loop.
+-- `begin` is called with the count; the slice is looked into once, before the loop, and shut once, after it;
+-- each turn copies one element out, and calls `add` with its three numbers; `finish` is called last.
 -- All that the proof knows of the three is that each meets its contract. What the loop says of sums is `SumLaws`'.
 -- Assumes nothing.
 use mathlib.Core.Path.{_≡_, refl, sym, _∙_, ap, subst}
@@ -118,7 +120,8 @@ elem ys t s = getD ys (s .i) none
 abbrev added : (ys : List Task) (t : ℕ) → St ys t → Answer ℕ
 added ys t s = addOf (toldAmount (s .acc)) (s .i) (taskOf (elem ys t s)) t
 
-abbrev goes-on : (ys : List Task) (t : ℕ) (s : St ys t) (r : Amount) (w : Val) → s .i < length ys → toldAmount r ≡ added ys t s → Is U.the-row r (w ∷ []) → St ys t
+abbrev goes-on : (ys : List Task) (t : ℕ) (s : St ys t) (r : Amount) (w : Val) →
+    s .i < length ys → toldAmount r ≡ added ys t s → Is U.the-row r (w ∷ []) → St ys t
 goes-on ys t s r w less e is = record {
   i = s .i + 1;
   acc = r;
@@ -159,13 +162,18 @@ module _ {M : Type 1} (𝓤 : URA M) (H : Heap 𝓤) (A : Atoms 𝓤) (mem : Mem
   begin-of : (n : ℕ) (r : Amount) → ent 𝓤 (ensured 𝓤 H A begin.ended (begin.clauses 𝓤 H A mem run) tt (n, tt) tt r) (fact 𝓤 (toldAmount r ≡ beginOf n))
   begin-of n r = exE 𝓤 _ (λ ws. snd∗ 𝓤 (sem 𝓤 H A (lasts begin.ended tt (n, tt) ws)) (fact 𝓤 (toldAmount r ≡ beginOf n)))
 
-  add-of : (acc : Amount) (i w p d t : ℕ) (r : Amount) → ent 𝓤 (ensured 𝓤 H A add.ended (add.clauses 𝓤 H A mem run) tt (acc, (i, (w, (p, (d, (t, tt)))))) tt r) (fact 𝓤 (toldAmount r ≡ addOf (toldAmount acc) i (task w p d) t))
-  add-of acc i w p d t r = exE 𝓤 _ (λ ws. snd∗ 𝓤 (sem 𝓤 H A (lasts add.ended tt (acc, (i, (w, (p, (d, (t, tt)))))) ws)) (fact 𝓤 (toldAmount r ≡ addOf (toldAmount acc) i (task w p d) t)))
+  add-of : (acc : Amount) (i w p d t : ℕ) (r : Amount) →
+      ent 𝓤 (ensured 𝓤 H A add.ended (add.clauses 𝓤 H A mem run) tt (acc, (i, (w, (p, (d, (t, tt)))))) tt r)
+      (fact 𝓤 (toldAmount r ≡ addOf (toldAmount acc) i (task w p d) t))
+  add-of acc i w p d t r = exE 𝓤 _ (λ ws. snd∗ 𝓤 (sem 𝓤 H A (lasts add.ended tt (acc, (i, (w, (p, (d, (t, tt)))))) ws))
+      (fact 𝓤 (toldAmount r ≡ addOf (toldAmount acc) i (task w p d) t)))
 
-  finish-of : (acc : Amount) (t : ℕ) (r : Amount) → ent 𝓤 (ensured 𝓤 H A finish.ended (finish.clauses 𝓤 H A mem run) tt (acc, (t, tt)) tt r) (fact 𝓤 (toldAmount r ≡ finishOf (toldAmount acc) t))
+  finish-of : (acc : Amount) (t : ℕ) (r : Amount) →
+      ent 𝓤 (ensured 𝓤 H A finish.ended (finish.clauses 𝓤 H A mem run) tt (acc, (t, tt)) tt r) (fact 𝓤 (toldAmount r ≡ finishOf (toldAmount acc) t))
   finish-of acc t r = exE 𝓤 _ (λ ws. snd∗ 𝓤 (sem 𝓤 H A (lasts finish.ended tt (acc, (t, tt)) ws)) (fact 𝓤 (toldAmount r ≡ finishOf (toldAmount acc) t)))
 
-module _ {M : Type 1} (𝓤 : URA M) (H : Heap 𝓤) (A : Atoms 𝓤) (W : Given 𝓤 H A) (mem : Memory → SProp 𝓤) (run : Routine → Fun 𝓤) (κ : Lft) (q : Share) (b o : ℕ) (γ : GName) (ys : List Task) (t : ℕ) (t-fits : t < 2 ^ 32) (room : Room T.the-row (length ys)) where
+module _ {M : Type 1} (𝓤 : URA M) (H : Heap 𝓤) (A : Atoms 𝓤) (W : Given 𝓤 H A) (mem : Memory → SProp 𝓤) (run : Routine → Fun 𝓤)
+    (κ : Lft) (q : Share) (b o : ℕ) (γ : GName) (ys : List Task) (t : ℕ) (t-fits : t < 2 ^ 32) (room : Room T.the-row (length ys)) where
   abbrev Arg : Type 0
   Arg = RefT (List Task) × (ℕ × Unit {0})
 
@@ -185,8 +193,10 @@ module _ {M : Type 1} (𝓤 : URA M) (H : Heap 𝓤) (A : Atoms 𝓤) (W : Given
   exits : (r : Amount) (w : Val) → toldAmount r ≡ demandAnswer (numbersOf ys) t → Is U.the-row r (w ∷ []) → ent 𝓤 (sep 𝓤 (A .lft κ q) (sem 𝓤 H A Own)) (Post w)
   exits r w e is =
       qed W (‵ (flft κ q) ∷ ‵ Own ∷ []) ∵
-      suffices ! _ (ends-at 𝓤 H A demand.ended stayed (demand.clauses 𝓤 H A mem run) W (((κ, tt), (q, tt), tt, x, at), tt) w r (tt, (tt, tt)) (tt, (tt, tt))) $ says ! e $
-      nothing ! $ move ! (1 ∷ 0 ∷ []) $ join ! $ frame ! $ nothing ! $ owned ! u32 (Is u32) (uint-makes 𝓤 H A W w32) t _ (refl, t-fits) $ fjoin ! $ move ! (1 ∷ 0 ∷ []) $ fjoin ! $ frame ! $
+      suffices ! _ (ends-at 𝓤 H A demand.ended stayed (demand.clauses 𝓤 H A mem run) W
+      (((κ, tt), (q, tt), tt, x, at), tt) w r (tt, (tt, tt)) (tt, (tt, tt))) $ says ! e $
+      nothing ! $ move ! (1 ∷ 0 ∷ []) $ join ! $ frame ! $ nothing ! $
+      owned ! u32 (Is u32) (uint-makes 𝓤 H A W w32) t _ (refl, t-fits) $ fjoin ! $ move ! (1 ∷ 0 ∷ []) $ fjoin ! $ frame ! $
       owned ! U.the-row (Is U.the-row) (EL.makes U.the-type U′.the-plain 𝓤 H A) r _ is $ done !
 
   -- what each callee's triple binds outside, and that the caller has what it asks
@@ -194,17 +204,33 @@ module _ {M : Type 1} (𝓤 : URA M) (H : Heap 𝓤) (A : Atoms 𝓤) (W : Given
   to-begin = ((tt, tt, tt, (length ys, tt), (vint w64 (length ys) ∷ [], tt)), tt)
 
   goes-begin : ent 𝓤 (sem 𝓤 H A ftrue) (Begin 𝓤 H A mem run .pre to-begin)
-  goes-begin = qed W (‵ ftrue ∷ []) ∵ nothing ! $ owned ! usize (Is usize) (uint-makes 𝓤 H A W w64) (length ys) _ (refl, room .0) $ fjoin ! $ move ! (1 ∷ 0 ∷ []) $ join ! $ frame ! $ done !
+  goes-begin = qed W (‵ ftrue ∷ []) ∵ nothing ! $ owned ! usize (Is usize) (uint-makes 𝓤 H A W w64) (length ys) _ (refl, room .0) $ fjoin ! $
+      move ! (1 ∷ 0 ∷ []) $ join ! $ frame ! $ done !
 
   abbrev to-add : Amount → ℕ → Task → Add 𝓤 H A mem run .Ghost
-  to-add acc i y = ((tt, tt, tt, (acc, (i, (y .work, (y .period, (y .deadline, (t, tt)))))), (sum-val acc ∷ [], (vint w64 i ∷ [], (vint w32 (y .work) ∷ [], (vint w32 (y .period) ∷ [], (vint w32 (y .deadline) ∷ [], (vint w32 t ∷ [], tt))))))), tt)
+  to-add acc i y = (
+    (
+      tt,
+      tt,
+      tt,
+      (acc, (i, (y .work, (y .period, (y .deadline, (t, tt)))))),
+      (
+        sum-val acc ∷ [],
+        (vint w64 i ∷ [], (vint w32 (y .work) ∷ [], (vint w32 (y .period) ∷ [], (vint w32 (y .deadline) ∷ [], (vint w32 t ∷ [], tt))))),
+      ),
+    ),
+    tt,
+  )
 
-  goes-add : (acc : Amount) (i : ℕ) (y : Task) → Roomy (toldAmount acc) → Is U.the-row acc (sum-val acc ∷ []) → i < 2 ^ 64 → Is T.the-row y (vals y) → ent 𝓤 (sem 𝓤 H A ftrue) (Add 𝓤 H A mem run .pre (to-add acc i y))
+  goes-add : (acc : Amount) (i : ℕ) (y : Task) → Roomy (toldAmount acc) → Is U.the-row acc (sum-val acc ∷ []) →
+      i < 2 ^ 64 → Is T.the-row y (vals y) → ent 𝓤 (sem 𝓤 H A ftrue) (Add 𝓤 H A mem run .pre (to-add acc i y))
   goes-add acc i y roomy good i-fits g =
       let fields = LL.owed T.the-type T′.the-laws y _ g in
       qed W (‵ ftrue ∷ []) ∵ says ! roomy $ nothing ! $ owned ! u32 (Is u32) (uint-makes 𝓤 H A W w32) t _ (refl, t-fits) $ fjoin ! $
-      owned ! u32 (Is u32) (uint-makes 𝓤 H A W w32) (y .deadline) _ (refl, fields .1 .1 .0 .1) $ fjoin ! $ owned ! u32 (Is u32) (uint-makes 𝓤 H A W w32) (y .period) _ (refl, fields .1 .0 .1) $ fjoin ! $
-      owned ! u32 (Is u32) (uint-makes 𝓤 H A W w32) (y .work) _ (refl, fields .0 .1) $ fjoin ! $ owned ! usize (Is usize) (uint-makes 𝓤 H A W w64) i _ (refl, i-fits) $ fjoin ! $
+      owned ! u32 (Is u32) (uint-makes 𝓤 H A W w32) (y .deadline) _ (refl, fields .1 .1 .0 .1) $ fjoin ! $
+      owned ! u32 (Is u32) (uint-makes 𝓤 H A W w32) (y .period) _ (refl, fields .1 .0 .1) $ fjoin ! $
+      owned ! u32 (Is u32) (uint-makes 𝓤 H A W w32) (y .work) _ (refl, fields .0 .1) $ fjoin ! $
+      owned ! usize (Is usize) (uint-makes 𝓤 H A W w64) i _ (refl, i-fits) $ fjoin ! $
       owned ! U.the-row (Is U.the-row) (EL.makes U.the-type U′.the-plain 𝓤 H A) acc _ good $ fjoin ! $ move ! (1 ∷ 0 ∷ []) $ frame ! $ done !
 
   abbrev to-finish : Amount → Finish 𝓤 H A mem run .Ghost
@@ -215,7 +241,8 @@ module _ {M : Type 1} (𝓤 : URA M) (H : Heap 𝓤) (A : Atoms 𝓤) (W : Given
       qed W (‵ ftrue ∷ []) ∵ nothing ! $ owned ! u32 (Is u32) (uint-makes 𝓤 H A W w32) t _ (refl, t-fits) $ fjoin ! $
       owned ! U.the-row (Is U.the-row) (EL.makes U.the-type U′.the-plain 𝓤 H A) acc _ good $ fjoin ! $ move ! (1 ∷ 0 ∷ []) $ join ! $ frame ! $ done !
 
-  module _ (𝓣 : Tables 𝓤 H) (known-add : Triple 𝓤 (𝓣 .C #add) (Add 𝓤 H A mem run)) (known-finish : Triple 𝓤 (𝓣 .C #finish) (Finish 𝓤 H A mem run)) (q′ : Share) (l₀ l₁ l₂ l₃ l₄ l₅ l₆ l₇ l₈ l₉ l₁₀ : ℕ) where
+  module _ (𝓣 : Tables 𝓤 H) (known-add : Triple 𝓤 (𝓣 .C #add) (Add 𝓤 H A mem run))
+      (known-finish : Triple 𝓤 (𝓣 .C #finish) (Finish 𝓤 H A mem run)) (q′ : Share) (l₀ l₁ l₂ l₃ l₄ l₅ l₆ l₇ l₈ l₉ l₁₀ : ℕ) where
     abbrev C : Calls 𝓤 H
     C = 𝓣 .C
 
@@ -223,19 +250,24 @@ module _ {M : Type 1} (𝓤 : URA M) (H : Heap 𝓤) (A : Atoms 𝓤) (W : Given
     Λ = 𝓣 .Λ
 
     abbrev En : Env 𝓤 H
-    En = (U′.mir, l₀) ∷ (slice, l₁) ∷ (tyInt w32, l₂) ∷ (U′.mir, l₃) ∷ (tyInt w64, l₄) ∷ (T′.mir, l₅) ∷ (tyInt w64, l₆) ∷ (tyInt w64, l₇) ∷ (tyBool, l₈) ∷ (tyPtr, l₉) ∷ (T′.mir, l₁₀) ∷ []
+    En = (U′.mir, l₀) ∷ (slice, l₁) ∷ (tyInt w32, l₂) ∷ (U′.mir, l₃) ∷ (tyInt w64, l₄) ∷ (T′.mir, l₅)
+        ∷ (tyInt w64, l₆) ∷ (tyInt w64, l₇) ∷ (tyBool, l₈) ∷ (tyPtr, l₉) ∷ (T′.mir, l₁₀) ∷ []
 
     -- where a turn begins: the elements, the open borrow, the fractured borrow, and what the slice owns; then the locals, the last first
     abbrev At : St ys t → List (Item 𝓤)
-    At s = ‵ (row T.the-row q′ ys b o) ∷ ‵ (fobor κ q (arr-parts (shares T.the-row) (length ys) .part q′ ys b o)) ∷ ‵ (fshr-bor κ (λ p. arr-parts (shares T.the-row) (length ys) .part p ys b o)) ∷ ‵ Own
-        ∷ ‵ (froom T′.mir l₁₀ 0) ∷ ‵ (fdies T′.mir l₁₀) ∷ ‵ (froom tyPtr l₉ 0) ∷ ‵ (fdies tyPtr l₉) ∷ ‵ (froom tyBool l₈ 0) ∷ ‵ (fdies tyBool l₈) ∷ ‵ (froom (tyInt w64) l₇ 0) ∷ ‵ (fdies (tyInt w64) l₇)
-        ∷ ‵ (froom (tyInt w64) l₆ 0) ∷ ‵ (fdies (tyInt w64) l₆) ∷ ‵ (froom T′.mir l₅ 0) ∷ ‵ (fdies T′.mir l₅) ∷ ‵ (fat fullShare (tyInt w64) l₄ 0 (vint w64 (s .i))) ∷ ‵ (fdies (tyInt w64) l₄)
+    At s = ‵ (row T.the-row q′ ys b o) ∷ ‵ (fobor κ q (arr-parts (shares T.the-row) (length ys) .part q′ ys b o))
+        ∷ ‵ (fshr-bor κ (λ p. arr-parts (shares T.the-row) (length ys) .part p ys b o)) ∷ ‵ Own
+        ∷ ‵ (froom T′.mir l₁₀ 0) ∷ ‵ (fdies T′.mir l₁₀) ∷ ‵ (froom tyPtr l₉ 0) ∷ ‵ (fdies tyPtr l₉)
+        ∷ ‵ (froom tyBool l₈ 0) ∷ ‵ (fdies tyBool l₈) ∷ ‵ (froom (tyInt w64) l₇ 0) ∷ ‵ (fdies (tyInt w64) l₇)
+        ∷ ‵ (froom (tyInt w64) l₆ 0) ∷ ‵ (fdies (tyInt w64) l₆) ∷ ‵ (froom T′.mir l₅ 0) ∷ ‵ (fdies T′.mir l₅)
+        ∷ ‵ (fat fullShare (tyInt w64) l₄ 0 (vint w64 (s .i))) ∷ ‵ (fdies (tyInt w64) l₄)
         ∷ ‵ (fat fullShare U′.mir l₃ 0 (sum-val (s .acc))) ∷ ‵ (fdies U′.mir l₃) ∷ ‵ (fat fullShare (tyInt w32) l₂ 0 (vint w32 t)) ∷ ‵ (fdies (tyInt w32) l₂)
         ∷ ‵ (fat fullShare slice l₁ 0 (sliceVal (b, o) (length ys))) ∷ ‵ (fdies slice l₁) ∷ ‵ (froom U′.mir l₀ 0) ∷ ‵ (fdies U′.mir l₀) ∷ []
 
     -- a turn's postcondition: it ends nearer to the end, or the loop is left and the rest of the body runs
     abbrev Turned : St ys t → Out → SProp 𝓤
-    Turned s = afterTurn 𝓤 H (Below 𝓤 H A (Nearer ys t) At s) (afterBlock 𝓤 H (afterSeq 𝓤 H (Wp 𝓤 H C Λ En mir.t-5 (atReturn 𝓤 H En Post)) (atReturn 𝓤 H En Post)))
+    Turned s = afterTurn 𝓤 H (Below 𝓤 H A (Nearer ys t) At s)
+        (afterBlock 𝓤 H (afterSeq 𝓤 H (Wp 𝓤 H C Λ En mir.t-5 (atReturn 𝓤 H En Post)) (atReturn 𝓤 H En Post)))
 
     more : (s : St ys t) → s .i < length ys → Sq W (At s) (runs C Λ En mir.turn-1 (anyQ (Turned s)))
     unfolding afterTurn
@@ -243,48 +275,72 @@ module _ {M : Type 1} (𝓤 : URA M) (H : Heap 𝓤) (A : Atoms 𝓤) (W : Given
         let next-fits : s .i + 1 < 2 ^ 64 = omega (arith, room .0) in
         let i-fits : s .i < 2 ^ 64 = omega arith in
         let at-fits : s .i * 12 < 2 ^ 64 = omega (arith, room .1) in
-        assigns ! (of-opd ! (load ! (from ! (fld ! refl (stop !))) (look-in ! 22 (sub ! 1 refl (whole !))))) (from ! (stop !)) (init ! 10 refl (tt, record { fits = room .0 })) $
-        assigns ! (bin ! (load ! (from ! (stop !)) (look ! 16 refl)) (load ! (from ! (stop !)) (look ! 10 refl)) tt) (from ! (stop !)) (init ! 8 refl (tt, tt)) $
+        assigns ! (of-opd ! (load ! (from ! (fld ! refl (stop !))) (look-in ! 22 (sub ! 1 refl (whole !)))))
+        (from ! (stop !)) (init ! 10 refl (tt, record { fits = room .0 })) $
+        assigns ! (bin ! (load ! (from ! (stop !)) (look ! 16 refl)) (load ! (from ! (stop !)) (look ! 10 refl)) tt)
+        (from ! (stop !)) (init ! 8 refl (tt, tt)) $
         rewrite ! 8 (λ (z : Bool). ‵ (fat fullShare tyBool l₈ 0 (vbool z))) (lt-ltb (s .i) (length ys) less) refl $
         stays ! (load ! (from ! (stop !)) (look ! 8 refl)) $
-        assigns ! (bin ! (load ! (from ! (stop !)) (look ! 16 refl)) (lit ! tt) (record { fits = at-fits })) (from ! (stop !)) (store ! 10 refl (tt, record { fits = at-fits })) $
-        assigns ! (bin ! (load ! (from ! (fld ! refl (stop !))) (look-in ! 22 (sub ! 0 refl (whole !)))) (load ! (from ! (stop !)) (look ! 10 refl)) tt) (from ! (stop !)) (init ! 6 refl (tt, tt)) $
+        assigns ! (bin ! (load ! (from ! (stop !)) (look ! 16 refl)) (lit ! tt) (record { fits = at-fits }))
+        (from ! (stop !)) (store ! 10 refl (tt, record { fits = at-fits })) $
+        assigns ! (bin ! (load ! (from ! (fld ! refl (stop !))) (look-in ! 22 (sub ! 0 refl (whole !)))) (load ! (from ! (stop !)) (look ! 10 refl)) tt)
+        (from ! (stop !)) (init ! 6 refl (tt, tt)) $
         rewrite ! 6 (λ (p : ℕ). ‵ (fat fullShare tyPtr l₉ 0 (vptr b p))) (sym (place-is 12 o (s .i))) refl $
         elem-out ! T.the-row (Is T.the-row) (shows 𝓤 H A T.the-row) vals (LL.tells T.the-type T′.the-laws) q′ ys (s .i) none b o less (λ g.
         -- [tasks[i]; what it owns; the others; the open borrow; the fractured borrow; what the slice owns; _10; …; _9; …]
-        assigns ! (of-opd ! (load ! (from ! (hop ! (look ! 8 refl) (stop !))) (look-raw ! 0 refl))) (from ! (stop !)) (init ! 6 refl (LL.lawful T.the-type T′.the-laws 𝓤 H A W .typed (elem ys t s) _ g .0)) $
-        assigns ! (of-opd ! (load ! (from ! (stop !)) (look ! 6 refl))) (from ! (stop !)) (init ! 16 refl (LL.lawful T.the-type T′.the-laws 𝓤 H A W .typed (elem ys t s) _ g .0)) $
+        assigns ! (of-opd ! (load ! (from ! (hop ! (look ! 8 refl) (stop !))) (look-raw ! 0 refl)))
+        (from ! (stop !)) (init ! 6 refl (LL.lawful T.the-type T′.the-laws 𝓤 H A W .typed (elem ys t s) _ g .0)) $
+        assigns ! (of-opd ! (load ! (from ! (stop !)) (look ! 6 refl))) (from ! (stop !))
+        (init ! 16 refl (LL.lawful T.the-type T′.the-laws 𝓤 H A W .typed (elem ys t s) _ g .0)) $
         elem-back ! T.the-row q′ ys (s .i) none (vals (elem ys t s)) b o less $
         -- the call, with what `add` asks at the head
-        nothing ! $ use1 W (raw (Add 𝓤 H A mem run .pre (to-add (s .acc) (s .i) (elem ys t s)))) (goes-add (s .acc) (s .i) (elem ys t s) (fits-more ys t s t-fits) (s .good) i-fits g) $
+        nothing ! $ use1 W (raw (Add 𝓤 H A mem run .pre (to-add (s .acc) (s .i) (elem ys t s))))
+        (goes-add (s .acc) (s .i) (elem ys t s) (fits-more ys t s t-fits) (s .good) i-fits g) $
         calls-at ! (fmOf 𝓤 H (W .laws) 𝓣) (Add 𝓤 H A mem run) known-add (to-add (s .acc) (s .i) (elem ys t s))
-        (and-then ! (load ! (from ! (stop !)) (look ! 19 refl)) (and-then ! (load ! (from ! (stop !)) (look ! 17 refl)) (and-then ! (load ! (from ! (fld ! refl (stop !))) (look-in ! 15 (sub ! 0 refl (whole !)))) (and-then ! (load ! (from ! (fld ! refl (stop !))) (look-in ! 15 (sub ! 1 refl (whole !))))
-        (and-then ! (load ! (from ! (fld ! refl (stop !))) (look-in ! 15 (sub ! 2 refl (whole !)))) (and-then ! (load ! (from ! (stop !)) (look ! 21 refl)) (no-more !))))))) (λ w.
-        use1 W (later (some (λ (r : Amount). (‵ ftrue ⊛ ‵ (U.the-row .own r (w ∷ []))) ⊛ raw (ensured 𝓤 H A add.ended (add.clauses 𝓤 H A mem run) tt (to-add (s .acc) (s .i) (elem ys t s) .0 .3) tt r)))) (id⊢ 𝓤 _) $ await ! tt $ pick ! (λ r.
-        split ! $ move ! (1 ∷ []) $ use1 W (raw (fact 𝓤 (toldAmount r ≡ added ys t s))) (add-of 𝓤 H A mem run (s .acc) (s .i) (elem ys t s .work) (elem ys t s .period) (elem ys t s .deadline) t r) $ heard ! (toldAmount r ≡ added ys t s) (λ e. split ! $ drop ! $
+        (and-then ! (load ! (from ! (stop !)) (look ! 19 refl)) (and-then ! (load ! (from ! (stop !)) (look ! 17 refl))
+        (and-then ! (load ! (from ! (fld ! refl (stop !))) (look-in ! 15 (sub ! 0 refl (whole !))))
+        (and-then ! (load ! (from ! (fld ! refl (stop !))) (look-in ! 15 (sub ! 1 refl (whole !))))
+        (and-then ! (load ! (from ! (fld ! refl (stop !))) (look-in ! 15 (sub ! 2 refl (whole !))))
+        (and-then ! (load ! (from ! (stop !)) (look ! 21 refl)) (no-more !))))))) (λ w.
+        use1 W (later (some (λ (r : Amount). (‵ ftrue ⊛ ‵ (U.the-row .own r (w ∷ [])))
+        ⊛ raw (ensured 𝓤 H A add.ended (add.clauses 𝓤 H A mem run) tt (to-add (s .acc) (s .i) (elem ys t s) .0 .3) tt r)))) (id⊢ 𝓤 _) $
+        await ! tt $ pick ! (λ r.
+        split ! $ move ! (1 ∷ []) $ use1 W (raw (fact 𝓤 (toldAmount r ≡ added ys t s)))
+        (add-of 𝓤 H A mem run (s .acc) (s .i) (elem ys t s .work) (elem ys t s .period) (elem ys t s .deadline) t r) $
+        heard ! (toldAmount r ≡ added ys t s) (λ e. split ! $ drop ! $
         facts ! U.the-row (Is U.the-row) (shows 𝓤 H A U.the-row) r (w ∷ []) (λ is.
-        land ! (from ! (stop !)) (store ! 18 refl (EL.lawful U.the-type U′.the-laws 𝓤 H A W tt .typed r _ is .0)) $ rewrite ! 18 (λ (u : Val). ‵ (fat fullShare U′.mir l₃ 0 u)) (is-sum r w is) refl $
-        assigns-last ! (bin ! (load ! (from ! (stop !)) (look ! 16 refl)) (lit ! tt) (record { fits = next-fits })) (from ! (stop !)) (store ! 16 refl (tt, record { fits = next-fits })) $
+        land ! (from ! (stop !)) (store ! 18 refl (EL.lawful U.the-type U′.the-laws 𝓤 H A W tt .typed r _ is .0)) $
+        rewrite ! 18 (λ (u : Val). ‵ (fat fullShare U′.mir l₃ 0 u)) (is-sum r w is) refl $
+        assigns-last ! (bin ! (load ! (from ! (stop !)) (look ! 16 refl)) (lit ! tt) (record { fits = next-fits }))
+        (from ! (stop !)) (store ! 16 refl (tt, record { fits = next-fits })) $
         forget ! 4 refl $ forget ! 6 refl $ forget ! 8 refl $ forget ! 10 refl $ forget ! 14 refl $
         again ! (Nearer ys t) At s (goes-on ys t s r w less e is) (omega arith))))))
 
     ends : (s : St ys t) → length ys ≤ s .i → Sq W (At s) (runs C Λ En mir.turn-1 (anyQ (Turned s)))
     unfolding afterTurn
     ends s over =
-        assigns ! (of-opd ! (load ! (from ! (fld ! refl (stop !))) (look-in ! 22 (sub ! 1 refl (whole !))))) (from ! (stop !)) (init ! 10 refl (tt, record { fits = room .0 })) $
-        assigns ! (bin ! (load ! (from ! (stop !)) (look ! 16 refl)) (load ! (from ! (stop !)) (look ! 10 refl)) tt) (from ! (stop !)) (init ! 8 refl (tt, tt)) $
+        assigns ! (of-opd ! (load ! (from ! (fld ! refl (stop !))) (look-in ! 22 (sub ! 1 refl (whole !)))))
+        (from ! (stop !)) (init ! 10 refl (tt, record { fits = room .0 })) $
+        assigns ! (bin ! (load ! (from ! (stop !)) (look ! 16 refl)) (load ! (from ! (stop !)) (look ! 10 refl)) tt)
+        (from ! (stop !)) (init ! 8 refl (tt, tt)) $
         rewrite ! 8 (λ (z : Bool). ‵ (fat fullShare tyBool l₈ 0 (vbool z))) (le-ltb (s .i) (length ys) over) refl $
         leaves-loop ! (load ! (from ! (stop !)) (look ! 8 refl)) $ exec ! C Λ En mir.t-5 (atRet En Post) $
         shuts-slice ! tt T.the-row q′ ys b o $
         -- [the token; the fractured borrow; what the slice owns; _10; …; _9; …; _8; …; _7; …; _6; …; _5; …; _4; …; _3; …; _2; …; _1; …; _0; …]
         nothing ! $ use1 W (raw (Finish 𝓤 H A mem run .pre (to-finish (s .acc)))) (goes-finish (s .acc) (s .good)) $
-        calls-at ! (fmOf 𝓤 H (W .laws) 𝓣) (Finish 𝓤 H A mem run) known-finish (to-finish (s .acc)) (and-then ! (load ! (from ! (stop !)) (look ! 18 refl)) (and-then ! (load ! (from ! (stop !)) (look ! 20 refl)) (no-more !))) (λ w.
-        use1 W (later (some (λ (r : Amount). (‵ ftrue ⊛ ‵ (U.the-row .own r (w ∷ []))) ⊛ raw (ensured 𝓤 H A finish.ended (finish.clauses 𝓤 H A mem run) tt (s .acc, (t, tt)) tt r)))) (id⊢ 𝓤 _) $ await ! tt $ pick ! (λ r.
-        split ! $ move ! (1 ∷ []) $ use1 W (raw (fact 𝓤 (toldAmount r ≡ finishOf (toldAmount (s .acc)) t))) (finish-of 𝓤 H A mem run (s .acc) t r) $ heard ! (toldAmount r ≡ finishOf (toldAmount (s .acc)) t) (λ e. split ! $ drop ! $
+        calls-at ! (fmOf 𝓤 H (W .laws) 𝓣) (Finish 𝓤 H A mem run) known-finish (to-finish (s .acc))
+        (and-then ! (load ! (from ! (stop !)) (look ! 18 refl)) (and-then ! (load ! (from ! (stop !)) (look ! 20 refl)) (no-more !))) (λ w.
+        use1 W (later (some (λ (r : Amount). (‵ ftrue ⊛ ‵ (U.the-row .own r (w ∷ [])))
+        ⊛ raw (ensured 𝓤 H A finish.ended (finish.clauses 𝓤 H A mem run) tt (s .acc, (t, tt)) tt r)))) (id⊢ 𝓤 _) $ await ! tt $ pick ! (λ r.
+        split ! $ move ! (1 ∷ []) $ use1 W (raw (fact 𝓤 (toldAmount r ≡ finishOf (toldAmount (s .acc)) t))) (finish-of 𝓤 H A mem run (s .acc) t r) $
+        heard ! (toldAmount r ≡ finishOf (toldAmount (s .acc)) t) (λ e. split ! $ drop ! $
         facts ! U.the-row (Is U.the-row) (shows 𝓤 H A U.the-row) r (w ∷ []) (λ is.
         land ! (from ! (stop !)) (init ! 23 refl (EL.lawful U.the-type U′.the-laws 𝓤 H A W tt .typed r _ is .0)) $
-        returns ! (look ! 23 refl) $ forget ! 7 refl $ forget ! 9 refl $ forget ! 15 refl $ forget ! 17 refl $ forget ! 19 refl $ forget ! 21 refl $ forget ! 23 refl $
-        move ! (23 ∷ 24 ∷ []) $ free1 ! $ move ! (21 ∷ 22 ∷ []) $ free1 ! $ move ! (19 ∷ 20 ∷ []) $ free1 ! $ move ! (17 ∷ 18 ∷ []) $ free1 ! $ move ! (15 ∷ 16 ∷ []) $ free1 ! $ move ! (13 ∷ 14 ∷ []) $ free1 ! $ move ! (11 ∷ 12 ∷ []) $ free1 ! $ move ! (9 ∷ 10 ∷ []) $ free1 ! $ move ! (7 ∷ 8 ∷ []) $ free1 ! $ move ! (5 ∷ 6 ∷ []) $ free1 ! $ move ! (3 ∷ 4 ∷ []) $ free1 ! $ free0 ! $
+        returns ! (look ! 23 refl) $ forget ! 7 refl $ forget ! 9 refl $ forget ! 15 refl $
+        forget ! 17 refl $ forget ! 19 refl $ forget ! 21 refl $ forget ! 23 refl $
+        move ! (23 ∷ 24 ∷ []) $ free1 ! $ move ! (21 ∷ 22 ∷ []) $ free1 ! $ move ! (19 ∷ 20 ∷ []) $ free1 ! $ move ! (17 ∷ 18 ∷ []) $ free1 ! $
+        move ! (15 ∷ 16 ∷ []) $ free1 ! $ move ! (13 ∷ 14 ∷ []) $ free1 ! $ move ! (11 ∷ 12 ∷ []) $ free1 ! $ move ! (9 ∷ 10 ∷ []) $ free1 ! $
+        move ! (7 ∷ 8 ∷ []) $ free1 ! $ move ! (5 ∷ 6 ∷ []) $ free1 ! $ move ! (3 ∷ 4 ∷ []) $ free1 ! $ free0 ! $
         keep ! (0 ∷ 2 ∷ []) $ by ! (exits r w (e ∙ all-done ys t s over) is)))))
 
     turns : (s : St ys t) → Sq W (At s) (runs C Λ En mir.turn-1 (anyQ (Turned s)))
@@ -294,55 +350,76 @@ module _ {M : Type 1} (𝓤 : URA M) (H : Heap 𝓤) (A : Atoms 𝓤) (W : Given
         by-test true e = more s (ltb-true (s .i) (length ys) e)
         by-test false e = ends s (ltb-false (s .i) (length ys) e)
 
-  module _ (𝓣 : Tables 𝓤 H) (known-add : Triple 𝓤 (𝓣 .C #add) (Add 𝓤 H A mem run)) (known-finish : Triple 𝓤 (𝓣 .C #finish) (Finish 𝓤 H A mem run)) (l₀ l₁ l₂ l₃ l₄ l₅ l₆ l₇ l₈ l₉ l₁₀ : ℕ) where
+  module _ (𝓣 : Tables 𝓤 H) (known-add : Triple 𝓤 (𝓣 .C #add) (Add 𝓤 H A mem run))
+      (known-finish : Triple 𝓤 (𝓣 .C #finish) (Finish 𝓤 H A mem run)) (l₀ l₁ l₂ l₃ l₄ l₅ l₆ l₇ l₈ l₉ l₁₀ : ℕ) where
     -- where the loop is reached: the locals, the last first, the token, and what the parameters own
     abbrev Before : Amount → List (Item 𝓤)
-    Before r = ‵ (froom T′.mir l₁₀ 0) ∷ ‵ (fdies T′.mir l₁₀) ∷ ‵ (froom tyPtr l₉ 0) ∷ ‵ (fdies tyPtr l₉) ∷ ‵ (froom tyBool l₈ 0) ∷ ‵ (fdies tyBool l₈) ∷ ‵ (froom (tyInt w64) l₇ 0) ∷ ‵ (fdies (tyInt w64) l₇)
-        ∷ ‵ (froom (tyInt w64) l₆ 0) ∷ ‵ (fdies (tyInt w64) l₆) ∷ ‵ (froom T′.mir l₅ 0) ∷ ‵ (fdies T′.mir l₅) ∷ ‵ (fat fullShare (tyInt w64) l₄ 0 (vint w64 0)) ∷ ‵ (fdies (tyInt w64) l₄)
+    Before r = ‵ (froom T′.mir l₁₀ 0) ∷ ‵ (fdies T′.mir l₁₀) ∷ ‵ (froom tyPtr l₉ 0) ∷ ‵ (fdies tyPtr l₉)
+        ∷ ‵ (froom tyBool l₈ 0) ∷ ‵ (fdies tyBool l₈) ∷ ‵ (froom (tyInt w64) l₇ 0) ∷ ‵ (fdies (tyInt w64) l₇)
+        ∷ ‵ (froom (tyInt w64) l₆ 0) ∷ ‵ (fdies (tyInt w64) l₆) ∷ ‵ (froom T′.mir l₅ 0)
+        ∷ ‵ (fdies T′.mir l₅) ∷ ‵ (fat fullShare (tyInt w64) l₄ 0 (vint w64 0)) ∷ ‵ (fdies (tyInt w64) l₄)
         ∷ ‵ (fat fullShare U′.mir l₃ 0 (sum-val r)) ∷ ‵ (fdies U′.mir l₃) ∷ ‵ (fat fullShare (tyInt w32) l₂ 0 (vint w32 t)) ∷ ‵ (fdies (tyInt w32) l₂)
         ∷ ‵ (fat fullShare slice l₁ 0 (sliceVal (b, o) (length ys))) ∷ ‵ (fdies slice l₁) ∷ ‵ (froom U′.mir l₀ 0) ∷ ‵ (fdies U′.mir l₀)
         ∷ (‵ (flft κ q) ⊛ ‵ ftrue) ∷ ‵ (owns (ShrSlice (named 0) κ T.the-row ∷ u32 ∷ []) x at) ∷ []
 
     abbrev Env₀ : Env 𝓤 H
-    Env₀ = (U′.mir, l₀) ∷ (slice, l₁) ∷ (tyInt w32, l₂) ∷ (U′.mir, l₃) ∷ (tyInt w64, l₄) ∷ (T′.mir, l₅) ∷ (tyInt w64, l₆) ∷ (tyInt w64, l₇) ∷ (tyBool, l₈) ∷ (tyPtr, l₉) ∷ (T′.mir, l₁₀) ∷ []
+    Env₀ = (U′.mir, l₀) ∷ (slice, l₁) ∷ (tyInt w32, l₂) ∷ (U′.mir, l₃) ∷ (tyInt w64, l₄) ∷ (T′.mir, l₅)
+        ∷ (tyInt w64, l₆) ∷ (tyInt w64, l₇) ∷ (tyBool, l₈) ∷ (tyPtr, l₉) ∷ (T′.mir, l₁₀) ∷ []
 
     -- the loop, and what follows it
     looped : (s : St ys t) → s .i ≡ 0 → Sq W (Before (s .acc)) (runs (𝓣 .C) (𝓣 .Λ) Env₀ mir.t-4 (atRet Env₀ Post))
     looped s at-0 =
         rewrite ! 12 (λ (k : ℕ). ‵ (fat fullShare (tyInt w64) l₄ 0 (vint w64 k))) (sym at-0) refl $
         -- the slice is Copy: one copy of what it owns is kept for the exit, and of the other the fractured borrow is looked into
-        move ! (23 ∷ []) $ fsplit ! $ use1 W (‵ Own ⊛ ‵ Own) (shr-slice-copy 𝓤 H A W (named 0) κ T.the-row .twice (x .0) (at .0)) $ split ! $ fsplit ! $ drop ! $ fsplit ! $ drop ! $ move ! (25 ∷ []) $ split ! $ move ! (2 ∷ 0 ∷ []) $
-        looks-slice ! tt T.the-row (Is T.the-row) (shows 𝓤 H A T.the-row) vals (LL.tells T.the-type T′.the-laws) (LL.copy T.the-type T′.the-copy 𝓤 H A W) ys b o (λ q′.
+        move ! (23 ∷ []) $ fsplit ! $ use1 W (‵ Own ⊛ ‵ Own) (shr-slice-copy 𝓤 H A W (named 0) κ T.the-row .twice (x .0) (at .0)) $
+        split ! $ fsplit ! $ drop ! $ fsplit ! $ drop ! $ move ! (25 ∷ []) $ split ! $ move ! (2 ∷ 0 ∷ []) $
+        looks-slice ! tt T.the-row (Is T.the-row) (shows 𝓤 H A T.the-row) vals
+        (LL.tells T.the-type T′.the-laws) (LL.copy T.the-type T′.the-copy 𝓤 H A W) ys b o (λ q′.
         -- [the elements; the open borrow; the fractured borrow; true; what the slice owns; t's; _10; …; _0; …]
-        keep ! (0 ∷ 1 ∷ 2 ∷ 4 ∷ 6 ∷ 7 ∷ 8 ∷ 9 ∷ 10 ∷ 11 ∷ 12 ∷ 13 ∷ 14 ∷ 15 ∷ 16 ∷ 17 ∷ 18 ∷ 19 ∷ 20 ∷ 21 ∷ 22 ∷ 23 ∷ 24 ∷ 25 ∷ 26 ∷ 27 ∷ []) $ first ! $ blocks ! $
-        loops ! 𝓣 (Nearer ys t) (Nearer-wf ys t) (At 𝓣 known-add known-finish q′ l₀ l₁ l₂ l₃ l₄ l₅ l₆ l₇ l₈ l₉ l₁₀) (turns 𝓣 known-add known-finish q′ l₀ l₁ l₂ l₃ l₄ l₅ l₆ l₇ l₈ l₉ l₁₀) s)
+        keep ! (0 ∷ 1 ∷ 2 ∷ 4 ∷ 6 ∷ 7 ∷ 8 ∷ 9 ∷ 10 ∷ 11 ∷ 12 ∷ 13 ∷ 14 ∷ 15 ∷ 16 ∷ 17 ∷ 18 ∷ 19 ∷ 20 ∷ 21 ∷ 22 ∷ 23 ∷ 24 ∷ 25 ∷ 26 ∷ 27 ∷ []) $
+        first ! $ blocks ! $
+        loops ! 𝓣 (Nearer ys t) (Nearer-wf ys t) (At 𝓣 known-add known-finish q′ l₀ l₁ l₂ l₃ l₄ l₅ l₆ l₇ l₈ l₉ l₁₀)
+        (turns 𝓣 known-add known-finish q′ l₀ l₁ l₂ l₃ l₄ l₅ l₆ l₇ l₈ l₉ l₁₀) s)
 
-  module _ (𝓣 : Tables 𝓤 H) (known-begin : Triple 𝓤 (𝓣 .C #begin) (Begin 𝓤 H A mem run)) (known-add : Triple 𝓤 (𝓣 .C #add) (Add 𝓤 H A mem run)) (known-finish : Triple 𝓤 (𝓣 .C #finish) (Finish 𝓤 H A mem run)) where
-    walk : ent 𝓤 (onEntry 𝓤 H A demand.signature (κ, tt) (q, tt) x at) (WpFn 𝓤 H (𝓣 .C) (𝓣 .Λ) code.function (sliceVal (b, o) (length ys) ∷ vint w32 t ∷ []) Post)
+  module _ (𝓣 : Tables 𝓤 H) (known-begin : Triple 𝓤 (𝓣 .C #begin) (Begin 𝓤 H A mem run))
+      (known-add : Triple 𝓤 (𝓣 .C #add) (Add 𝓤 H A mem run)) (known-finish : Triple 𝓤 (𝓣 .C #finish) (Finish 𝓤 H A mem run)) where
+    walk : ent 𝓤 (onEntry 𝓤 H A demand.signature (κ, tt) (q, tt) x at)
+        (WpFn 𝓤 H (𝓣 .C) (𝓣 .Λ) code.function (sliceVal (b, o) (length ys) ∷ vint w32 t ∷ []) Post)
     walk =
-        qed W ((‵ (flft κ q) ⊛ ‵ ftrue) ∷ ‵ (owns (ShrSlice (named 0) κ T.the-row ∷ u32 ∷ []) x at) ∷ []) ∵ enter ! (𝓣 .C) (𝓣 .Λ) code.function (sliceVal (b, o) (length ys) ∷ vint w32 t ∷ []) _ $
-        alloc1 ! (λ l₀. alloc1 ! (λ l₁. alloc1 ! (λ l₂. alloc1 ! (λ l₃. alloc1 ! (λ l₄. alloc1 ! (λ l₅. alloc1 ! (λ l₆. alloc1 ! (λ l₇. alloc1 ! (λ l₈. alloc1 ! (λ l₉. alloc1 ! (λ l₁₀. alloc0 ! $ params1 ! $
+        qed W ((‵ (flft κ q) ⊛ ‵ ftrue) ∷ ‵ (owns (ShrSlice (named 0) κ T.the-row ∷ u32 ∷ []) x at) ∷ []) ∵
+        enter ! (𝓣 .C) (𝓣 .Λ) code.function (sliceVal (b, o) (length ys) ∷ vint w32 t ∷ []) _ $
+        alloc1 ! (λ l₀. alloc1 ! (λ l₁. alloc1 ! (λ l₂. alloc1 ! (λ l₃. alloc1 ! (λ l₄. alloc1 ! (λ l₅.
+        alloc1 ! (λ l₆. alloc1 ! (λ l₇. alloc1 ! (λ l₈. alloc1 ! (λ l₉. alloc1 ! (λ l₁₀. alloc0 ! $ params1 ! $
         pass1 ! (init ! 18 refl (tt, (tt, (record { fits = room .0 }, tt)))) $ pass1 ! (init ! 16 refl (tt, record { fits = t-fits })) $ pass0 ! $
-        assigns ! (of-opd ! (load ! (from ! (fld ! refl (stop !))) (look-in ! 18 (sub ! 1 refl (whole !))))) (from ! (stop !)) (init ! 8 refl (tt, record { fits = room .0 })) $
+        assigns ! (of-opd ! (load ! (from ! (fld ! refl (stop !))) (look-in ! 18 (sub ! 1 refl (whole !)))))
+        (from ! (stop !)) (init ! 8 refl (tt, record { fits = room .0 })) $
         nothing ! $ use1 W (raw (Begin 𝓤 H A mem run .pre to-begin)) goes-begin $
         calls-at ! (fmOf 𝓤 H (W .laws) 𝓣) (Begin 𝓤 H A mem run) known-begin to-begin (and-then ! (load ! (from ! (stop !)) (look ! 9 refl)) (no-more !)) (λ w.
-        use1 W (later (some (λ (r : Amount). (‵ ftrue ⊛ ‵ (U.the-row .own r (w ∷ []))) ⊛ raw (ensured 𝓤 H A begin.ended (begin.clauses 𝓤 H A mem run) tt (length ys, tt) tt r)))) (id⊢ 𝓤 _) $ await ! tt $ pick ! (λ r.
-        split ! $ move ! (1 ∷ []) $ use1 W (raw (fact 𝓤 (toldAmount r ≡ beginOf (length ys)))) (begin-of 𝓤 H A mem run (length ys) r) $ heard ! (toldAmount r ≡ beginOf (length ys)) (λ e. split ! $ drop ! $
+        use1 W (later (some (λ (r : Amount). (‵ ftrue ⊛ ‵ (U.the-row .own r (w ∷ [])))
+        ⊛ raw (ensured 𝓤 H A begin.ended (begin.clauses 𝓤 H A mem run) tt (length ys, tt) tt r)))) (id⊢ 𝓤 _) $ await ! tt $ pick ! (λ r.
+        split ! $ move ! (1 ∷ []) $ use1 W (raw (fact 𝓤 (toldAmount r ≡ beginOf (length ys)))) (begin-of 𝓤 H A mem run (length ys) r) $
+        heard ! (toldAmount r ≡ beginOf (length ys)) (λ e. split ! $ drop ! $
         facts ! U.the-row (Is U.the-row) (shows 𝓤 H A U.the-row) r (w ∷ []) (λ is.
-        land ! (from ! (stop !)) (init ! 14 refl (EL.lawful U.the-type U′.the-laws 𝓤 H A W tt .typed r _ is .0)) $ rewrite ! 14 (λ (u : Val). ‵ (fat fullShare U′.mir l₃ 0 u)) (is-sum r w is) refl $
+        land ! (from ! (stop !)) (init ! 14 refl (EL.lawful U.the-type U′.the-laws 𝓤 H A W tt .typed r _ is .0)) $
+        rewrite ! 14 (λ (u : Val). ‵ (fat fullShare U′.mir l₃ 0 u)) (is-sum r w is) refl $
         assigns ! (of-opd ! (lit ! tt)) (from ! (stop !)) (init ! 12 refl (tt, record { fits = lit< tt })) $ forget ! 8 refl $
         looped 𝓣 known-add known-finish l₀ l₁ l₂ l₃ l₄ l₅ l₆ l₇ l₈ l₉ l₁₀ (starts ys t r w e is) refl)))))))))))))))
 
-module _ {M : Type 1} (𝓤 : URA M) (H : Heap 𝓤) (A : Atoms 𝓤) (W : Given 𝓤 H A) (mem : Memory → SProp 𝓤) (run : Routine → Fun 𝓤) (𝓣 : Tables 𝓤 H) (known-begin : Triple 𝓤 (𝓣 .C #begin) (Begin 𝓤 H A mem run)) (known-add : Triple 𝓤 (𝓣 .C #add) (Add 𝓤 H A mem run)) (known-finish : Triple 𝓤 (𝓣 .C #finish) (Finish 𝓤 H A mem run)) where
+module _ {M : Type 1} (𝓤 : URA M) (H : Heap 𝓤) (A : Atoms 𝓤) (W : Given 𝓤 H A) (mem : Memory → SProp 𝓤)
+    (run : Routine → Fun 𝓤) (𝓣 : Tables 𝓤 H) (known-begin : Triple 𝓤 (𝓣 .C #begin) (Begin 𝓤 H A mem run))
+    (known-add : Triple 𝓤 (𝓣 .C #add) (Add 𝓤 H A mem run)) (known-finish : Triple 𝓤 (𝓣 .C #finish) (Finish 𝓤 H A mem run)) where
   demand-walks : Walks 𝓤 H A demand.ended stayed (WpFn 𝓤 H (𝓣 .C) (𝓣 .Λ) code.function) (demand.clauses 𝓤 H A mem run)
-  demand-walks = walked 𝓤 H A demand.ended stayed (demand.clauses 𝓤 H A mem run) (WpFn 𝓤 H (𝓣 .C) (𝓣 .Λ) code.function) (λ κs. (slice-vals, (uint-vals w32, tt))) (λ κs. (shr-slice-tells (named 0) (κs .0) T.the-row, (uint-tells w32, tt)))
-      (λ κs qs bounds a g are. via 𝓤 _ (fst∗ 𝓤 _ (emp 𝓤)) (walk 𝓤 H A W mem run (κs .0) (qs .0) (a .0 .ptr .0) (a .0 .ptr .1) (a .0 .name) (a .0 .now) (a .1 .0) (are .1 .0 .1) (are .0 .0 .1) 𝓣 known-begin known-add known-finish))
+  demand-walks = walked 𝓤 H A demand.ended stayed (demand.clauses 𝓤 H A mem run) (WpFn 𝓤 H (𝓣 .C) (𝓣 .Λ) code.function)
+      (λ κs. (slice-vals, (uint-vals w32, tt))) (λ κs. (shr-slice-tells (named 0) (κs .0) T.the-row, (uint-tells w32, tt)))
+      (λ κs qs bounds a g are. via 𝓤 _ (fst∗ 𝓤 _ (emp 𝓤)) (walk 𝓤 H A W mem run (κs .0) (qs .0) (a .0 .ptr .0)
+      (a .0 .ptr .1) (a .0 .name) (a .0 .now) (a .1 .0) (are .1 .0 .1) (are .0 .0 .1) 𝓣 known-begin known-add known-finish))
 
   goes : AllGo 𝓤 H A W 1 (demand.signature .params) (demand.ended .kept) stayed
   goes = (goes-none-slice 𝓤 H A W 1 (0 ∷ []) tt (plain (λ _. T.the-row)) yes, (goes-none 𝓤 H A W 1 (λ _. u32) yes (λ κs x f. refl), tt))
 
   demand-meets : Meets 𝓤 H A demand.signature (WpFn 𝓤 H (𝓣 .C) (𝓣 .Λ) code.function) (demand.spec 𝓤 H A mem run)
-  demand-meets = walk-meets 𝓤 H A demand.ended stayed W goes (demand.clauses 𝓤 H A mem run) (WpFn 𝓤 H (𝓣 .C) (𝓣 .Λ) code.function) (WpFn-mono 𝓤 H (W .laws) 𝓣 code.function) demand-walks
+  demand-meets = walk-meets 𝓤 H A demand.ended stayed W goes (demand.clauses 𝓤 H A mem run)
+      (WpFn 𝓤 H (𝓣 .C) (𝓣 .Λ) code.function) (WpFn-mono 𝓤 H (W .laws) 𝓣 code.function) demand-walks
 
 pub demand-spec : {M : Type 1} → stated.statement M
 unfolding code.routine tablesOf

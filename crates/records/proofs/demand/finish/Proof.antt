@@ -41,7 +41,8 @@ unfolding finishOf lengthAnswer
 returns-3 c =
     let t = c .before .before .before .before .before .before .before .args .length in
     let fault = fault-of (lengthFault t) t (sym (ap toldLength (c .before .r .given .1)) ∙ c .before .before .before .new .ensures) in
-    rw (c .before .before .before .before .before .sum2 .given .1) (refused-by (lengthFault t) (c .before .before .before .before .before .sum2 .given .0 .0) (sym fault))
+    rw (c .before .before .before .before .before .sum2 .given .1)
+    (refused-by (lengthFault t) (c .before .before .before .before .before .sum2 .given .0 .0) (sym fault))
 
 pub finish-spec : {M : Type 1} → statement M
 finish-spec =

@@ -84,9 +84,11 @@ module _ {M : Type 1} (𝓤 : URA M) (H : Heap 𝓤) (A : Atoms 𝓤) (W : Given
   abbrev CalleeMet : Contract 𝓤
   CalleeMet = tripleOf 𝓤 H A callee.signature (callee.spec 𝓤 H A mem run)
 
-  module _ (κ κ′ κ₂ κ₃ : Lft) (q q′ q₂ q₃ : Share) (b : Board) (good : Is B.the-row b (board-vals b)) (ws : Windows) (ts : Records) (n : ℕ) (n-fits : n < 2 ^ 32) (js cs : Numbers) (room : Room u32 (length (cs .now))) where
+  module _ (κ κ′ κ₂ κ₃ : Lft) (q q′ q₂ q₃ : Share) (b : Board) (good : Is B.the-row b (board-vals b)) (ws : Windows)
+      (ts : Records) (n : ℕ) (n-fits : n < 2 ^ 32) (js cs : Numbers) (room : Room u32 (length (cs .now))) where
     abbrev passed : Carried
-    passed = (B′.mir, only (board-vals b)) ∷ (windows-mir, windows-val ws) ∷ (records-mir, records-val ts) ∷ (tyInt w32, vint w32 n) ∷ (sliceTy (tyRef (named 2) imm (tyInt w32)), numbers-val js) ∷ (sliceTy (tyRef (named 3) mut (tyInt w32)), numbers-val cs) ∷ []
+    passed = (B′.mir, only (board-vals b)) ∷ (windows-mir, windows-val ws) ∷ (records-mir, records-val ts) ∷ (tyInt w32, vint w32 n)
+        ∷ (sliceTy (tyRef (named 2) imm (tyInt w32)), numbers-val js) ∷ (sliceTy (tyRef (named 3) mut (tyInt w32)), numbers-val cs) ∷ []
 
     abbrev bound : walkOf 𝓤 H A this.ended stayed (this.clauses 𝓤 H A mem run) .Ghost
     bound = (
@@ -137,24 +139,36 @@ module _ {M : Type 1} (𝓤 : URA M) (H : Heap 𝓤) (A : Atoms 𝓤) (W : Given
 
     opens : ent 𝓤 (mean 𝓤 H A Entry) (⋆ 𝓤 H A ((Left ⊛ raw (Flatten 𝓤 H A mem run .pre (to-flatten 𝓤 H A W mem run κ′ q′ ts))) ∷ []))
     opens =
-        qed W (Entry ∷ []) ∵ split ! $ move ! (1 ∷ []) $ fsplit ! $ drop ! $ fsplit ! $ use1 W (‵ (WindowsOwn κ ws) ⊛ ‵ (WindowsOwn κ ws)) (shr-slice-copy 𝓤 H A W (named 0) κ u32 .twice ws (windows-val ws ∷ [])) $ move ! (1 ∷ []) $
-        fsplit ! $ use1 W (‵ (RecordsOwn κ′ ts) ⊛ ‵ (RecordsOwn κ′ ts)) (shr-slice-copy 𝓤 H A W (named 1) κ′ tasks.the-row .twice ts (records-val ts ∷ [])) $ move ! (1 ∷ []) $ use1 W Parts (rest-out 𝓤 H A W κ₂ n js (CountsOwn κ₃ cs)) $
+        qed W (Entry ∷ []) ∵ split ! $ move ! (1 ∷ []) $ fsplit ! $ drop ! $ fsplit ! $
+        use1 W (‵ (WindowsOwn κ ws) ⊛ ‵ (WindowsOwn κ ws)) (shr-slice-copy 𝓤 H A W (named 0) κ u32 .twice ws (windows-val ws ∷ [])) $ move ! (1 ∷ []) $
+        fsplit ! $
+        use1 W (‵ (RecordsOwn κ′ ts) ⊛ ‵ (RecordsOwn κ′ ts)) (shr-slice-copy 𝓤 H A W (named 1) κ′ tasks.the-row .twice ts (records-val ts ∷ [])) $
+        move ! (1 ∷ []) $ use1 W Parts (rest-out 𝓤 H A W κ₂ n js (CountsOwn κ₃ cs)) $
         -- [jobs, the buffer and jobs; records twice; windows twice; the tokens]
-        move ! (3 ∷ []) $ split ! $ move ! (1 ∷ []) $ split ! $ nothing ! $ move ! (1 ∷ 0 ∷ []) $ join ! $ move ! (2 ∷ 1 ∷ []) $ join ! $ move ! (3 ∷ []) $ split ! $
+        move ! (3 ∷ []) $ split ! $ move ! (1 ∷ []) $ split ! $ nothing ! $
+        move ! (1 ∷ 0 ∷ []) $ join ! $ move ! (2 ∷ 1 ∷ []) $ join ! $ move ! (3 ∷ []) $ split ! $
         -- [records; records; the tokens but the records'; the records' token; jobs, the buffer and jobs; windows twice]
         move ! (4 ∷ 5 ∷ 0 ∷ []) $ group ! 3 $ move ! (0 ∷ 2 ∷ []) $ join ! $ frame ! $ move ! (1 ∷ 0 ∷ []) $ by ! (goes-flatten 𝓤 H A W mem run κ′ q′ ts)
 
     abbrev to : Flat → Val → CalleeMet .Ghost
     to r v = (
-      ((κ, (κ₂, (κ₃, tt))), (q, (q₂, (q₃, tt))), tt, (b, (ws, (r, (n, (js, (cs, tt)))))), (board-vals b, (windows-val ws ∷ [], (v ∷ [], (vint w32 n ∷ [], (numbers-val js ∷ [], (numbers-val cs ∷ [], tt))))))),
+      (
+        (κ, (κ₂, (κ₃, tt))),
+        (q, (q₂, (q₃, tt))),
+        tt,
+        (b, (ws, (r, (n, (js, (cs, tt)))))),
+        (board-vals b, (windows-val ws ∷ [], (v ∷ [], (vint w32 n ∷ [], (numbers-val js ∷ [], (numbers-val cs ∷ [], tt)))))),
+      ),
       tt,
     )
 
-    asked : (r : Flat) (v : Val) → Flattened (ts .now) r → Is F.the-row r (v ∷ []) → ent 𝓤 (⋆ 𝓤 H A (Token κ′ q′ ∷ Left ∷ [])) (⋆ 𝓤 H A ((Kept ⊛ raw (CalleeMet .pre (to r v))) ∷ []))
+    asked : (r : Flat) (v : Val) → Flattened (ts .now) r → Is F.the-row r (v ∷ []) →
+        ent 𝓤 (⋆ 𝓤 H A (Token κ′ q′ ∷ Left ∷ [])) (⋆ 𝓤 H A ((Kept ⊛ raw (CalleeMet .pre (to r v))) ∷ []))
     asked r v told is =
         qed W (Token κ′ q′ ∷ Left ∷ []) ∵ move ! (1 ∷ []) $ split ! $ split ! $ move ! (1 ∷ []) $ split ! $ split ! $ move ! (3 ∷ []) $ split ! $
         -- [jobs; the buffer and jobs; windows; windows; records; the tokens; the records' token]
-        move ! (6 ∷ 4 ∷ 2 ∷ 0 ∷ []) $ group ! 4 $ frame ! $ says ! (told .0) $ split ! $ move ! (1 ∷ 0 ∷ []) $ use2 W (‵ Rest) (rest-in 𝓤 H A W κ₂ n js (CountsOwn κ₃ cs) n-fits) $
+        move ! (6 ∷ 4 ∷ 2 ∷ 0 ∷ []) $ group ! 4 $ frame ! $ says ! (told .0) $ split ! $
+        move ! (1 ∷ 0 ∷ []) $ use2 W (‵ Rest) (rest-in 𝓤 H A W κ₂ n js (CountsOwn κ₃ cs) n-fits) $
         owned ! F.the-row (Is F.the-row) (LL.makes F.the-type F′.the-plain 𝓤 H A) r _ is $ fjoin ! $ move ! (1 ∷ 0 ∷ []) $ fjoin ! $
         owned ! B.the-row (Is B.the-row) (LL.makes B.the-type B′.the-plain 𝓤 H A) b _ good $ fjoin ! $ move ! (1 ∷ 0 ∷ []) $ frame ! $ done !
 
@@ -165,31 +179,42 @@ module _ {M : Type 1} (𝓤 : URA M) (H : Heap 𝓤) (A : Atoms 𝓤) (W : Given
     answered : (r : Flat) (v w : Val) → ent 𝓤 (CalleeMet .post (to r v) w) (mean 𝓤 H A (later (some (λ (x : Ran × List ℕ). given (Said r x w) (Back x)))))
     answered r v w =
         qed W (later (some (λ (x : Ran). (Tokens ⊛ ‵ (U.the-row .own x (w ∷ []))) ⊛ raw (Says r x))) ∷ []) ∵ updating ! $ await ! tt $ pick ! (λ x.
-        split ! $ move ! (1 ∷ []) $ use1 W (Lasted 𝓤 H A W b ws (front r) n js cs x) (exE 𝓤 _ (λ zs. lasted 𝓤 H A W b ws (front r) n js cs x (zs .1 .1 .1 .1 .1 .0))) $ pick ! (λ ys. learn ! (λ told. move ! (1 ∷ []) $ split ! $ move ! (1 ∷ []) $
-        facts ! U.the-row (Is U.the-row) (shows 𝓤 H A U.the-row) x (w ∷ []) (λ is. at-once ! $ show ! (λ (y : Ran × List ℕ). mean 𝓤 H A (given (Said r y w) (Back y))) (x, ys) $ check ! (told, is) $ done !))))
+        split ! $ move ! (1 ∷ []) $
+        use1 W (Lasted 𝓤 H A W b ws (front r) n js cs x) (exE 𝓤 _ (λ zs. lasted 𝓤 H A W b ws (front r) n js cs x (zs .1 .1 .1 .1 .1 .0))) $
+        pick ! (λ ys. learn ! (λ told. move ! (1 ∷ []) $ split ! $ move ! (1 ∷ []) $
+        facts ! U.the-row (Is U.the-row) (shows 𝓤 H A U.the-row) x (w ∷ [])
+        (λ is. at-once ! $ show ! (λ (y : Ran × List ℕ). mean 𝓤 H A (given (Said r y w) (Back y))) (x, ys) $ check ! (told, is) $ done !))))
 
     ended : (r : Flat) (x : Ran × List ℕ) (w : Val) → Flattened (ts .now) r → Said r x w → ent 𝓤 (⋆ 𝓤 H A (Back x ∷ Kept ∷ [])) (Post w)
     ended r x w told said =
         let ns = numbersOf (ts .now) in
         let ys = x .1 in
         let alike = flattened-alike (ts .now) r told in
-        qed W (Back x ∷ Kept ∷ []) ∵ suffices ! _ (ends-at 𝓤 H A this.ended stayed (this.clauses 𝓤 H A mem run) W bound w (x .0) (last ys) (tt, (tt, (tt, (tt, (tt, (said .0 .2, tt))))))) $
-        suffices ! _ (assoc∗ 𝓤 (onExit 𝓤 H A this.ended stayed (bound .0 .0) (bound .0 .1) (bound .0 .4) w (x .0) (bound .0 .3) (last ys)) (fact 𝓤 (Answered b ws ns n js cs (x .0))) (fact 𝓤 (Written b ws ns n js cs ys))) $
-        says ! (said .0 .1 ∙ alike-out (front r) ns alike (boardOf b) (ws .now) n (js .now) (cs .now)) $ says ! (said .0 .0 ∙ alike-run (front r) ns alike (boardOf b) (ws .now) n (js .now) (length (cs .now))) $
-        split ! $ split ! $ move ! (3 ∷ []) $ split ! $ split ! $ move ! (3 ∷ 0 ∷ 4 ∷ []) $ group ! 3 $ frame ! $ move ! (1 ∷ []) $ split ! $ move ! (1 ∷ []) $ split ! $
+        qed W (Back x ∷ Kept ∷ []) ∵ suffices ! _
+        (ends-at 𝓤 H A this.ended stayed (this.clauses 𝓤 H A mem run) W bound w (x .0) (last ys) (tt, (tt, (tt, (tt, (tt, (said .0 .2, tt))))))) $
+        suffices ! _ (assoc∗ 𝓤 (onExit 𝓤 H A this.ended stayed (bound .0 .0) (bound .0 .1) (bound .0 .4) w (x .0) (bound .0 .3) (last ys))
+        (fact 𝓤 (Answered b ws ns n js cs (x .0))) (fact 𝓤 (Written b ws ns n js cs ys))) $
+        says ! (said .0 .1 ∙ alike-out (front r) ns alike (boardOf b) (ws .now) n (js .now) (cs .now)) $
+        says ! (said .0 .0 ∙ alike-run (front r) ns alike (boardOf b) (ws .now) n (js .now) (length (cs .now))) $
+        split ! $ split ! $ move ! (3 ∷ []) $ split ! $ split ! $ move ! (3 ∷ 0 ∷ 4 ∷ []) $
+        group ! 3 $ frame ! $ move ! (1 ∷ []) $ split ! $ move ! (1 ∷ []) $ split ! $
         -- [windows; jobs; records; true; the buffer's last numbers]
         move ! (1 ∷ 4 ∷ []) $ use2 W (‵ (Buffered.Rest κ₂ n js (Last cs ys))) (rest-in 𝓤 H A W κ₂ n js (Last cs ys) n-fits) $ move ! (2 ∷ 1 ∷ 0 ∷ []) $
-        use3 W (‵ (Params 𝓤 H A W κ κ′ b ws ts (Buffered.Rest κ₂ n js (Last cs ys)))) (lists-in 𝓤 H A W κ κ′ b ws ts (Buffered.Rest κ₂ n js (Last cs ys)) good) $ frame ! $
+        use3 W (‵ (Params 𝓤 H A W κ κ′ b ws ts (Buffered.Rest κ₂ n js (Last cs ys))))
+        (lists-in 𝓤 H A W κ κ′ b ws ts (Buffered.Rest κ₂ n js (Last cs ys)) good) $ frame ! $
         owned ! U.the-row (Is U.the-row) (EL.makes U.the-type U′.the-plain 𝓤 H A) (x .0) _ (said .1) $ keep ! (0 ∷ []) $ done !
 
     module _ (C : Calls 𝓤 H) (Λ : Loops 𝓤 H) where
-      starts : (s : Spots passed (lent-anew cs)) {Γ : List (Item 𝓤)} {body : Body} {aim : Aim 𝓤 H} → Sq W (Cells (lent-anew cs) (s .more) ∷ Cells passed (s .passed) ∷ Γ) (runs C Λ (envAt U′.mir passed (lent-anew cs) s) body aim)
+      starts : (s : Spots passed (lent-anew cs)) {Γ : List (Item 𝓤)} {body : Body} {aim : Aim 𝓤 H} →
+          Sq W (Cells (lent-anew cs) (s .more) ∷ Cells passed (s .passed) ∷ Γ) (runs C Λ (envAt U′.mir passed (lent-anew cs) s) body aim)
           → Sq W (Rooms (lent-anew cs) (s .more) ∷ Cells passed (s .passed) ∷ Γ) (runs C Λ (envAt U′.mir passed (lent-anew cs) s) (anew 6 8 9 body) aim)
       starts s rest =
           split ! $ split ! $ move ! (2 ∷ []) $ split ! $ split ! $ move ! (5 ∷ []) $ opened W passed (s .passed) _ (
           -- [_1; …; _2; …; _3; …; _4; …; _5; …; _6; …; true; room for _9; …; true; for _8; …]
           assigns ! (addr ! (from ! (fld ! refl (hop ! (look-in ! 10 (sub ! 0 refl (whole !))) (stop !))))) (from ! (stop !)) (init ! 16 refl (tt, tt)) $
-          assigns ! (agg ! (and-then ! (load ! (from ! (stop !)) (look ! 16 refl)) (and-then ! (load ! (from ! (fld ! refl (stop !))) (look-in ! 10 (sub ! 1 refl (whole !)))) (no-more !)))) (from ! (stop !)) (init ! 13 refl (tt, (tt, (record { fits = room .0 }, tt)))) $
+          assigns ! (agg ! (and-then ! (load ! (from ! (stop !)) (look ! 16 refl))
+          (and-then ! (load ! (from ! (fld ! refl (stop !))) (look-in ! 10 (sub ! 1 refl (whole !)))) (no-more !))))
+          (from ! (stop !)) (init ! 13 refl (tt, (tt, (record { fits = room .0 }, tt)))) $
           shut W passed (s .passed) _ (move ! (1 ∷ 2 ∷ []) $ join ! $ move ! (0 ∷ 2 ∷ []) $ join ! $ move ! (2 ∷ 3 ∷ []) $ join ! $ join ! $ rest))
 
       flat : Flattens 𝓤 H A W mem run C Λ 3 #callee U′.mir passed (lent-anew cs) (anew 6 8 9) operands CalleeMet κ′ q′ ts Entry Post
@@ -208,19 +233,29 @@ module _ {M : Type 1} (𝓤 : URA M) (H : Heap 𝓤) (A : Atoms 𝓤) (W : Given
         starts = starts;
         reads-tasks = λ s i j Γ. and-then ! (load ! (from ! (stop !)) (look ! 6 refl)) (no-more !);
         reads = λ s r v Γ.
-            and-then ! (load ! (from ! (stop !)) (look ! 2 refl)) (and-then ! (load ! (from ! (stop !)) (look ! 4 refl)) (and-then ! (load ! (from ! (stop !)) (look ! 1 refl)) (and-then ! (load ! (from ! (stop !)) (look ! 8 refl))
+            and-then ! (load ! (from ! (stop !)) (look ! 2 refl)) (and-then ! (load ! (from ! (stop !)) (look ! 4 refl))
+            (and-then ! (load ! (from ! (stop !)) (look ! 1 refl)) (and-then ! (load ! (from ! (stop !)) (look ! 8 refl))
             (and-then ! (load ! (from ! (stop !)) (look ! 10 refl)) (and-then ! (load ! (from ! (stop !)) (look ! 17 refl)) (no-more !))))));
       }
 
   module _ (𝓣 : Tables 𝓤 H) (known-flatten : Triple 𝓤 (𝓣 .C #flatten) (Flatten 𝓤 H A mem run)) (known : Triple 𝓤 (𝓣 .C #callee) CalleeMet) where
     walks : Walks 𝓤 H A this.ended stayed (WpFn 𝓤 H (𝓣 .C) (𝓣 .Λ) code.function) (this.clauses 𝓤 H A mem run)
-    walks = walked 𝓤 H A this.ended stayed (this.clauses 𝓤 H A mem run) (WpFn 𝓤 H (𝓣 .C) (𝓣 .Λ) code.function) (λ κs. (board-vals, (slice-vals, (slice-vals, (uint-vals w32, (slice-vals, (slice-vals, tt)))))))
+    walks = walked 𝓤 H A this.ended stayed (this.clauses 𝓤 H A mem run) (WpFn 𝓤 H (𝓣 .C) (𝓣 .Λ) code.function)
+        (λ κs. (board-vals, (slice-vals, (slice-vals, (uint-vals w32, (slice-vals, (slice-vals, tt)))))))
         (λ κs. (
           LL.tells B.the-type B′.the-laws,
-          (shr-slice-tells (named 0) (κs .0) u32, (shr-slice-tells (named 1) (κs .1 .0) tasks.the-row, (uint-tells w32, (shr-slice-tells (named 2) (κs .1 .1 .0) u32, (mut-slice-tells (named 3) (κs .1 .1 .1 .0) u32, tt))))),
+          (
+            shr-slice-tells (named 0) (κs .0) u32,
+            (
+              shr-slice-tells (named 1) (κs .1 .0) tasks.the-row,
+              (uint-tells w32, (shr-slice-tells (named 2) (κs .1 .1 .0) u32, (mut-slice-tells (named 3) (κs .1 .1 .1 .0) u32, tt))),
+            ),
+          ),
         ))
-        (λ κs qs bounds a g are. via 𝓤 _ (fst∗ 𝓤 _ (emp 𝓤)) (flattens 𝓤 H A W mem run (𝓣 .C) (𝓣 .Λ) 3 #callee U′.mir _ _ (anew 6 8 9) _ CalleeMet (κs .1 .0) (qs .1 .0) (a .1 .1 .0) _ _
-        (flat (κs .0) (κs .1 .0) (κs .1 .1 .0) (κs .1 .1 .1 .0) (qs .0) (qs .1 .0) (qs .1 .1 .0) (qs .1 .1 .1 .0) (a .0) (are .0) (a .1 .0) (a .1 .1 .0) (a .1 .1 .1 .0) (are .1 .1 .1 .0 .1) (a .1 .1 .1 .1 .0) (a .1 .1 .1 .1 .1 .0) (are .1 .1 .1 .1 .1 .0 .0 .1)
+        (λ κs qs bounds a g are. via 𝓤 _ (fst∗ 𝓤 _ (emp 𝓤)) (flattens 𝓤 H A W mem run
+        (𝓣 .C) (𝓣 .Λ) 3 #callee U′.mir _ _ (anew 6 8 9) _ CalleeMet (κs .1 .0) (qs .1 .0) (a .1 .1 .0) _ _
+        (flat (κs .0) (κs .1 .0) (κs .1 .1 .0) (κs .1 .1 .1 .0) (qs .0) (qs .1 .0) (qs .1 .1 .0) (qs .1 .1 .1 .0) (a .0) (are .0)
+        (a .1 .0) (a .1 .1 .0) (a .1 .1 .1 .0) (are .1 .1 .1 .0 .1) (a .1 .1 .1 .1 .0) (a .1 .1 .1 .1 .1 .0) (are .1 .1 .1 .1 .1 .0 .0 .1)
         (𝓣 .C) (𝓣 .Λ)) (fmOf 𝓤 H (W .laws) 𝓣) known-flatten known 4 6 (
           LL.lawful B.the-type B′.the-laws 𝓤 H A W .typed (a .0) _ (are .0) .0,
           (
@@ -242,13 +277,17 @@ module _ {M : Type 1} (𝓤 : URA M) (H : Heap 𝓤) (A : Atoms 𝓤) (W : Given
         goes-none-slice 𝓤 H A W 4 (0 ∷ []) tt (plain (λ _. u32)) yes,
         (
           goes-none-slice 𝓤 H A W 4 (1 ∷ []) tt (plain (λ _. tasks.the-row)) yes,
-          (goes-none 𝓤 H A W 4 (λ _. u32) yes (λ κs x f. refl), (goes-none-slice 𝓤 H A W 4 (2 ∷ []) tt (plain (λ _. u32)) yes, (goes-gave-slice 𝓤 H A W 4 3 tt (plain (λ _. u32)), tt))),
+          (
+            goes-none 𝓤 H A W 4 (λ _. u32) yes (λ κs x f. refl),
+            (goes-none-slice 𝓤 H A W 4 (2 ∷ []) tt (plain (λ _. u32)) yes, (goes-gave-slice 𝓤 H A W 4 3 tt (plain (λ _. u32)), tt)),
+          ),
         ),
       ),
     )
 
     meets : Meets 𝓤 H A this.signature (WpFn 𝓤 H (𝓣 .C) (𝓣 .Λ) code.function) (this.spec 𝓤 H A mem run)
-    meets = walk-meets 𝓤 H A this.ended stayed W goes (this.clauses 𝓤 H A mem run) (WpFn 𝓤 H (𝓣 .C) (𝓣 .Λ) code.function) (WpFn-mono 𝓤 H (W .laws) 𝓣 code.function) walks
+    meets = walk-meets 𝓤 H A this.ended stayed W goes (this.clauses 𝓤 H A mem run)
+        (WpFn 𝓤 H (𝓣 .C) (𝓣 .Λ) code.function) (WpFn-mono 𝓤 H (W .laws) 𝓣 code.function) walks
 
 pub run-spec : {M : Type 1} → stated.statement M
 unfolding code.routine tablesOf

@@ -54,7 +54,8 @@ returns : tie.Need-returns
 unfolding criticalAnswer criticalOut
 returns c =
     let a = c .before .before .before .before .before .before .before .before .before .before .args in
-    let e = sym (c .before .before .before .before .before .before .before .check-table .ensures) ∙ ap faultOf (c .before .before .before .before .before .r .given .1) in
+    let e = sym (c .before .before .before .before .before .before .before .check-table .ensures)
+    ∙ ap faultOf (c .before .before .before .before .before .r .given .1) in
     let f = critical-table (boardOf (a .board)) (a .windows .now) (length (a .out .now)) e in
     let x = c .before .before .refuse .ensures in
     (x .0 ∙ refused-by _ _ f, x .1 ∙ kept-by _ _ _ f)
@@ -67,7 +68,8 @@ unfolding criticalAnswer criticalOut
 returns-2 c =
     let a = c .before .before .before .before .before .before .before .before .before .before .before .args in
     let e = c .before .before .before .before .before .count-edges .ensures in
-    let h : length (a .out .now) < length (criticalOf (boardOf (a .board)) (a .windows .now)) = omega (arith, e, c .before .before .before .before .if1 .taken) in
+    let h : length (a .out .now) < length (criticalOf (boardOf (a .board)) (a .windows .now)) =
+    omega (arith, e, c .before .before .before .before .if1 .taken) in
     let f = critical-short (boardOf (a .board)) (a .windows .now) (length (a .out .now)) (fine-at (c .before .before .before .before .before .before)) h in
     let x = c .before .before .refuse2 .ensures in
     (x .0 ∙ ap (refused 8) e ∙ refused-by _ _ f, x .1 ∙ kept-by _ _ _ f)
@@ -80,7 +82,8 @@ unfolding criticalAnswer criticalOut
 returns-3 c =
     let a = c .before .before .before .before .before .before .before .before .before .before .before .args in
     let e = c .before .before .before .before .before .count-edges .ensures in
-    let h : length (criticalOf (boardOf (a .board)) (a .windows .now)) ≤ length (a .out .now) = omega (arith, e, c .before .before .before .before .if1 .left) in
+    let h : length (criticalOf (boardOf (a .board)) (a .windows .now)) ≤ length (a .out .now) =
+    omega (arith, e, c .before .before .before .before .if1 .left) in
     let f = critical-fine (boardOf (a .board)) (a .windows .now) (length (a .out .now)) (fine-at (c .before .before .before .before .before .before)) h in
     (ap (λ (n : ℕ). given (n / 2)) e ∙ given-by _ _ f, c .before .before .write-edges .ensures ∙ written-by _ _ _ f)
 
