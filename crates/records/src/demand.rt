@@ -42,7 +42,8 @@ fn add(sum: Amount, i: usize, work: u32, period: u32, deadline: u32, length: u32
                     deadline,
                 };
                 let more = task.demand(length);
-                return Amount::Of(n + more);
+                let total = n + more;
+                return Amount::Of(total);
             }
             let place = i as u64;
             Amount::Refused(Refusal::Task(place))

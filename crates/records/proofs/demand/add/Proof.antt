@@ -1,6 +1,5 @@
 use mathlib.Core.Path.{sym, subst, _∙_}
 use Rattle.scope.specs.Tasks.{task}
-use Rattle.theory.specs.Tasks.{task-rule}
 use Rattle.tables.specs.Told.{toldAmount}
 use Rattle.records.specs.Sums.{addOf, Roomy}
 use Rattle.records.proofs.TaskLaws.{task-most}
@@ -19,21 +18,21 @@ enum-known-sum-2 c = search needs
 is-task-requires : tie.Need-is-task-requires
 is-task-requires c κs = search needs
 
-task-demand-requires : tie.Need-task-demand-requires
-task-demand-requires c κs = task-rule _ (sym (c .before .is-task .ensures) ∙ c .if1 .taken) .0 .period
+demand-requires : tie.Need-demand-requires
+demand-requires c κs = search needs
 
-add-t13 : tie.Need-add-t13
-add-t13 c = let a = c .before .before .before .before .before .before .args in
+add-total : tie.Need-add-total
+add-total c = let a = c .before .before .before .before .before .before .args in
     omega (
       arith,
       subst (λ s. Roomy (toldAmount s)) (c .before .before .before .before .sum2 .given .1) (c .before .before .before .before .before .before .pre),
-      c .task-demand .ensures,
+      c .demand .ensures,
       task-most (task (a .work) (a .period) (a .deadline)) (a .length) (sym (c .before .before .is-task .ensures) ∙ c .before .if1 .taken) (omega arith),
     )
 
 returns : tie.Need-returns
 unfolding addOf
-returns c = rw (c .before .before .before .before .sum2 .given .1, sym (c .before .before .is-task .ensures) ∙ c .before .if1 .taken, c .task-demand .ensures)
+returns c = rw (c .before .before .before .before .sum2 .given .1, sym (c .before .before .is-task .ensures) ∙ c .before .if1 .taken, c .demand .ensures)
 
 returns-2 : tie.Need-returns-2
 unfolding addOf
@@ -50,8 +49,8 @@ add-spec =
     enum-known-sum
     enum-known-sum-2
     is-task-requires
-    task-demand-requires
-    add-t13
+    demand-requires
+    add-total
     returns
     returns-2
     returns-3)
