@@ -18,7 +18,8 @@ abbrev untold : {A : Type 0} → (Answer → A) → Answer → Answers.Answer A
 untold value r = cond (eqb (r .code) 0) (refused (r .a) (r .b)) (given (value r))
 
 -- a way of telling values that can be undone, and never has code 0, tells all answers apart
-pub told-determined : {A : Type 0} (f : A → Answer) (g : Answer → A) → ((x : A) → untold g (f x) ≡ given x) → (x y : Answers.Answer A) → told f x ≡ told f y → x ≡ y
+pub told-determined : {A : Type 0} (f : A → Answer) (g : Answer → A) →
+    ((x : A) → untold g (f x) ≡ given x) → (x y : Answers.Answer A) → told f x ≡ told f y → x ≡ y
 told-determined f g inverse = undone (told f) (untold g) back
   where
     back : (x : Answers.Answer _) → untold g (told f x) ≡ x

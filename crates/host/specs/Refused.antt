@@ -34,7 +34,8 @@ module _ (out left : List ℕ) (r : Answer) (zero-code : r .code ≡ 0) where
   pub host-write-refused : (p : Plan) → r ≡ cAmount (writeAnswer p (length out)) → left ≡ writeOut p out → left ≡ out
   host-write-refused p e wrote = let x = amount-refused _ e in wrote ∙ write-kept (x .0) (x .1) p out (x .2)
 
-  pub host-run-refused : (b : Board) (ws ts : List ℕ) (n : ℕ) (js : List ℕ) → r ≡ cRan (runAnswer b ws ts n js (length out)) → left ≡ runOut b ws ts n js out → left ≡ out
+  pub host-run-refused : (b : Board) (ws ts : List ℕ) (n : ℕ) (js : List ℕ) →
+      r ≡ cRan (runAnswer b ws ts n js (length out)) → left ≡ runOut b ws ts n js out → left ≡ out
   host-run-refused b ws ts n js e wrote =
       let x = refusal-is ran (λ y. coded (y .outcome) (y .backlog)) _ (sym (ap (λ (a : Answer). a .code) e) ∙ zero-code) in
       wrote ∙ run-kept (x .0) (x .1) b ws ts n js out (x .2)

@@ -35,8 +35,10 @@ pub extern "C" fn palikudyom_write_plan(
     tasks: &[u32],
     out: &mut [u8],
 ) -> Answer
-    ensures answer { λ r. ⌜ r ≡ cAmount (writeAnswer (record { frame = frame; windows = now (windows .entry); tasks = now (tasks .entry) }) (length (now (out .entry)))) ⌝ }
-    ensures buffer { λ _. ⌜ now (out .exit) ≡ writeOut (record { frame = frame; windows = now (windows .entry); tasks = now (tasks .entry) }) (now (out .entry)) ⌝ }
+    ensures answer { λ r. ⌜ r ≡ cAmount (writeAnswer (record { frame = frame; windows = now (windows .entry); tasks = now (tasks .entry) })
+        (length (now (out .entry)))) ⌝ }
+    ensures buffer { λ _. ⌜ now (out .exit) ≡ writeOut (record { frame = frame; windows = now (windows .entry); tasks = now (tasks .entry) })
+        (now (out .entry)) ⌝ }
 {
     amount_answer(write_plan(frame, windows, tasks, out))
 }

@@ -1,4 +1,5 @@
-// Every entry for a host that has only numbers, such as a C program: palikudyom.h declares these functions. specs/Told.antt gives each answer's code and numbers.
+// Every entry for a host that has only numbers, such as a C program: palikudyom.h declares these functions.
+// specs/Told.antt gives each answer's code and numbers.
 pub mod answer;
 pub mod bound;
 pub mod demand;

@@ -40,8 +40,10 @@ pub extern "C" fn palikudyom_run(
     jobs: &[u32],
     counts: &mut [u32],
 ) -> Answer
-    ensures answer { λ r. ⌜ r ≡ cRan (runAnswer (record { frame = frame }) (now (windows .entry)) (now (tasks .entry)) ticks (now (jobs .entry)) (length (now (counts .entry)))) ⌝ }
-    ensures buffer { λ _. ⌜ now (counts .exit) ≡ runOut (record { frame = frame }) (now (windows .entry)) (now (tasks .entry)) ticks (now (jobs .entry)) (now (counts .entry)) ⌝ }
+    ensures answer { λ r. ⌜ r ≡ cRan (runAnswer (record { frame = frame }) (now (windows .entry)) (now (tasks .entry))
+        ticks (now (jobs .entry)) (length (now (counts .entry)))) ⌝ }
+    ensures buffer { λ _. ⌜ now (counts .exit) ≡ runOut (record { frame = frame }) (now (windows .entry)) (now (tasks .entry))
+        ticks (now (jobs .entry)) (now (counts .entry)) ⌝ }
 {
     ran_answer(run(Board { frame }, windows, tasks, ticks, jobs, counts))
 }

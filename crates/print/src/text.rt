@@ -41,7 +41,8 @@ pub(crate) fn put_decimal(out: &mut [u8], at: usize, n: u64) -> usize
 // The text at the front of out, the rest of out kept: how many bytes. Refusal 8.
 pub(crate) fn deliver(text: &[u8], out: &mut [u8]) -> Amount
     ensures answer { λ r. ⌜ toldAmount r ≡ unless (roomFault (length (now (text .entry))) (length (now (out .entry)))) (length (now (text .entry))) ⌝ }
-    ensures buffer { λ r. ⌜ now (out .exit) ≡ unlessKept (roomFault (length (now (text .entry))) (length (now (out .entry)))) (written (now (text .entry)) (now (out .entry))) (now (out .entry)) ⌝ }
+    ensures buffer { λ r. ⌜ now (out .exit) ≡ unlessKept (roomFault (length (now (text .entry))) (length (now (out .entry))))
+        (written (now (text .entry)) (now (out .entry))) (now (out .entry)) ⌝ }
 {
     if out.len() < text.len() {
         return Amount::Refused(Refusal::Room(text.len() as u64));

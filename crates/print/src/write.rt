@@ -54,7 +54,8 @@ fn put_counted(out: &mut [u8], at: usize, count: u32, list: &[u32]) -> usize
 
 fn put_plan(out: &mut [u8], frame: u32, windows: &[u32], tasks: &[u32]) -> usize
     requires { do ⌜ (length (now windows) ≤ 2 * (← ⟦Window::MOST⟧)) × (length (now tasks) ≤ 3 * (← ⟦Task::MOST⟧)) × ((← ⟦LONGEST⟧) ≤ length (now out)) ⌝ }
-    ensures text { λ r. ⌜ Put (now (out .entry)) (now (out .exit)) 0 r (planBytes (record { frame = frame; windows = now (windows .entry); tasks = now (tasks .entry) })) ⌝ }
+    ensures text { λ r. ⌜ Put (now (out .entry)) (now (out .exit)) 0 r
+        (planBytes (record { frame = frame; windows = now (windows .entry); tasks = now (tasks .entry) })) ⌝ }
     ensures most { λ r. do ⌜ r ≤ (← ⟦LONGEST⟧ .entry) ⌝ }
 {
     let a = put_number(out, 0, frame);
@@ -64,8 +65,10 @@ fn put_plan(out: &mut [u8], frame: u32, windows: &[u32], tasks: &[u32]) -> usize
 
 // The plan's bytes at the front of out, the rest of out kept: how many. Refusals 1 4 8.
 pub fn write_plan(frame: u32, windows: &[u32], tasks: &[u32], out: &mut [u8]) -> Amount
-    ensures answer { λ r. ⌜ toldAmount r ≡ writeAnswer (record { frame = frame; windows = now (windows .entry); tasks = now (tasks .entry) }) (length (now (out .entry))) ⌝ }
-    ensures buffer { λ r. ⌜ now (out .exit) ≡ writeOut (record { frame = frame; windows = now (windows .entry); tasks = now (tasks .entry) }) (now (out .entry)) ⌝ }
+    ensures answer { λ r. ⌜ toldAmount r ≡ writeAnswer (record { frame = frame; windows = now (windows .entry); tasks = now (tasks .entry) })
+        (length (now (out .entry))) ⌝ }
+    ensures buffer { λ r. ⌜ now (out .exit) ≡ writeOut (record { frame = frame; windows = now (windows .entry); tasks = now (tasks .entry) })
+        (now (out .entry)) ⌝ }
 {
     let table = check_window_list(windows);
     let group = check_task_list(tasks);

@@ -23,7 +23,8 @@ refused-requires c κs = search needs
 returns : tie.Need-returns
 returns c =
     let z = c .before .before .m .given .0 .0 in
-    c .signed-answer .ensures ∙ ap signed (toZ-ofZ w64 z (record { sfits = c .before .known-told .given .0 .1 })) ∙ sym (ap (λ (x : Margin). cMargin (toldMargin x)) (c .before .before .m .given .1))
+    c .signed-answer .ensures ∙ ap signed (toZ-ofZ w64 z (record { sfits = c .before .known-told .given .0 .1 }))
+    ∙ sym (ap (λ (x : Margin). cMargin (toldMargin x)) (c .before .before .m .given .1))
 
 returns-2 : tie.Need-returns-2
 returns-2 c = c .refused .ensures ∙ sym (ap (λ (x : Margin). cMargin (toldMargin x)) (c .before .before .m2 .given .1))

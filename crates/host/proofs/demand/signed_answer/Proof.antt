@@ -27,12 +27,14 @@ kept c = toZ-ofZ w64 (c .args .m) (c .fits .m)
 returns : tie.Need-returns
 returns c =
     let m = c .before .before .before .args .m in
-    c .one .ensures ∙ ap below (c .before .magnitude .ensures) ∙ sym (signed-below (toZ w64 (ofZ w64 m)) (c .before .before .if1 .taken)) ∙ ap signed (kept (c .before .before .before))
+    c .one .ensures ∙ ap below (c .before .magnitude .ensures)
+    ∙ sym (signed-below (toZ w64 (ofZ w64 m)) (c .before .before .if1 .taken)) ∙ ap signed (kept (c .before .before .before))
 
 returns-2 : tie.Need-returns-2
 returns-2 c =
     let m = c .before .before .before .args .m in
-    c .one2 .ensures ∙ ap above (c .before .magnitude2 .ensures) ∙ sym (signed-above (toZ w64 (ofZ w64 m)) (c .before .before .if1 .left)) ∙ ap signed (kept (c .before .before .before))
+    c .one2 .ensures ∙ ap above (c .before .magnitude2 .ensures)
+    ∙ sym (signed-above (toZ w64 (ofZ w64 m)) (c .before .before .if1 .left)) ∙ ap signed (kept (c .before .before .before))
 
 pub signed-answer-spec : {M : Type 1} → statement M
 signed-answer-spec =
