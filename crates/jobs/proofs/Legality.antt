@@ -168,14 +168,23 @@ module _ (ts : List Task) (n : ℕ) (js : List Job) (j : ℕ) where
       module _ (p : x .work ≢ 0) where
         pub bad-most : (taskAt ts (x .task)) .C < x .work → false ≡ jobLegal ts n js j
         unfolding jobLegal
-        bad-most h = rw (← e, ← task-is, lt-ltb (x .task) (length ts) a, ← work-is, le-leb 1 (x .work) (omega arith), lt-leb (x .work) ((taskAt ts (x .task)) .C) h)
+        bad-most h =
+            rw (← e, ← task-is, lt-ltb (x .task) (length ts) a, ← work-is, le-leb 1 (x .work) (omega arith), lt-leb (x .work) ((taskAt ts (x .task)) .C) h)
 
         module _ (m : x .work ≤ (taskAt ts (x .task)) .C) where
           -- all but the last two
           first-four : jobLegal ts n js j ≡ ltb (x .release) n && apart ts js j
           unfolding jobLegal
           first-four =
-              rw (← e, ← task-is, lt-ltb (x .task) (length ts) a, ← work-is, le-leb 1 (x .work) (omega arith), le-leb (x .work) ((taskAt ts (x .task)) .C) m, ← release-is)
+              rw (
+                ← e,
+                ← task-is,
+                lt-ltb (x .task) (length ts) a,
+                ← work-is,
+                le-leb 1 (x .work) (omega arith),
+                le-leb (x .work) ((taskAt ts (x .task)) .C) m,
+                ← release-is,
+              )
 
           pub bad-late : n ≤ x .release → false ≡ jobLegal ts n js j
           bad-late h = rw (first-four, le-ltb (x .release) n h)
@@ -195,14 +204,20 @@ unfolding freeAt
 free-first ts js = record { size = refl; is = λ x l. getD-zeros mostTasks x }
 
 -- one job further: a legal job's task is free, so that its next free tick is T after the release
-module _ (ts : List Task) (n : ℕ) (js : List Job) (j : ℕ) (rule : JobRule ts n js j) (free : List ℕ) (table : FreeTable ts js j free) (few : length ts ≤ mostTasks) where
+module _ (ts : List Task) (n : ℕ) (js : List Job) (j : ℕ) (rule : JobRule ts n js j)
+    (free : List ℕ) (table : FreeTable ts js j free) (few : length ts ≤ mostTasks) where
   free-at : (i v : ℕ) → i ≡ taskOf js j → v ≡ releaseOf js j + (taskAt ts i) .T → (x : ℕ) → x < mostTasks → getD (set free i v) x 0 ≡ freeAt ts js x (j + 1)
   unfolding freeAt
   free-at i v ei ev x l =
       rw (add-one j) (elim (ℕ-discrete x i) [
         | yes g ↦
             let q : max (freeAt ts js x j) (releaseOf js j + (taskAt ts x) .T) ≡ v =
-            omega (arith, free-below ts js (taskOf js j) (releaseOf js j) j (rule .apart), ap (λ (y : ℕ). freeAt ts js y j) (g ∙ ei), ap (λ (y : ℕ). (taskAt ts y) .T) g) in
+            omega (
+              arith,
+              free-below ts js (taskOf js j) (releaseOf js j) j (rule .apart),
+              ap (λ (y : ℕ). freeAt ts js y j) (g ∙ ei),
+              ap (λ (y : ℕ). (taskAt ts y) .T) g,
+            ) in
             rw (eq-eqb (taskOf js j) x (sym ei ∙ sym g), q) (rw g (getD-set-same free i v 0 (omega (arith, rule .known, table .size))))
         | no g ↦ rw (ne-eqb (taskOf js j) x (λ e. g (sym e ∙ sym ei))) (getD-set-other free i x v 0 g ∙ table .is x l)
       ])
@@ -236,7 +251,8 @@ module _ (ts : List Task) (n : ℕ) (js : List Job) (legal : badJob ts n js ≡ 
       by-lexically (releaseOf js) (λ a b. ltb (taskOf js a) (taskOf js b)) .ahead j (suc j) order
 
   up : (i j : ℕ) → i ≤ j → j < length js → releaseOf js i ≤ releaseOf js j
-  up i j a = le-ind (λ (x : ℕ). x < length js → releaseOf js i ≤ releaseOf js x) (λ l. omega arith) (λ x b ih l. omega (arith, ih (omega arith), one-up x l)) j a
+  up i j a = le-ind (λ (x : ℕ). x < length js → releaseOf js i ≤ releaseOf js x)
+      (λ l. omega arith) (λ x b ih l. omega (arith, ih (omega arith), one-up x l)) j a
 
   pub jobs-of : n ≤ mostTicks → length js ≤ mostJobs → Jobs ts js
   jobs-of small few =

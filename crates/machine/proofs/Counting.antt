@@ -63,7 +63,8 @@ module _ (σ : ℕ → Bool) (before : ℕ → ℕ → Bool) (js : List Job) whe
   unfolding countOf
   count-goes k j h =
       rw (add-one k)
-      (ap (since (releaseOf js j)) (first-skip (doneAt (workLeft σ before js) j) (suc k) (ne-eqb (left (suc k) j) 0 (λ e. absurd (omega (arith, rw (add-one k) at h))))))
+      (ap (since (releaseOf js j))
+      (first-skip (doneAt (workLeft σ before js) j) (suc k) (ne-eqb (left (suc k) j) 0 (λ e. absurd (omega (arith, rw (add-one k) at h))))))
 
   count-ended : (k j : ℕ) → left k j ≡ 0 → count σ before js (k + 1) j ≡ count σ before js k j
   unfolding countOf
@@ -75,7 +76,8 @@ module _ (σ : ℕ → Bool) (before : ℕ → ℕ → Bool) (js : List Job) whe
   unfolding countOf
   count-ends k j l h e =
       rw (add-one k)
-      (ap (since (releaseOf js j)) (some-first (doneAt (workLeft σ before js) j) (suc (suc k)) (suc k) (omega arith) (eq-eqb (left (suc k) j) 0 (rw (add-one k) at e))
+      (ap (since (releaseOf js j))
+      (some-first (doneAt (workLeft σ before js) j) (suc (suc k)) (suc k) (omega arith) (eq-eqb (left (suc k) j) 0 (rw (add-one k) at e))
       (λ x a. ne-eqb (left x j) 0 (λ q. absurd (omega (arith, falls j l x k (omega arith)))))))
 
   -- noting the job that ended in tick k makes the counts of instant k those of k + 1
@@ -128,4 +130,5 @@ kept-written f m d l h kp =
     past : (i : ℕ) → m ≤ i → getD (written (listed f m) d) i 0 ≡ getD d i 0
     past i a =
         let q : i ≡ n + (i - n) = omega (arith, size) in
-        ap (λ (x : ℕ). getD (written (listed f m) d) x 0) q ∙ getD-append-add (listed f m) (drop n d) (i - n) 0 ∙ getD-drop n d (i - n) 0 ∙ ap (λ (x : ℕ). getD d x 0) (sym q)
+        ap (λ (x : ℕ). getD (written (listed f m) d) x 0) q ∙ getD-append-add (listed f m) (drop n d) (i - n) 0
+        ∙ getD-drop n d (i - n) 0 ∙ ap (λ (x : ℕ). getD d x 0) (sym q)

@@ -88,7 +88,8 @@ module _ (pending : ℕ) (places : List ℕ) (t : ℕ) where
 module _ (ts : List Task) (js : List Job) (tasks : Tasks ts) (legal : Jobs ts js) (work : List ℕ) (t pending next : ℕ) (places : List ℕ)
     (h : Holds ts js work pending next places) (sp : Split js t t next) where
   -- the job of a late task is late
-  task-late : (i : ℕ) → i < mostTasks → lateTask pending places t i ≡ true → (jobAt pending places t i < length js) × (late ts js t work (jobAt pending places t i) ≡ true)
+  task-late : (i : ℕ) → i < mostTasks → lateTask pending places t i ≡ true →
+      (jobAt pending places t i < length js) × (late ts js t work (jobAt pending places t i) ≡ true)
   unfolding late
   task-late i l e =
       let p = and-both (mem pending i) (leb (dueAt places i) t) e in
@@ -99,7 +100,8 @@ module _ (ts : List Task) (js : List Job) (tasks : Tasks ts) (legal : Jobs ts js
       )
 
   -- a late job is that of a late task: it is released, for its deadline is after its release
-  late-task : (j : ℕ) → j < length js → late ts js t work j ≡ true → (taskOf js j < mostTasks) × (lateTask pending places t (taskOf js j) ≡ true) × (jobAt pending places t (taskOf js j) ≡ j)
+  late-task : (j : ℕ) → j < length js → late ts js t work j ≡ true →
+      (taskOf js j < mostTasks) × (lateTask pending places t (taskOf js j) ≡ true) × (jobAt pending places t (taskOf js j) ≡ j)
   unfolding late
   late-task j l e =
       let p = fits-true (deadline ts js j) t 1 (getD work j 0) e in

@@ -21,7 +21,8 @@ use Rattle.machine.specs.Places.{leftAt, dueAt, heldAt, noJob, putAt, se
 use Rattle.machine.specs.State.{Whole, nextOf, feed, releaseAt}
 use Rattle.machine.specs.Relation.{PlaceOf, Holds, Sound, Split, Ends}
 use Rattle.machine.proofs.Sets.{added-same, added-other, removed-same, removed-other}
-use Rattle.machine.proofs.PlaceLaws.{put-length, put-other, put-own, served-idle, served-length, served-other, served-own, ended-idle, ended-last, ended-more}
+use Rattle.machine.proofs.PlaceLaws.{put-length, put-other, put-own, served-idle, served-length, served-other, served-own}
+use Rattle.machine.proofs.PlaceLaws.{ended-idle, ended-last, ended-more}
 use Rattle.machine.proofs.Pick.{Chosen}
 
 -- the work left when the job of task i has got a tick

@@ -45,19 +45,24 @@ abbrev pub Lent : Lft → ℕ → GName → Fml
 Lent κ l γ = flent κ (Body (mem T.the-row) l 0 γ)
 
 module _ {M : Type 1} (𝓤 : URA M) (H : Heap 𝓤) (A : Atoms 𝓤) (W : Given 𝓤 H A) where
-  pub lends-local : (κ : Lft) (h : RunState) (l : ℕ) → Good h → ent 𝓤 (H .at fullShare T′.mir l 0 (val h)) (H .⇛ (ex 𝓤 (λ (γ : GName). sep 𝓤 (sem 𝓤 H A (Ref κ l γ h)) (sem 𝓤 H A (Lent κ l γ)))))
+  pub lends-local : (κ : Lft) (h : RunState) (l : ℕ) → Good h →
+      ent 𝓤 (H .at fullShare T′.mir l 0 (val h)) (H .⇛ (ex 𝓤 (λ (γ : GName). sep 𝓤 (sem 𝓤 H A (Ref κ l γ h)) (sem 𝓤 H A (Lent κ l γ)))))
   unfolding partOf
   lends-local κ h l good =
-      qed W (‵ (fat fullShare T′.mir l 0 (val h)) ∷ []) ∵ use1 W (‵ (cellAt fullShare (T.the-row .mir) (val h ∷ []) l 0)) (W .laws .at-raw fullShare T′.mir l 0 (val h)) $
+      qed W (‵ (fat fullShare T′.mir l 0 (val h)) ∷ []) ∵
+      use1 W (‵ (cellAt fullShare (T.the-row .mir) (val h ∷ []) l 0)) (W .laws .at-raw fullShare T′.mir l 0 (val h)) $
       owned ! T.the-row (Is T.the-row) (LL.makes T.the-type T′.the-plain 𝓤 H A) h _ good $ move ! (1 ∷ 0 ∷ []) $ fjoin ! $
-      fpack ! (List Val) (λ us. fsep (cellAt fullShare (T.the-row .mir) us l 0) (T.the-row .own h us)) (val h ∷ []) $ by ! (lends-ref 𝓤 H A W T.the-row (named 0) κ h l 0)
+      fpack ! (List Val) (λ us. fsep (cellAt fullShare (T.the-row .mir) us l 0) (T.the-row .own h us)) (val h ∷ []) $
+      by ! (lends-ref 𝓤 H A W T.the-row (named 0) κ h l 0)
 
-  pub local-back : (κ : Lft) (γ : GName) (h : RunState) (l : ℕ) → ent 𝓤 (sep 𝓤 (A .dead κ) (sep 𝓤 (sem 𝓤 H A (Lent κ l γ)) (A .res γ (T.the-row .coded .code h))))
+  pub local-back : (κ : Lft) (γ : GName) (h : RunState) (l : ℕ) →
+      ent 𝓤 (sep 𝓤 (A .dead κ) (sep 𝓤 (sem 𝓤 H A (Lent κ l γ)) (A .res γ (T.the-row .coded .code h))))
       (H .⇛ (guard 𝓤 (Good h) (H .at fullShare T′.mir l 0 (val h))))
   unfolding partOf
   local-back κ γ h l =
-      qed W (‵ (fdead κ) ∷ ‵ (Lent κ l γ) ∷ ‵ (fres γ (T.the-row .coded .code h)) ∷ []) ∵ updating ! $ use3 W (later (‵ (mem T.the-row .lies h l 0))) (ref-back 𝓤 H A W T.the-row κ γ h l 0) $
-      await ! tt $ at-once ! $
-      fpick ! (λ vs. fsplit ! $ spelt ! T.the-row (Is T.the-row) (shows 𝓤 H A T.the-row) (LL.vals T.the-type T′.the-laws) (LL.tells T.the-type T′.the-laws) fullShare h vs l 0 $ move ! (1 ∷ []) $
-      peeks ! T.the-row (Is T.the-row) (shows 𝓤 H A T.the-row) h (val h ∷ []) (λ is. drop ! $ use1 W (‵ (fat fullShare T′.mir l 0 (val h))) (W .laws .raw-at fullShare T′.mir l 0 (val h)) $
-      check ! is $ done !))
+      qed W (‵ (fdead κ) ∷ ‵ (Lent κ l γ) ∷ ‵ (fres γ (T.the-row .coded .code h)) ∷ []) ∵ updating ! $
+      use3 W (later (‵ (mem T.the-row .lies h l 0))) (ref-back 𝓤 H A W T.the-row κ γ h l 0) $ await ! tt $ at-once ! $
+      fpick ! (λ vs. fsplit ! $ spelt ! T.the-row (Is T.the-row) (shows 𝓤 H A T.the-row)
+      (LL.vals T.the-type T′.the-laws) (LL.tells T.the-type T′.the-laws) fullShare h vs l 0 $ move ! (1 ∷ []) $
+      peeks ! T.the-row (Is T.the-row) (shows 𝓤 H A T.the-row) h (val h ∷ []) (λ is. drop ! $
+      use1 W (‵ (fat fullShare T′.mir l 0 (val h))) (W .laws .raw-at fullShare T′.mir l 0 (val h)) $ check ! is $ done !))

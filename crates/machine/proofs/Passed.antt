@@ -1,6 +1,7 @@
 -- The six parameters that `step`, `tick` and `advance` have in common: a board, three lists that are read, and two buffers that are written.
 --     Inputs, Buffer   the board and the lists with their lifetimes' tokens; a buffer with its lifetime's token
---     Six              what the six own, with P and C what is had of the buffers.        six-out, six-in     the lists and the buffers are taken out, and put back
+--     Six              what the six own, with P and C what is had of the buffers.
+--     six-out, six-in  the lists and the buffers are taken out, and put back
 --     Tokens           the five tokens.        tokens-out, tokens-in     the lists' three, and the buffers'
 --     lists-twice      what the lists own can be had twice: once to pass on, once for the exit
 --     Ready, Ticked    what `step` and `tick` ask of the state and the six, and say of what they leave
@@ -22,7 +23,8 @@ use base.Logic.{ent, ex, guard}
 use base.Fml.{GName, Lft, Share, Fml, ftrue, fsep, feq, flft, fdead, flent, fobs, fauth, fobor, fres}
 use prog.Wp.{Heap}
 use ghost.Atoms.{Atoms, sem}
-use types.Kit.{Given, ‵, later, _⊛_, ⋆, _$_, _∵_, !, qed, move, keep, drop, use1, use3, split, fsplit, fsplit3, fjoin, fjoin3, feqL, frame, await, updating, now as at-once, check, done}
+use types.Kit.{Given, ‵, later, _⊛_, ⋆, _$_, _∵_, !, qed, move, keep, drop, use1, use3, split, fsplit, fsplit3, fjoin, fjoin3, feqL, frame, await, updating}
+use types.Kit.{now as at-once, check, done}
 use types.SemTy.{cells, Arr}
 use denote.Laws.{Is}
 use denote.Memory.{mem}
@@ -117,7 +119,10 @@ abbrev pub six-args : Inputs → Buffer → Buffer → Board × (Numbers × (Num
 six-args i p c = (i .board, (i .windows, (i .tasks, (i .jobs, (p .list, (c .list, tt))))))
 
 abbrev pub six-vals : Inputs → Buffer → Buffer → List Val × (List Val × (List Val × (List Val × (List Val × (List Val × Unit {0})))))
-six-vals i p c = (board-vals (i .board), (numbers-val (i .windows) ∷ [], (numbers-val (i .tasks) ∷ [], (numbers-val (i .jobs) ∷ [], (buffer-val p ∷ [], (buffer-val c ∷ [], tt))))))
+six-vals i p c = (
+  board-vals (i .board),
+  (numbers-val (i .windows) ∷ [], (numbers-val (i .tasks) ∷ [], (numbers-val (i .jobs) ∷ [], (buffer-val p ∷ [], (buffer-val c ∷ [], tt))))),
+)
 
 -- what they own, with P and C what is had of the buffers
 abbrev pub Six : Inputs → Fml → Fml → Fml
@@ -184,7 +189,8 @@ module _ {M : Type 1} (𝓤 : URA M) (H : Heap 𝓤) (A : Atoms 𝓤) (W : Given
       let ws = ListOwn (i .κ₁) (i .windows) in
       let ts = ListOwn (i .κ₂) (i .tasks) in
       let js = ListOwn (i .κ₃) (i .jobs) in
-      qed W (‵ (Lists i) ∷ []) ∵ fsplit3 ! $ use1 W (‵ ws ⊛ ‵ ws) (shr-slice-copy 𝓤 H A W (named 0) (i .κ₁) u32 .twice (i .windows) (numbers-val (i .windows) ∷ [])) $ split ! $ move ! (2 ∷ []) $
+      qed W (‵ (Lists i) ∷ []) ∵ fsplit3 ! $
+      use1 W (‵ ws ⊛ ‵ ws) (shr-slice-copy 𝓤 H A W (named 0) (i .κ₁) u32 .twice (i .windows) (numbers-val (i .windows) ∷ [])) $ split ! $ move ! (2 ∷ []) $
       use1 W (‵ ts ⊛ ‵ ts) (shr-slice-copy 𝓤 H A W (named 0) (i .κ₂) u32 .twice (i .tasks) (numbers-val (i .tasks) ∷ [])) $ split ! $ move ! (4 ∷ []) $
       use1 W (‵ js ⊛ ‵ js) (shr-slice-copy 𝓤 H A W (named 0) (i .κ₃) u32 .twice (i .jobs) (numbers-val (i .jobs) ∷ [])) $ split ! $
       -- [jobs; jobs; tasks; tasks; windows; windows]
@@ -192,29 +198,34 @@ module _ {M : Type 1} (𝓤 : URA M) (H : Heap 𝓤) (A : Atoms 𝓤) (W : Given
 
   pub six-out : (i : Inputs) (P C : Fml) → ent 𝓤 (sem 𝓤 H A (Six i P C)) (⋆ 𝓤 H A (‵ (Lists i) ∷ ‵ P ∷ ‵ C ∷ []))
   six-out i P C =
-      qed W (‵ (Six i P C) ∷ []) ∵ fsplit ! $ drop ! $ fsplit ! $ move ! (1 ∷ []) $ fsplit ! $ move ! (1 ∷ []) $ fsplit ! $ move ! (1 ∷ []) $ fsplit ! $ move ! (1 ∷ []) $ fsplit ! $
+      qed W (‵ (Six i P C) ∷ []) ∵ fsplit ! $ drop ! $ fsplit ! $ move ! (1 ∷ []) $
+      fsplit ! $ move ! (1 ∷ []) $ fsplit ! $ move ! (1 ∷ []) $ fsplit ! $ move ! (1 ∷ []) $ fsplit ! $
       -- [C; true; P; jobs; tasks; windows]
       move ! (5 ∷ 4 ∷ 3 ∷ []) $ fjoin3 ! $ keep ! (0 ∷ 3 ∷ 1 ∷ []) $ done !
 
   pub six-in : (i : Inputs) (P C : Fml) → GoodBoard (i .board) → ent 𝓤 (⋆ 𝓤 H A (‵ (Lists i) ∷ ‵ P ∷ ‵ C ∷ [])) (sem 𝓤 H A (Six i P C))
   six-in i P C good =
-      qed W (‵ (Lists i) ∷ ‵ P ∷ ‵ C ∷ []) ∵ fsplit3 ! $ nothing ! $ move ! (5 ∷ 0 ∷ []) $ fjoin ! $ move ! (4 ∷ 0 ∷ []) $ fjoin ! $ move ! (3 ∷ 0 ∷ []) $ fjoin ! $ move ! (2 ∷ 0 ∷ []) $
-      fjoin ! $ move ! (1 ∷ 0 ∷ []) $ fjoin ! $
+      qed W (‵ (Lists i) ∷ ‵ P ∷ ‵ C ∷ []) ∵ fsplit3 ! $ nothing ! $ move ! (5 ∷ 0 ∷ []) $
+      fjoin ! $ move ! (4 ∷ 0 ∷ []) $ fjoin ! $ move ! (3 ∷ 0 ∷ []) $ fjoin ! $ move ! (2 ∷ 0 ∷ []) $ fjoin ! $ move ! (1 ∷ 0 ∷ []) $ fjoin ! $
       owned ! B.the-row (Is B.the-row) (LL.makes B.the-type B′.the-plain 𝓤 H A) (i .board) _ good $ fjoin ! $ done !
 
   pub tokens-out : (i : Inputs) (p c : Buffer) → ent 𝓤 (sem 𝓤 H A (Tokens i p c)) (⋆ 𝓤 H A (‵ (Three i) ∷ ‵ (Token p) ∷ ‵ (Token c) ∷ []))
   tokens-out i p c =
-      qed W (‵ (Tokens i p c) ∷ []) ∵ fsplit ! $ move ! (1 ∷ []) $ fsplit ! $ move ! (1 ∷ []) $ fsplit ! $ move ! (1 ∷ []) $ fsplit ! $ move ! (1 ∷ []) $ fsplit ! $
+      qed W (‵ (Tokens i p c) ∷ []) ∵ fsplit ! $ move ! (1 ∷ []) $ fsplit ! $
+      move ! (1 ∷ []) $ fsplit ! $ move ! (1 ∷ []) $ fsplit ! $ move ! (1 ∷ []) $ fsplit ! $
       move ! (5 ∷ 4 ∷ 3 ∷ []) $ fjoin3 ! $ keep ! (0 ∷ 3 ∷ 1 ∷ []) $ done !
 
   pub tokens-in : (i : Inputs) (p c : Buffer) → ent 𝓤 (⋆ 𝓤 H A (‵ (Three i) ∷ ‵ (Token p) ∷ ‵ (Token c) ∷ [])) (sem 𝓤 H A (Tokens i p c))
   tokens-in i p c =
-      qed W (‵ (Three i) ∷ ‵ (Token p) ∷ ‵ (Token c) ∷ []) ∵ fsplit3 ! $ nothing ! $ move ! (5 ∷ 0 ∷ []) $ fjoin ! $ move ! (4 ∷ 0 ∷ []) $ fjoin ! $ move ! (3 ∷ 0 ∷ []) $ fjoin ! $
+      qed W (‵ (Three i) ∷ ‵ (Token p) ∷ ‵ (Token c) ∷ []) ∵ fsplit3 ! $
+      nothing ! $ move ! (5 ∷ 0 ∷ []) $ fjoin ! $ move ! (4 ∷ 0 ∷ []) $ fjoin ! $ move ! (3 ∷ 0 ∷ []) $ fjoin ! $
       move ! (2 ∷ 0 ∷ []) $ fjoin ! $ move ! (1 ∷ 0 ∷ []) $ fjoin ! $ done !
 
-  pub lasted : (p c : Buffer) (z : After) → ent 𝓤 (sem 𝓤 H A (Lasts p c z)) (guard 𝓤 (SameLengths p c z) (⋆ 𝓤 H A (‵ (Last p (z .1 .0)) ∷ ‵ (Last c (z .1 .1)) ∷ [])))
+  pub lasted : (p c : Buffer) (z : After) →
+      ent 𝓤 (sem 𝓤 H A (Lasts p c z)) (guard 𝓤 (SameLengths p c z) (⋆ 𝓤 H A (‵ (Last p (z .1 .0)) ∷ ‵ (Last c (z .1 .1)) ∷ [])))
   lasted p c z =
-      qed W (‵ (Lasts p c z) ∷ []) ∵ fsplit ! $ drop ! $ fsplit ! $ drop ! $ fsplit ! $ drop ! $ fsplit ! $ drop ! $ fsplit ! $ fsplit ! $ move ! (1 ∷ []) $ feqL ! (λ e. move ! (1 ∷ []) $
+      qed W (‵ (Lasts p c z) ∷ []) ∵ fsplit ! $ drop ! $ fsplit ! $ drop ! $
+      fsplit ! $ drop ! $ fsplit ! $ drop ! $ fsplit ! $ fsplit ! $ move ! (1 ∷ []) $ feqL ! (λ e. move ! (1 ∷ []) $
       fsplit ! $ fsplit ! $ move ! (1 ∷ []) $ feqL ! (λ e′.
       -- [the last of c; true; the last of p]
       check ! (e, e′) $ keep ! (2 ∷ 0 ∷ []) $ done !))
@@ -228,11 +239,13 @@ module _ {M : Type 1} (𝓤 : URA M) (H : Heap 𝓤) (A : Atoms 𝓤) (W : Given
       qed W (‵ (BufferOwn p) ∷ ‵ (Token p) ∷ []) ∵ updating ! $ fsplit ! $ drop ! $ fsplit ! $ opens-slice ! tt u32 (p .list .now) b o $ at-once ! $
       use1 W (‵ (Cells p (p .list .now))) (whole-in 𝓤 H A W u32 (p .list .now) b o) $ frame ! $ fjoin3 ! $ done !
 
-  pub closes-buffer : (p : Buffer) (ys : List ℕ) → SameLength p ys → ent 𝓤 (⋆ 𝓤 H A (‵ (Cells p ys) ∷ ‵ (Opened p) ∷ [])) (H .⇛ (⋆ 𝓤 H A (‵ (Last p ys) ∷ ‵ (Token p) ∷ [])))
+  pub closes-buffer : (p : Buffer) (ys : List ℕ) → SameLength p ys →
+      ent 𝓤 (⋆ 𝓤 H A (‵ (Cells p ys) ∷ ‵ (Opened p) ∷ [])) (H .⇛ (⋆ 𝓤 H A (‵ (Last p ys) ∷ ‵ (Token p) ∷ [])))
   closes-buffer p ys e =
       let b = p .list .ptr .0 in
       let o = p .list .ptr .1 in
-      qed W (‵ (Cells p ys) ∷ ‵ (Opened p) ∷ []) ∵ updating ! $ use1 W (‵ (row u32 fullShare ys b o)) (whole-out 𝓤 H A W u32 ys b o) $ move ! (1 ∷ []) $ fsplit3 ! $ move ! (3 ∷ 0 ∷ 1 ∷ 2 ∷ []) $
+      qed W (‵ (Cells p ys) ∷ ‵ (Opened p) ∷ []) ∵ updating ! $ use1 W (‵ (row u32 fullShare ys b o)) (whole-out 𝓤 H A W u32 ys b o) $
+      move ! (1 ∷ []) $ fsplit3 ! $ move ! (3 ∷ 0 ∷ 1 ∷ 2 ∷ []) $
       closes-slice ! tt u32 (p .list .now) ys e b o $ at-once ! $
       use1 W (‵ (fres (p .list .name) (codedHoleys u32 .code (heres u32 ys)))) (W .names .obs-res (p .list .name) (codedHoleys u32 .code (heres u32 ys))) $
       use1 W (‵ (Last p ys)) (res-finally 𝓤 H A W (named 0) (p .life) u32 (p .list .name) ys) $ keep ! (0 ∷ 2 ∷ []) $ done !
@@ -242,10 +255,12 @@ module _ {M : Type 1} (𝓤 : URA M) (H : Heap 𝓤) (A : Atoms 𝓤) (W : Given
   lends-buffer p β ys room = lends-slice 𝓤 H A W u32 (named 0) (β ∷ []) ys (p .list .ptr .0) (p .list .ptr .1) room
 
   -- ys were lent, and zs are back
-  pub buffer-back : (p : Buffer) (β : ℕ) (γ : GName) (ys zs : List ℕ) → ent 𝓤 (⋆ 𝓤 H A (‵ (fdead (β ∷ [])) ∷ ‵ (LentBuffer p β γ ys) ∷ ‵ (Last (anew p β γ ys) zs) ∷ []))
+  pub buffer-back : (p : Buffer) (β : ℕ) (γ : GName) (ys zs : List ℕ) →
+      ent 𝓤 (⋆ 𝓤 H A (‵ (fdead (β ∷ [])) ∷ ‵ (LentBuffer p β γ ys) ∷ ‵ (Last (anew p β γ ys) zs) ∷ []))
       (H .⇛ (sem 𝓤 H A (Cells p zs)))
   buffer-back p β γ ys zs =
       let b = p .list .ptr .0 in
       let o = p .list .ptr .1 in
       qed W (‵ (fdead (β ∷ [])) ∷ ‵ (LentBuffer p β γ ys) ∷ ‵ (Last (anew p β γ ys) zs) ∷ []) ∵ updating ! $
-      use3 W (later (‵ (Arr (mem u32) (length ys) .lies zs b o))) (slice-back 𝓤 H A W u32 (β ∷ []) γ zs (length ys) b o) $ await ! tt $ at-once ! $ fsplit ! $ drop ! $ done !
+      use3 W (later (‵ (Arr (mem u32) (length ys) .lies zs b o))) (slice-back 𝓤 H A W u32 (β ∷ []) γ zs (length ys) b o) $
+      await ! tt $ at-once ! $ fsplit ! $ drop ! $ done !

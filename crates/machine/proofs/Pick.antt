@@ -125,7 +125,8 @@ Follows before ts js = (k : ℕ) (work : List ℕ) (pend next : ℕ) (places : L
 
 module _ (ts : List Task) (js : List Job) where
   -- the lesser by deadline and then task goes before the other, and not the other way round
-  rule-ahead : (a b : ℕ) → mostTasks * deadline ts js a + taskOf js a < mostTasks * deadline ts js b + taskOf js b → taskOf js a < mostTasks → taskOf js b < mostTasks →
+  rule-ahead : (a b : ℕ) → mostTasks * deadline ts js a + taskOf js a < mostTasks * deadline ts js b + taskOf js b →
+      taskOf js a < mostTasks → taskOf js b < mostTasks →
       (rule ts js a b ≡ true) × (rule ts js b a ≡ false)
   rule-ahead a b h la lb =
       let d : ℕ = deadline ts js a in
@@ -180,7 +181,8 @@ module _ (ts : List Task) (js : List Job) where
                     let w = h .place x (low j a) (y .0) in
                     let apart : x ≢ i = λ g. u (sym (y .1) ∙ ap (heldAt places) g) in
                     let d : deadline ts js (heldAt places x) ≡ deadline ts js j = ap (deadline ts js) (y .1) in
-                    rule-ahead c j (omega (arith, p .2 x (low j a) (y .0), z .due, z .same, w .due, d, apart, low j a)) (omega (arith, z .same, p .0)) (low j a)),
+                    rule-ahead c j (omega (arith, p .2 x (low j a) (y .0), z .due, z .same, w .due, d, apart, low j a))
+                    (omega (arith, z .same, p .0)) (low j a)),
               )
 
   -- the machine's rule is followed

@@ -44,7 +44,8 @@ module _ (p : List ℕ) (i : ℕ) where
     pub put-own : length p ≡ allPlaces → i < mostTasks → (leftAt (putAt p i w d j) i ≡ w) × (dueAt (putAt p i w d j) i ≡ d) × (heldAt (putAt p i w d j) i ≡ j)
     unfolding putAt
     put-own e l = (
-      getD-set-other two (3 * i + 2) (3 * i) j 0 (omega arith) ∙ getD-set-other one (3 * i + 1) (3 * i) d 0 (omega arith) ∙ getD-set-same p (3 * i) w 0 (omega arith),
+      getD-set-other two (3 * i + 2) (3 * i) j 0 (omega arith) ∙ getD-set-other one (3 * i + 1) (3 * i) d 0 (omega arith)
+          ∙ getD-set-same p (3 * i) w 0 (omega arith),
       getD-set-other two (3 * i + 2) (3 * i + 1) j 0 (omega arith) ∙ getD-set-same one (3 * i + 1) d 0 (omega (arith, length-set p (3 * i) w)),
       getD-set-same two (3 * i + 2) j 0 (omega (arith, length-set p (3 * i) w, length-set one (3 * i + 1) d)),
     )
@@ -80,7 +81,8 @@ module _ (p : List ℕ) (i : ℕ) where
       getD-set-other p (3 * i) (3 * x + 2) (leftAt p i - 1) 0 (omega arith),
     )
 
-    pub served-own : length p ≡ allPlaces → (leftAt (servedAt i p) i ≡ leftAt p i - 1) × (dueAt (servedAt i p) i ≡ dueAt p i) × (heldAt (servedAt i p) i ≡ heldAt p i)
+    pub served-own : length p ≡ allPlaces →
+        (leftAt (servedAt i p) i ≡ leftAt p i - 1) × (dueAt (servedAt i p) i ≡ dueAt p i) × (heldAt (servedAt i p) i ≡ heldAt p i)
     served-own e = rw served-is (
       getD-set-same p (3 * i) (leftAt p i - 1) 0 (omega arith),
       getD-set-other p (3 * i) (3 * i + 1) (leftAt p i - 1) 0 (omega arith),

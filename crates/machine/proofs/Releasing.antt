@@ -20,7 +20,8 @@ pub next-is : (ts : List Task) (x : Job) (s : RunState) (p : List ℕ) (due : �
 next-is ts x s p due r q ed er eq = rw (er, eq, ed)
 
 -- a job of a legal list can be released
-pub can-arrive : (ts : List Task) (js : List Job) → Tasks ts → Jobs ts js → (x : Job) (s : RunState) → x ≡ jobAt js (s .next) → s .next < length js → Arriving ts x s
+pub can-arrive : (ts : List Task) (js : List Job) → Tasks ts → Jobs ts js →
+    (x : Job) (s : RunState) → x ≡ jobAt js (s .next) → s .next < length js → Arriving ts x s
 can-arrive ts js tasks legal x s e l =
     let own : x .task ≡ taskOf js (s .next) = ap (λ (y : Job). y .task) e in
     let rule = tasks .rules (taskOf js (s .next)) (legal .known (s .next) l) in

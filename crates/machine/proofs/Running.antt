@@ -76,13 +76,15 @@ answers o n = given (record { outcome = o; backlog = n })
 
 -- it ends at instant k, with the counts of that instant in the buffer
 module _ (σ : ℕ → Bool) (before : ℕ → ℕ → Bool) (ts : List Task) (js : List Job) (b : List ℕ) where
-  ended-met : (k : ℕ) → outcome σ before ts js k ≡ met → (β : ℕ) (c : List ℕ) → β ≡ backlog σ before js k → c ≡ written (listed (count σ before js k) (length js)) b →
+  ended-met : (k : ℕ) → outcome σ before ts js k ≡ met → (β : ℕ) (c : List ℕ) →
+      β ≡ backlog σ before js k → c ≡ written (listed (count σ before js k) (length js)) b →
       (answers met β ≡ given (ran σ before ts js k)) × (c ≡ written (counts σ before ts js k) b)
   unfolding ran counts
   ended-met k m β c e w = (rw m (ap (answers met) e), rw m w)
 
   ended-missed : (n k j : ℕ) → outcome σ before ts js k ≡ missed k j → k ≤ n → (β : ℕ) (c : List ℕ) → β ≡ backlog σ before js k →
-      c ≡ written (listed (count σ before js k) (length js)) b → (answers (missed k j) β ≡ given (ran σ before ts js n)) × (c ≡ written (counts σ before ts js n) b)
+      c ≡ written (listed (count σ before js k) (length js)) b →
+      (answers (missed k j) β ≡ given (ran σ before ts js n)) × (c ≡ written (counts σ before ts js n) b)
   unfolding ran counts
   ended-missed n k j m l β c e w =
       let q = outcome-stays σ before ts js k k j n m l in
@@ -107,7 +109,8 @@ module _ (σ : ℕ → Bool) (before : ℕ → ℕ → Bool) (ts : List Task) (j
 
   -- ---- a tick
 
-  module _ (choice : Follows before ts js) (s : RunState) (p : List ℕ) (is : At σ before ts js (s .instant) s p) (ontime : OnTime σ before ts js (s .instant)) where
+  module _ (choice : Follows before ts js) (s : RunState) (p : List ℕ)
+      (is : At σ before ts js (s .instant) s p) (ontime : OnTime σ before ts js (s .instant)) where
     abbrev k : ℕ
     k = s .instant
 
@@ -159,8 +162,10 @@ module _ (σ : ℕ → Bool) (before : ℕ → ℕ → Bool) (ts : List Task) (j
       after-tick = elim (decLt found noJob) [
         | yes l ↦
             let z = one-late ts js tasks legal (workLeft σ before js (k + 1)) (k + 1) (t .pending) (t .next) q (next .holds) (next .split) l in
-            let e : t .end ≡ k + 1 = end-is ∙ rw (lt-ltb found noJob l) in
-            (make (inr (record { job = found; lowest = z; is = outcome-next σ before ts js k (some found) met-so-far z; ended = e })), omega (arith, e, next .now))
+            let e : t .end ≡ k + 1 = end-is ∙ rw (lt-ltb found noJob l) in (
+              make (inr (record { job = found; lowest = z; is = outcome-next σ before ts js k (some found) met-so-far z; ended = e })),
+              omega (arith, e, next .now),
+            )
         | no l ↦
             let z = none-late ts js tasks legal (workLeft σ before js (k + 1)) (k + 1) (t .pending) (t .next) q (next .holds) (next .split) (omega arith) in
             let e : t .end ≡ s .end = end-is ∙ rw (le-ltb found noJob (omega arith)) in
@@ -208,7 +213,8 @@ module _ (σ : ℕ → Bool) (before : ℕ → ℕ → Bool) (ts : List Task) (j
       pub going-next : Follows before ts js → (s′ : RunState) (p′ c′ : List ℕ) → Ticked σ ts js s p c s′ p′ c′ →
           Going σ before ts js n d s′ p′ c′ × (s′ .end - s′ .instant < s .end - s .instant)
       going-next choice s′ p′ c′ tk =
-          let y = after-tick σ before ts js (begins .tasks) (begins .jobs) choice s p (g .at) (still .2) n d c g (omega (arith, still .0)) (still .0) (still .1) (begins .room) in
+          let y = after-tick σ before ts js (begins .tasks) (begins .jobs) choice s p
+          (g .at) (still .2) n d c g (omega (arith, still .0)) (still .0) (still .1) (begins .room) in
           rw (tk .counted)
           (subst (λ (w : Whole). Going σ before ts js n d (w .state) (w .places) (noted js (w .state .instant) (w .state .done) c)
           × (w .state .end - w .state .instant < s .end - s .instant)) (sym (tk .moved)) y)
@@ -235,7 +241,8 @@ module _ (σ : ℕ → Bool) (before : ℕ → ℕ → Bool) (ts : List Task) (j
             (ended-met σ before ts js b (s .instant) (x .1) (s .backlog) c (g .at .backlog) buffer)
         | inr x ↦
             let q : none ≡ some (x .job) =
-            sym (none-late ts js (begins .tasks) (begins .jobs) (workLeft σ before js (s .instant)) (s .instant) (s .pending) (s .next) p (g .at .holds) (g .at .split) l) ∙ x .lowest in
+            sym (none-late ts js (begins .tasks) (begins .jobs) (workLeft σ before js (s .instant))
+            (s .instant) (s .pending) (s .next) p (g .at .holds) (g .at .split) l) ∙ x .lowest in
             let z : _≡_ {A = ℕ} 0 1 = cc in
             absurd (omega arith)
       ]
@@ -243,7 +250,8 @@ module _ (σ : ℕ → Bool) (before : ℕ → ℕ → Bool) (ts : List Task) (j
       pub run-missed : last < noJob →
           (answers (missed (s .instant) last) (s .backlog) ≡ given (ran σ before ts js n)) × (c ≡ written (counts σ before ts js n) b)
       run-missed l =
-          let y = one-late ts js (begins .tasks) (begins .jobs) (workLeft σ before js (s .instant)) (s .instant) (s .pending) (s .next) p (g .at .holds) (g .at .split) l in
+          let y = one-late ts js (begins .tasks) (begins .jobs) (workLeft σ before js (s .instant))
+          (s .instant) (s .pending) (s .next) p (g .at .holds) (g .at .split) l in
           elim (g .goes) [
             | inl x ↦
                 let q : none ≡ some last = sym (ontime-none σ before ts js (s .instant) (x .2)) ∙ y in

@@ -51,7 +51,8 @@ module _ (b : Board) (ws ts js : List ℕ) (n : ℕ) (d p₀ : List ℕ) (begins
 
     pub goes-next : s .instant < s .end → (s′ : RunState) (ps′ cs′ : List ℕ) → TickedFor b ws ts js s ps cs s′ ps′ cs′
         → GoingFor b ws ts js n d s′ ps′ cs′ × (s′ .end - s′ .instant < s .end - s .instant)
-    goes-next more s′ ps′ cs′ ticked = going-next (suppliedBy (boardOf b) ws) (rule (tasksOf ts) (jobsOf js)) (tasksOf ts) (jobsOf js) n d p₀ begins s ps cs g more
+    goes-next more s′ ps′ cs′ ticked = going-next (suppliedBy (boardOf b) ws)
+        (rule (tasksOf ts) (jobsOf js)) (tasksOf ts) (jobsOf js) n d p₀ begins s ps cs g more
         (chosen-follows (tasksOf ts) (jobsOf js) (begins .tasks) (begins .jobs)) s′ ps′ cs′ ticked
 
     pub is-over : s .end ≤ s .instant → OverFor b ws ts js n d s ps cs

@@ -139,7 +139,8 @@ module _ (ts : List Task) (js : List Job) (tasks : Tasks ts) (legal : Jobs ts js
           (released .split .bound) (choice k work (fed .state .pending) (fed .state .next) (fed .places) (released .split) (released .holds))
           (workLeft σ before js (k + 1)) (servedAt i (fed .places)) (endedAt i (fed .places)) (pendingAfter (fed .state .pending) i (fed .places))
       unfolding goesToOf workLeft
-      did = rw (add-one k) (tick-worked ts js tasks legal work σ before k (fed .state .pending) (fed .state .next) (fed .places) _ (workLeft-length σ before js k)
+      did = rw (add-one k) (tick-worked ts js tasks legal work σ before k
+          (fed .state .pending) (fed .state .next) (fed .places) _ (workLeft-length σ before js k)
           (released .holds) (released .split .bound) (choice k work (fed .state .pending) (fed .state .next) (fed .places) (released .split) (released .holds)))
 
       -- the state when the tick is done, before the miss test
@@ -151,10 +152,16 @@ module _ (ts : List Task) (js : List Job) (tasks : Tasks ts) (legal : Jobs ts js
 
       counted : worked .backlog ≡ backlog σ before js (k + 1)
       unfolding backlog greatest backlogIn
-      counted = rw (add-one k) (omega (arith, released .backlog, is .backlog, pending-count k work (fed .state .pending) (fed .state .next) (fed .places) (released .holds) (released .split)))
+      counted = rw (add-one k) (omega (
+        arith,
+        released .backlog,
+        is .backlog,
+        pending-count k work (fed .state .pending) (fed .state .next) (fed .places) (released .holds) (released .split),
+      ))
 
       tested : Tested (servedAt i (fed .places)) worked (testedOf (servedAt i (fed .places)) worked)
-      tested = test-is (workLeft σ before js (k + 1)) (servedAt i (fed .places)) worked (did .holds) (rw at-next (released .split)) (did .soon (fed .state .soon) (released .soon))
+      tested = test-is (workLeft σ before js (k + 1)) (servedAt i (fed .places)) worked
+          (did .holds) (rw at-next (released .split)) (did .soon (fed .state .soon) (released .soon))
 
       pub tick-at : At σ before ts js (k + 1) ((tickOf σ ts js (whole s p)) .state) ((tickOf σ ts js (whole s p)) .places)
       unfolding tickOf
@@ -172,6 +179,7 @@ module _ (ts : List Task) (js : List Job) (tasks : Tasks ts) (legal : Jobs ts js
       tick-ends = rw (tested .done) (did .ends)
 
       -- the run ends where a job is late
-      pub tick-end : (tickOf σ ts js (whole s p)) .state .end ≡ cond (ltb (lateTo ((tickOf σ ts js (whole s p)) .state .pending) ((tickOf σ ts js (whole s p)) .places) (k + 1) mostTasks) noJob) (k + 1) (s .end)
+      pub tick-end : (tickOf σ ts js (whole s p)) .state .end
+          ≡ cond (ltb (lateTo ((tickOf σ ts js (whole s p)) .state .pending) ((tickOf σ ts js (whole s p)) .places) (k + 1) mostTasks) noJob) (k + 1) (s .end)
       unfolding tickOf
       tick-end = rw (tested .pending) (tested .end ∙ rw (at-next, released .end))

@@ -38,7 +38,8 @@ met-in-time : (v : Verdict) → toldVerdict v ≡ verdictAnswer (boardOf board) 
 unfolding piecesFrom pieces runAnswer runFault
 met-in-time v p r left told kept =
     let fine-run = unless-given (runFault (boardOf board) X w7 10 w13 3) _ _ w13-runs .0 in
-    let after-table = orElse-fine (tableFault (boardOf board) X) (groupFault w7 orElse jobListFault 10 w13 orElse jobFault (tasksOf w7) 10 (jobsOf w13) orElse roomFault 2 3) fine-run .1 in
+    let after-table = orElse-fine (tableFault (boardOf board) X)
+    (groupFault w7 orElse jobListFault 10 w13 orElse jobFault (tasksOf w7) 10 (jobsOf w13) orElse roomFault 2 3) fine-run .1 in
     let legal = orElse-fine (groupFault w7) (jobListFault 10 w13 orElse jobFault (tasksOf w7) 10 (jobsOf w13) orElse roomFault 2 3) after-table .1 in
     let m = meets-runs board X w7 v p 8 (let-in v p) 10 w13 (9 ∷ 9 ∷ 9 ∷ []) left r told kept legal in
     (m .0, m .1 1 (omega arith) (omega arith) .1)

@@ -13,7 +13,8 @@ use Rattle.scope.specs.Verdict as Verdicts
 use Rattle.scope.specs.Jobs.{Job, jobsOf, taskOf, deadline, badJob}
 use Rattle.scope.specs.Machine.{edf}
 use Rattle.scope.specs.Run.{backlog, countOf, ran, counts}
-use Rattle.scope.specs.Answers.{Answer.given, Fault.fine, _orElse_, tableFault, groupFault, cycleFault, jobListFault, jobFault, roomFault, verdictAnswer, runFault, runAnswer, runOut}
+use Rattle.scope.specs.Answers.{Answer.given, Fault.fine, _orElse_, tableFault, groupFault, cycleFault, jobListFault, jobFault, roomFault, verdictAnswer}
+use Rattle.scope.specs.Answers.{runFault, runAnswer, runOut}
 use Rattle.scope.specs.Demands.{LeastMiss, Under, Way, Served}
 use Rattle.theory.specs.Answers.{faultAt-fine, orElse-fine, unless-given}
 use Rattle.theory.specs.Buffers.{written-at}
@@ -80,7 +81,8 @@ module _ (b : Board) (ws ts : List ℕ) (v : Verdict) (promised : toldVerdict v 
       let σ = suppliedBy (boardOf b) ws in
       let before = edf (tasksOf ts) (jobsOf js) in
       let f : runFault (boardOf b) ws ts n js (length out) ≡ fine = rw (p .0, q .0, legal) in
-      let e = edf-meets (boardOf b) ws ts h a n (jobsOf js) (faultAt-fine 11 _ (orElse-fine (jobFault (tasksOf ts) n (jobsOf js)) _ (orElse-fine (jobListFault n js) _ legal .1) .0)) in (
+      let e = edf-meets (boardOf b) ws ts h a n (jobsOf js)
+      (faultAt-fine 11 _ (orElse-fine (jobFault (tasksOf ts) n (jobsOf js)) _ (orElse-fine (jobListFault n js) _ legal .1) .0)) in (
         (backlog σ before (jobsOf js) n, ran-determined r (Met (backlog σ before (jobsOf js) n)) (told ∙ rw (f, e .0))),
         λ j l d. rw (kept, f, written-at (counts σ before (tasksOf ts) (jobsOf js) n) out j (rw (listed-length) l)) (e .1 j l d),
       )

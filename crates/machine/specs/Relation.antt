@@ -100,7 +100,8 @@ pub record Ready (σ : ℕ → Bool) (before : ℕ → ℕ → Bool) (ts : List 
   pub room : length js ≤ length counts
 
 -- what it leaves
-pub record Ticked (σ : ℕ → Bool) (ts : List Task) (js : List Job) (s : RunState) (places counts : List ℕ) (s′ : RunState) (places′ counts′ : List ℕ) : Type 0 where
+pub record Ticked (σ : ℕ → Bool) (ts : List Task) (js : List Job) (s : RunState)
+    (places counts : List ℕ) (s′ : RunState) (places′ counts′ : List ℕ) : Type 0 where
   pub moved : whole s′ places′ ≡ tickOf σ ts js (whole s places)
   pub counted : counts′ ≡ noted js (s′ .instant) (s′ .done) counts
 
@@ -123,7 +124,8 @@ pub record MissedAt (σ : ℕ → Bool) (before : ℕ → ℕ → Bool) (ts : Li
   pub ended : end ≡ k
 
 -- what it keeps, where it began with the buffer d: it goes on to n, or a job is late at its end
-pub record Going (σ : ℕ → Bool) (before : ℕ → ℕ → Bool) (ts : List Task) (js : List Job) (n : ℕ) (d : List ℕ) (s : RunState) (places counts : List ℕ) : Type 0 where
+pub record Going (σ : ℕ → Bool) (before : ℕ → ℕ → Bool) (ts : List Task)
+    (js : List Job) (n : ℕ) (d : List ℕ) (s : RunState) (places counts : List ℕ) : Type 0 where
   pub at : At σ before ts js (s .instant) s places
   pub kept : Kept (count σ before js (s .instant)) (length js) d counts
   pub within : s .instant ≤ n
@@ -131,6 +133,7 @@ pub record Going (σ : ℕ → Bool) (before : ℕ → ℕ → Bool) (ts : List 
       ⊎ MissedAt σ before ts js (s .instant) (s .end)
 
 -- it is over
-pub record Over (σ : ℕ → Bool) (before : ℕ → ℕ → Bool) (ts : List Task) (js : List Job) (n : ℕ) (d : List ℕ) (s : RunState) (places counts : List ℕ) : Type 0 where
+pub record Over (σ : ℕ → Bool) (before : ℕ → ℕ → Bool) (ts : List Task)
+    (js : List Job) (n : ℕ) (d : List ℕ) (s : RunState) (places counts : List ℕ) : Type 0 where
   pub going : Going σ before ts js n d s places counts
   pub ended : s .end ≤ s .instant

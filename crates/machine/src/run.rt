@@ -62,7 +62,8 @@ fn run_legal(
     ensures answer { λ r. ⌜ toldRan r ≡ given (ran (suppliedBy (boardOf board) (now (windows .entry)))
         (rule (tasksOf (now (tasks .entry))) (jobsOf (now (jobs .entry)))) (tasksOf (now (tasks .entry))) (jobsOf (now (jobs .entry))) n) ⌝ }
     ensures buffer { λ _. ⌜ now (counts .exit) ≡ written (countsBy (suppliedBy (boardOf board) (now (windows .entry)))
-        (rule (tasksOf (now (tasks .entry))) (jobsOf (now (jobs .entry)))) (tasksOf (now (tasks .entry))) (jobsOf (now (jobs .entry))) n) (now (counts .entry)) ⌝ }
+        (rule (tasksOf (now (tasks .entry))) (jobsOf (now (jobs .entry)))) (tasksOf (now (tasks .entry))) (jobsOf (now (jobs .entry))) n)
+        (now (counts .entry)) ⌝ }
 {
     let count = jobs.len() / 3;
     clear(counts, count);
@@ -124,8 +125,10 @@ pub fn run(
     jobs: &[u32],
     counts: &mut [u32],
 ) -> Ran
-    ensures answer { λ r. ⌜ toldRan r ≡ runAnswer (boardOf board) (now (windows .entry)) (now (tasks .entry)) n (now (jobs .entry)) (length (now (counts .entry))) ⌝ }
-    ensures buffer { λ _. ⌜ now (counts .exit) ≡ runOut (boardOf board) (now (windows .entry)) (now (tasks .entry)) n (now (jobs .entry)) (now (counts .entry)) ⌝ }
+    ensures answer { λ r. ⌜ toldRan r ≡ runAnswer (boardOf board) (now (windows .entry))
+        (now (tasks .entry)) n (now (jobs .entry)) (length (now (counts .entry))) ⌝ }
+    ensures buffer { λ _. ⌜ now (counts .exit) ≡ runOut (boardOf board) (now (windows .entry))
+        (now (tasks .entry)) n (now (jobs .entry)) (now (counts .entry)) ⌝ }
 {
     match check_run(board, windows, tasks, n, jobs, counts.len()) {
         Checked::Bad(r) => refuse(r, counts),

@@ -9,8 +9,9 @@ ghost use Rattle.scope.specs.Limits.{mostTasks, mostJobs};
 ghost use Rattle.machine.specs.Places.{allPlaces};
 ghost use Rattle.machine.specs.State.{begun, admittedOf, countedOf, workedOf, testedOf};
 
-// A run at an instant: the ticks before it are done. The jobs before `next` are released. The tasks that have a job with work left are pending, and have that job in
-// their places; none of these is due before `soon`. `done` is the job that ended in the last tick, or no job. The run ends at the instant `end`.
+// A run at an instant: the ticks before it are done. The jobs before `next` are released.
+// The tasks that have a job with work left are pending, and have that job in their places; none of these is due before `soon`.
+// `done` is the job that ended in the last tick, or no job. The run ends at the instant `end`.
 pub(crate) struct RunState {
     pub instant: u32,
     pub end: u32,

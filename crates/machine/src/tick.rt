@@ -36,7 +36,8 @@ fn next_job(s: RunState, tasks: &[u32], job: Job, places: &mut [u32]) -> RunStat
 
 // The jobs that are released at the instant.
 fn release(s: RunState, tasks: &[u32], jobs: &[u32], places: &mut [u32]) -> RunState
-    requires { ⌜ (length (now places) ≡ allPlaces) × Tasks (tasksOf (now tasks)) × Jobs (tasksOf (now tasks)) (jobsOf (now jobs)) × (s .next ≤ length (jobsOf (now jobs))) ⌝ }
+    requires { ⌜ (length (now places) ≡ allPlaces) × Tasks (tasksOf (now tasks)) × Jobs (tasksOf (now tasks)) (jobsOf (now jobs))
+        × (s .next ≤ length (jobsOf (now jobs))) ⌝ }
     ensures { λ r. ⌜ whole r (now (places .exit)) ≡ releaseAt (tasksOf (now (tasks .entry))) (jobsOf (now (jobs .entry))) (whole s (now (places .entry))) ⌝ }
 {
     let count = jobs.len() / 3;

@@ -13,7 +13,9 @@ use Rattle.scope.specs.Tasks.{Task, task, tasksOf}
 use Rattle.scope.specs.Verdict.{Verdict, Verdict.meets, Verdict.miss}
 use Rattle.scope.specs.Bound.{Bound, Bound.bound}
 use Rattle.scope.specs.Run.{Outcome.met, Outcome.missed, Ran}
-use Rattle.scope.specs.Answers.{Fault, Fault.fine, Fault.fault, Answer, Answer.given, Answer.refused, Delay, boardAnswer, windowAnswer, taskAnswer, lengthAnswer, runTicksAnswer, windowListFault, taskListFault, cycleFault, jobListFault, leastSupplyAnswer, criticalAnswer, criticalOut, delayAnswer, outageAnswer, demandAnswer, marginAnswer, verdictAnswer, boundAnswer, runAnswer, runOut}
+use Rattle.scope.specs.Answers.{Fault, Fault.fine, Fault.fault, Answer, Answer.given, Answer.refused, Delay, boardAnswer, windowAnswer, taskAnswer}
+use Rattle.scope.specs.Answers.{lengthAnswer, runTicksAnswer, windowListFault, taskListFault, cycleFault, jobListFault, leastSupplyAnswer, criticalAnswer}
+use Rattle.scope.specs.Answers.{criticalOut, delayAnswer, outageAnswer, demandAnswer, marginAnswer, verdictAnswer, boundAnswer, runAnswer, runOut}
 use Rattle.scope.specs.Plan.{planAnswer, Plan, writeAnswer, writeOut}
 use Rattle.scope.specs.Line.{bytes, line, lineAnswer, lineOut}
 use Rattle.scope.specs.Computing.{everything}
@@ -160,7 +162,8 @@ table =
     ∷ ("cycle far over its limit" asks verdictOf 8 X (1 ∷ 999999 ∷ 999999 ∷ []) gives aVerdict (refused 6 0))
     ∷ ("cycle just below its limit" asks cycleOf 1 (1 ∷ 1001 ∷ 1 ∷ 1 ∷ 999 ∷ 1 ∷ []) gives faults (fine ∷ []))
     ∷ ("cycle just over its limit" asks cycleOf 101 (1 ∷ 9901 ∷ 1 ∷ []) gives faults (fault 6 0 ∷ []))
-    ∷ ("demand at its limits" asks demandsOf (1 ∷ 4 ∷ 3 ∷ []) (2 ∷ 3 ∷ 1000000 ∷ 1000001 ∷ []) gives amounts (given 0 ∷ given 1 ∷ given 250000 ∷ refused 7 0 ∷ []))
+    ∷ ("demand at its limits" asks demandsOf (1 ∷ 4 ∷ 3 ∷ []) (2 ∷ 3 ∷ 1000000 ∷ 1000001 ∷ [])
+    gives amounts (given 0 ∷ given 1 ∷ given 250000 ∷ refused 7 0 ∷ []))
     -- the order of refusals, each row with a fault of the next number or numbers too
     ∷ ("1 before 2" asks verdictOf 0 [] [] gives aVerdict (refused 1 0))
     ∷ ("2 before 3" asks verdictOf 0 (2 ∷ 2 ∷ []) [] gives aVerdict (refused 2 0))
@@ -177,7 +180,8 @@ table =
     ∷ ("11 before 8" asks runOf 8 X (1 ∷ 4 ∷ 4 ∷ []) 10 (2 ∷ 0 ∷ 2 ∷ []) [] gives aRun (refused 11 0) [])
     ∷ ("run refused by 10" asks runOf 8 X (1 ∷ 4 ∷ 4 ∷ []) 10 (2 ∷ 0 ∷ []) (9 ∷ []) gives aRun (refused 10 0) (9 ∷ []))
     ∷ ("plan refused by 1" asks writtenPlan (record { frame = 8; windows = []; tasks = 1 ∷ [] }) (9 ∷ []) gives bytesIn (refused 1 0) (9 ∷ []))
-    ∷ ("a plan written" asks writtenPlan (record { frame = 300; windows = 0 ∷ 2 ∷ []; tasks = [] }) (9 ∷ 9 ∷ 9 ∷ 9 ∷ 9 ∷ 9 ∷ 9 ∷ []) gives bytesIn (given 6) (172 ∷ 2 ∷ 1 ∷ 0 ∷ 2 ∷ 0 ∷ 9 ∷ []))
+    ∷ ("a plan written" asks writtenPlan (record { frame = 300; windows = 0 ∷ 2 ∷ []; tasks = [] }) (9 ∷ 9 ∷ 9 ∷ 9 ∷ 9 ∷ 9 ∷ 9 ∷ [])
+    gives bytesIn (given 6) (172 ∷ 2 ∷ 1 ∷ 0 ∷ 2 ∷ 0 ∷ 9 ∷ []))
     ∷ ("line without room" asks lineInto (8 ∷ 1 ∷ 0 ∷ 2 ∷ 0 ∷ []) (9 ∷ 9 ∷ []) gives bytesIn (refused 8 14) (9 ∷ 9 ∷ []))
     -- the other lines; bytes left over, a number cut short, one in too many bytes, one missing, the greatest number and one more, and the two early answers
     ∷ ("line of a plan that meets" asks lineOf (8 ∷ 2 ∷ 0 ∷ 2 ∷ 5 ∷ 7 ∷ 0 ∷ []) gives text (bytes "MEETS cycle 8\n"))

@@ -72,7 +72,12 @@ mul-free c = search needs
 
 array-write-free : tie.Need-array-write-free Inv-loop μ-loop
 array-write-free c =
-    omega (arith, c .before .before .before .before .before .before .before .before .before .before .before .pre .0 .few, rule (c .before .before .before .before .before) .known, ap (λ (y : Job). y .task) (c .before .before .before .before .job-at .ensures))
+    omega (
+      arith,
+      c .before .before .before .before .before .before .before .before .before .before .before .pre .0 .few,
+      rule (c .before .before .before .before .before) .known,
+      ap (λ (y : Job). y .task) (c .before .before .before .before .job-at .ensures),
+    )
 
 add-j : tie.Need-add-j Inv-loop μ-loop
 add-j c = search needs
@@ -93,7 +98,9 @@ loop-again c =
     )
 
 returns-2 : tie.Need-returns-2 Inv-loop μ-loop
-returns-2 c = let a = c .before .before .before .before in jobs-fine _ _ _ (λ k h. c .before .loop .inv .2 k (omega (arith, pieces-length _ 3 job (a .args .jobs .now))))
+returns-2 c =
+    let a = c .before .before .before .before in
+    jobs-fine _ _ _ (λ k h. c .before .loop .inv .2 k (omega (arith, pieces-length _ 3 job (a .args .jobs .now))))
 
 pub check-each-job-spec : {M : Type 1} → statement M
 check-each-job-spec =

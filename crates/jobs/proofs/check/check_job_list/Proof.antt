@@ -30,13 +30,15 @@ returns-2 : tie.Need-returns-2
 unfolding runTicksAnswer
 returns-2 c =
     let x = c .before .before in
-    none-of _ _ _ (sym (ap toldRun (c .enum-told .given .1)) ∙ x .new .ensures) ∙ good-list _ _ (sym (x .before .before .bad-count .ensures) ∙ x .before .if1 .left)
+    none-of _ _ _ (sym (ap toldRun (c .enum-told .given .1)) ∙ x .new .ensures)
+    ∙ good-list _ _ (sym (x .before .before .bad-count .ensures) ∙ x .before .if1 .left)
 
 returns-3 : tie.Need-returns-3
 unfolding runTicksAnswer
 returns-3 c =
     let x = c .before .before .before in
-    fault-of _ _ (sym (ap toldRun (c .before .r .given .1)) ∙ x .new .ensures) ∙ good-list _ _ (sym (x .before .before .bad-count .ensures) ∙ x .before .if1 .left)
+    fault-of _ _ (sym (ap toldRun (c .before .r .given .1)) ∙ x .new .ensures)
+    ∙ good-list _ _ (sym (x .before .before .bad-count .ensures) ∙ x .before .if1 .left)
 
 pub check-job-list-spec : {M : Type 1} → statement M
 check-job-list-spec =

@@ -17,7 +17,8 @@ group-fine : (c : tie.After-enum-told) → groupFault (c .before .before .before
 group-fine c = sym (c .before .before .check-tasks .ensures) ∙ ap faultOf (c .enum-told .given .1)
 
 -- and the job list
-list-fine : (c : tie.After-enum-told2) → let a = c .before .before .before .before .before .before .before .before .args in jobListFault (a .n) (a .jobs .now) ≡ fine
+list-fine : (c : tie.After-enum-told2) → let a = c .before .before .before .before .before .before .before .before .args in
+    jobListFault (a .n) (a .jobs .now) ≡ fine
 list-fine c = sym (c .before .before .check-job-list .ensures) ∙ ap faultOf (c .enum-told2 .given .1)
 
 check-tasks-requires : tie.Need-check-tasks-requires

@@ -22,7 +22,8 @@ job-at-requires-2 c κs = search needs
 returns-2 : tie.Need-returns-2
 returns-2 c =
     let x = c .before .before .before .before in
-    order-later (jobsOf (x .before .before .before .args .jobs .now)) _ (x .before .if1 .left) _ _ (x .job-at .ensures) (c .before .before .before .job-at2 .ensures)
+    order-later (jobsOf (x .before .before .before .args .jobs .now)) _
+    (x .before .if1 .left) _ _ (x .job-at .ensures) (c .before .before .before .job-at2 .ensures)
     (c .if2 .taken)
 
 returns-3 : tie.Need-returns-3
@@ -35,7 +36,8 @@ returns-4 : tie.Need-returns-4
 returns-4 c =
     let x = c .before .before .before .before .before .before .before .before .before in
     order-task (jobsOf (x .before .before .before .args .jobs .now)) _ (x .before .if1 .left) _ _ (x .job-at .ensures)
-    (c .before .before .before .before .before .before .before .before .job-at2 .ensures) (c .before .before .before .before .before .if2 .left) (c .before .before .if3 .left)
+    (c .before .before .before .before .before .before .before .before .job-at2 .ensures)
+    (c .before .before .before .before .before .if2 .left) (c .before .before .if3 .left)
 
 pub in-order-spec : {M : Type 1} → statement M
 in-order-spec =

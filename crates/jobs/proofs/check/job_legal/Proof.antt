@@ -28,7 +28,8 @@ in-order-requires c κs = search needs
 ordered : (c : tie.Else1) → let a = c .before .before .before .before .before .args in true ≡ inOrder (jobsOf (a .jobs .now)) (a .j)
 ordered c = sym (not-false _ (c .if1 .left)) ∙ c .before .in-order .ensures
 
-known : (c : tie.Else2) → c .before .before .before .before .job-at .result .task < length (tasksOf (c .before .before .before .before .before .before .before .args .tasks .now))
+known : (c : tie.Else2) →
+    c .before .before .before .before .job-at .result .task < length (tasksOf (c .before .before .before .before .before .before .before .args .tasks .now))
 known c = omega (arith, pieces-length _ 3 task (c .before .before .before .before .before .before .before .args .tasks .now), c .if2 .left)
 
 most : (c : tie.Else4) → let x = c .before .before .before .before .before .before .before .before .before .before in
@@ -36,7 +37,11 @@ most : (c : tie.Else4) → let x = c .before .before .before .before .before .be
 most c = omega (arith, ap (λ (y : Task). y .C) (c .before .before .before .task-at .ensures), c .if4 .left)
 
 low : (c : tie.Else5) → c .before .before .before .before .before .before .before .before .before .before .before .before .job-at .result .task < mostTasks
-low c = omega (arith, known (c .before .before .before .before .before .before .before .before), c .before .before .before .before .before .before .before .before .before .before .before .before .before .before .before .pre .0)
+low c = omega (
+  arith,
+  known (c .before .before .before .before .before .before .before .before),
+  c .before .before .before .before .before .before .before .before .before .before .before .before .before .before .before .pre .0,
+)
 
 returns : tie.Need-returns
 returns c = bad-order _ _ _ _ (sym (not-true _ (c .if1 .taken)) ∙ c .before .in-order .ensures)
@@ -46,10 +51,12 @@ cast-i c = search needs
 
 returns-2 : tie.Need-returns-2
 returns-2 c =
-    bad-task _ _ _ _ _ (c .before .before .before .before .job-at .ensures) (ordered (c .before .before)) (omega (arith, pieces-length _ 3 task (c .before .before .before .before .before .before .before .args .tasks .now), c .if2 .taken))
+    bad-task _ _ _ _ _ (c .before .before .before .before .job-at .ensures) (ordered (c .before .before))
+    (omega (arith, pieces-length _ 3 task (c .before .before .before .before .before .before .before .args .tasks .now), c .if2 .taken))
 
 returns-3 : tie.Need-returns-3
-returns-3 c = bad-none _ _ _ _ _ (c .before .before .before .before .before .before .job-at .ensures) (ordered (c .before .before .before .before)) (known (c .before .before)) (c .if3 .taken)
+returns-3 c = bad-none _ _ _ _ _ (c .before .before .before .before .before .before .job-at .ensures)
+    (ordered (c .before .before .before .before)) (known (c .before .before)) (c .if3 .taken)
 
 task-at-requires : tie.Need-task-at-requires
 task-at-requires c κs = search needs
@@ -57,13 +64,15 @@ task-at-requires c κs = search needs
 returns-4 : tie.Need-returns-4
 returns-4 c =
     let x = c .before .before .before .before in
-    bad-most _ _ _ _ _ (x .before .before .before .before .before .before .job-at .ensures) (ordered (x .before .before .before .before)) (known (x .before .before)) (x .if3 .left)
+    bad-most _ _ _ _ _ (x .before .before .before .before .before .before .job-at .ensures)
+    (ordered (x .before .before .before .before)) (known (x .before .before)) (x .if3 .left)
     (omega (arith, ap (λ (y : Task). y .C) (c .before .before .before .task-at .ensures), c .if4 .taken))
 
 returns-5 : tie.Need-returns-5
 returns-5 c =
     let x = c .before .before .before .before .before .before in
-    bad-late _ _ _ _ _ (x .before .before .before .before .before .before .job-at .ensures) (ordered (x .before .before .before .before)) (known (x .before .before)) (x .if3 .left) (most (c .before .before)) (c .if5 .taken)
+    bad-late _ _ _ _ _ (x .before .before .before .before .before .before .job-at .ensures)
+    (ordered (x .before .before .before .before)) (known (x .before .before)) (x .if3 .left) (most (c .before .before)) (c .if5 .taken)
 
 mul-result : tie.Need-mul-result
 mul-result c = search needs
@@ -74,7 +83,8 @@ array-read-result c = low c
 returns-6 : tie.Need-returns-6
 returns-6 c =
     let x = c .before .before .before .before .before .before .before in
-    by-free _ _ _ _ _ (x .before .before .before .before .before .before .job-at .ensures) (ordered (x .before .before .before .before)) (known (x .before .before)) (x .if3 .left) (most (c .before .before .before)) (c .before .if5 .left) _
+    by-free _ _ _ _ _ (x .before .before .before .before .before .before .job-at .ensures)
+    (ordered (x .before .before .before .before)) (known (x .before .before)) (x .if3 .left) (most (c .before .before .before)) (c .before .if5 .left) _
     (x .before .before .before .before .before .before .before .before .before .pre .1 .is _ (low (c .before)))
 
 pub job-legal-spec : {M : Type 1} → statement M

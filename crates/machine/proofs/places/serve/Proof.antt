@@ -24,8 +24,10 @@ slice-read-had c = search needs
 
 returns-2 : tie.Need-returns-2
 returns-2 c =
-    let l = c .before .before .if1 .left in
-    (sym (ended-more (c .before .before .before .args .places .now) _ l (omega arith)), sym (served-none (c .before .before .before .args .places .now) _ l (c .if2 .taken)))
+    let l = c .before .before .if1 .left in (
+      sym (ended-more (c .before .before .before .args .places .now) _ l (omega arith)),
+      sym (served-none (c .before .before .before .args .places .now) _ l (c .if2 .taken)),
+    )
 
 sub-places : tie.Need-sub-places
 sub-places c = search needs

@@ -34,7 +34,8 @@ returns : tie.Need-returns
 returns c =
     let a = c .before .before .before .before .before .before .before .before .args in
     let room = c .before .before .check-room .ensures ∙ ap (λ (m : ℕ). roomFault m (a .room)) (sym (pieces-length _ 3 job (a .jobs .now))) in
-    c .or-else2 .ensures ∙ ap₂ _orElse_ (c .before .before .before .before .check-table .ensures) (c .before .or-else .ensures ∙ ap₂ _orElse_ (c .before .before .before .check-jobs .ensures) room)
+    c .or-else2 .ensures ∙ ap₂ _orElse_ (c .before .before .before .before .check-table .ensures)
+    (c .before .or-else .ensures ∙ ap₂ _orElse_ (c .before .before .before .check-jobs .ensures) room)
     ∙ in-turn (boardOf (a .board)) (a .windows .now) (a .tasks .now) (a .n) (a .jobs .now) (a .room)
 
 pub check-run-spec : {M : Type 1} → statement M

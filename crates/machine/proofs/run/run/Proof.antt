@@ -39,7 +39,8 @@ same-length c = search needs
 returns : tie.Need-returns
 unfolding runAnswer runOut
 returns c =
-    let e = sym (c .before .before .before .before .before .before .before .check-run .ensures) ∙ ap faultOf (c .before .before .before .before .before .r .given .1) in
+    let e = sym (c .before .before .before .before .before .before .before .check-run .ensures)
+    ∙ ap faultOf (c .before .before .before .before .before .r .given .1) in
     let x = c .before .before .refuse .ensures in
     (x .0 ∙ refused-by _ _ e, x .1 ∙ kept-by _ _ _ e)
 

@@ -19,13 +19,16 @@ use Rattle.machine.proofs.run.clear.Reads as clear-reads
 use Rattle.machine.proofs.tick.advance.Reads as advance-reads
 
 clear-requires : tie.Need-clear-requires
-clear-requires c κs = omega (arith, c .before .before .before .before .before .pre .3, pieces-length _ 3 job (c .before .before .before .before .before .args .jobs .now))
+clear-requires c κs =
+    omega (arith, c .before .before .before .before .before .pre .3, pieces-length _ 3 job (c .before .before .before .before .before .args .jobs .now))
 
 slice-aggregate-advance : tie.Need-slice-aggregate-advance
 slice-aggregate-advance c = search needs
 
 advance-requires : tie.Need-advance-requires
-advance-requires c κs = begins-run _ _ _ _ _ _ (c .before .before .before .before .before .before .before .before .before .before .pre) (kept-all zeros (c .before .before .before .before .before .before .before .before .before .before .args .jobs .now) _ _ (c .before .before .before .before .clear .ensures)) refl
+advance-requires c κs = begins-run _ _ _ _ _ _ (c .before .before .before .before .before .before .before .before .before .before .pre)
+    (kept-all zeros (c .before .before .before .before .before .before .before .before .before .before .args .jobs .now) _ _
+    (c .before .before .before .before .clear .ensures)) refl
 
 slice-aggregate-late : tie.Need-slice-aggregate-late
 slice-aggregate-late c = search needs
@@ -38,8 +41,12 @@ same-length c = search needs
 
 returns : tie.Need-returns
 returns c =
-    let cleared = kept-all zeros (c .before .before .before .before .before .before .before .before .before .before .before .before .before .before .before .before .before .args .jobs .now) _ _ (c .before .before .before .before .before .before .before .before .before .before .before .clear .ensures) in
-    let begins = begins-run _ _ _ _ _ (replicate allPlaces 0) (c .before .before .before .before .before .before .before .before .before .before .before .before .before .before .before .before .before .pre) cleared refl in
+    let cleared = kept-all zeros
+    (c .before .before .before .before .before .before .before .before .before .before .before .before .before .before .before .before .before .args .jobs .now)
+    _ _ (c .before .before .before .before .before .before .before .before .before .before .before .clear .ensures) in
+    let begins = begins-run _ _ _ _ _ (replicate allPlaces 0)
+    (c .before .before .before .before .before .before .before .before .before .before .before .before .before .before .before .before .before .pre)
+    cleared refl in
     let s = c .before .before .before .before .before .before .advance .result in
     let over = c .before .before .before .before .before .before .advance .ensures in
     let e = c .before .late .ensures in
@@ -51,8 +58,12 @@ same-length-2 c = search needs
 
 returns-2 : tie.Need-returns-2
 returns-2 c =
-    let cleared = kept-all zeros (c .before .before .before .before .before .before .before .before .before .before .before .before .before .before .before .before .before .args .jobs .now) _ _ (c .before .before .before .before .before .before .before .before .before .before .before .clear .ensures) in
-    let begins = begins-run _ _ _ _ _ (replicate allPlaces 0) (c .before .before .before .before .before .before .before .before .before .before .before .before .before .before .before .before .before .pre) cleared refl in
+    let cleared = kept-all zeros
+    (c .before .before .before .before .before .before .before .before .before .before .before .before .before .before .before .before .before .args .jobs .now)
+    _ _ (c .before .before .before .before .before .before .before .before .before .before .before .clear .ensures) in
+    let begins = begins-run _ _ _ _ _ (replicate allPlaces 0)
+    (c .before .before .before .before .before .before .before .before .before .before .before .before .before .before .before .before .before .pre)
+    cleared refl in
     let over = c .before .before .before .before .before .before .advance .ensures in
     run-met _ _ _ _ _ _ _ begins _ _ _ (over .going) (over .ended) _ cleared (omega (arith, c .before .late .ensures, c .if1 .left))
 

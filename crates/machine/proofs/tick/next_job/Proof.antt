@@ -36,7 +36,9 @@ same-length c = search needs
 returns : tie.Need-returns
 returns c =
     let a = c .before .before .before .before .before .before .before .before .before .before .before .args in
-    next-is (tasksOf (a .tasks .now)) _ (a .s) (a .places .now) _ _ _ (ap (λ (x : Task). a .job .release + x .D) (c .before .before .before .before .before .before .before .before .task-at .ensures)) (c .admitted .ensures) (c .before .before .before .put .ensures)
+    next-is (tasksOf (a .tasks .now)) _ (a .s) (a .places .now) _ _ _
+    (ap (λ (x : Task). a .job .release + x .D) (c .before .before .before .before .before .before .before .before .task-at .ensures))
+    (c .admitted .ensures) (c .before .before .before .put .ensures)
 
 pub next-job-spec : {M : Type 1} → statement M
 next-job-spec =

@@ -16,7 +16,9 @@ job-at-requires : tie.Need-job-at-requires
 job-at-requires c κs = search needs
 
 sub-counts : tie.Need-sub-counts
-sub-counts c = let h = c .before .before .before .before .before .pre (c .before .before .if1 .left) in omega (arith, h .past, ap (λ (x : Job). x .release) (c .before .job-at .ensures))
+sub-counts c =
+    let h = c .before .before .before .before .before .pre (c .before .before .if1 .left) in
+    omega (arith, h .past, ap (λ (x : Job). x .release) (c .before .job-at .ensures))
 
 mul-counts : tie.Need-mul-counts
 mul-counts c = search needs

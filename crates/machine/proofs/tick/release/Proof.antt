@@ -46,22 +46,30 @@ next-job-requires c κs =
     let l = c .before .before .before .before .before .before .before .loop in
     let a = c .before .before .before .before .before .before .before .before .before .before .before in (
       l .inv .0,
-      can-arrive (tasksOf (a .args .tasks .now)) (jobsOf (a .args .jobs .now)) (a .pre .1) (a .pre .2) _ (l .t) (c .before .before .before .before .job-at .ensures)
+      can-arrive (tasksOf (a .args .tasks .now)) (jobsOf (a .args .jobs .now))
+          (a .pre .1) (a .pre .2) _ (l .t) (c .before .before .before .before .job-at .ensures)
           (omega (arith, pieces-length _ 3 job (a .args .jobs .now), c .before .before .before .before .before .if1 .taken)),
     )
 
 loop-less : tie.Need-loop-less Inv-loop μ-loop
-loop-less c = omega (arith, pieces-length _ 3 job (c .before .before .before .before .before .before .before .before .before .before .before .before .before .before .args .jobs .now), c .before .before .before .before .before .before .before .before .if1 .taken, ap (λ (w : Whole). w .state .next) (c .before .before .next-job .ensures))
+loop-less c = omega (
+  arith,
+  pieces-length _ 3 job (c .before .before .before .before .before .before .before .before .before .before .before .before .before .before .args .jobs .now),
+  c .before .before .before .before .before .before .before .before .if1 .taken,
+  ap (λ (w : Whole). w .state .next) (c .before .before .next-job .ensures),
+)
 
 loop-again : tie.Need-loop-again Inv-loop μ-loop
 loop-again c =
     let l = c .before .before .before .before .before .before .before .before .before .before .loop in
     let a = c .before .before .before .before .before .before .before .before .before .before .before .before .before .before .args in
     let e = c .before .before .next-job .ensures in
-    let less : l .t .next < length (jobsOf (a .jobs .now)) = omega (arith, pieces-length _ 3 job (a .jobs .now), c .before .before .before .before .before .before .before .before .if1 .taken) in (
+    let less : l .t .next < length (jobsOf (a .jobs .now)) =
+    omega (arith, pieces-length _ 3 job (a .jobs .now), c .before .before .before .before .before .before .before .before .if1 .taken) in (
       ap (λ (w : Whole). length (w .places)) e ∙ put-length (l .places) _ _ _ _ ∙ l .inv .0,
       omega (arith, less, ap (λ (w : Whole). w .state .next) e),
-      l .inv .2 ∙ release-yes (tasksOf (a .tasks .now)) (jobsOf (a .jobs .now)) (whole (l .t) (l .places)) _ (c .before .before .before .before .before .before .before .job-at .ensures) less (c .before .before .before .before .if2 .left)
+      l .inv .2 ∙ release-yes (tasksOf (a .tasks .now)) (jobsOf (a .jobs .now)) (whole (l .t) (l .places)) _
+          (c .before .before .before .before .before .before .before .job-at .ensures) less (c .before .before .before .before .if2 .left)
           ∙ ap (releaseAt (tasksOf (a .tasks .now)) (jobsOf (a .jobs .now))) (sym e),
     )
 
@@ -72,7 +80,8 @@ returns-2 : tie.Need-returns-2 Inv-loop μ-loop
 returns-2 c =
     let l = c .before .before .loop in
     let a = c .before .before .before .before .before .before .args in
-    release-end (tasksOf (a .tasks .now)) (jobsOf (a .jobs .now)) (whole (l .t) (l .places)) (omega (arith, pieces-length _ 3 job (a .jobs .now), c .if1 .left)) ∙ sym (l .inv .2)
+    release-end (tasksOf (a .tasks .now)) (jobsOf (a .jobs .now)) (whole (l .t) (l .places))
+    (omega (arith, pieces-length _ 3 job (a .jobs .now), c .if1 .left)) ∙ sym (l .inv .2)
 
 pub release-spec : {M : Type 1} → statement M
 release-spec =

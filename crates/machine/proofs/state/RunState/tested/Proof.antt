@@ -21,11 +21,13 @@ late-requires c κs = search needs
 
 returns-2 : tie.Need-returns-2
 unfolding testedOf
-returns-2 c = rw (le-ltb _ _ (c .before .before .before .if1 .left), c .before .before .soonest .ensures, ← c .before .late .ensures, lt-ltb _ noJob (c .if2 .taken))
+returns-2 c =
+    rw (le-ltb _ _ (c .before .before .before .if1 .left), c .before .before .soonest .ensures, ← c .before .late .ensures, lt-ltb _ noJob (c .if2 .taken))
 
 returns-3 : tie.Need-returns-3
 unfolding testedOf
-returns-3 c = rw (le-ltb _ _ (c .before .before .before .if1 .left), c .before .before .soonest .ensures, ← c .before .late .ensures, le-ltb _ noJob (c .if2 .left))
+returns-3 c =
+    rw (le-ltb _ _ (c .before .before .before .if1 .left), c .before .before .soonest .ensures, ← c .before .late .ensures, le-ltb _ noJob (c .if2 .left))
 
 pub tested-spec : {M : Type 1} → statement M
 tested-spec = tie.close (tie.spec returns soonest-requires late-requires returns-2 returns-3)
