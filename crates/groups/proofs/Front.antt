@@ -15,7 +15,8 @@ use base.Logic.{ent, sep, ex}
 use base.Fml.{GName, Lft, Fml, ftrue, fsep, fdead, flent, fat}
 use prog.Wp.{Heap}
 use ghost.Atoms.{Atoms, sem}
-use types.Kit.{Given, ‵, some, later, _⊛_, _$_, _∵_, !, qed, move, keep, drop, use1, use2, split, pick, fsplit, fjoin, fpick, fpack, feqI, await, updating, now as at-once, show, done}
+use types.Kit.{Given, ‵, some, later, _⊛_, _$_, _∵_, !, qed, move, keep, drop, use1, use2, split, pick, fsplit, fjoin, fpick, fpack, feqI, await, updating}
+use types.Kit.{now as at-once, show, done}
 use types.Share.{arr-parts}
 use types.Tokens.{lent-back}
 use denote.RattleType.{RattleType}

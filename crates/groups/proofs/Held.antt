@@ -19,7 +19,8 @@ use base.Fml.{GName, Lft, Share, Fml, fsep, flft}
 use prog.Wp.{Heap}
 use ghost.Atoms.{Atoms, sem}
 use contract.Monad.{fact}
-use types.Kit.{Given, Item, ‵, raw, some, given, later, _⊛_, ⋆, mean, _$_, _∵_, !, qed, move, drop, use0, use1, use2, use3, split, join, pick, fsplit, fjoin, frame, updating, now as at-once, await, show, check, done}
+use types.Kit.{Given, Item, ‵, raw, some, given, later, _⊛_, ⋆, mean, _$_, _∵_, !, qed, move, drop, use0, use1, use2, use3, split, join, pick, fsplit, fjoin}
+use types.Kit.{frame, updating, now as at-once, await, show, check, done}
 use denote.RattleType.{RattleType}
 use denote.Laws.{Is, Makes, shows}
 use denote.Plain.{uint-makes}

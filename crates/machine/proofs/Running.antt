@@ -24,7 +24,7 @@ use Rattle.jobs.specs.Legal.{Tasks, Jobs}
 use Rattle.machine.specs.declared.state.RunState.{RunState}
 use Rattle.machine.specs.Places.{allPlaces, noJob, lateTo}
 use Rattle.machine.specs.State.{Whole, whole, begun, tickOf}
-use Rattle.machine.specs.Relation.{At, OnTime, Ends, Kept, zeros, noted, Noting, Ready, Ticked, Begins, MissedAt, Going, Over}
+use Rattle.machine.specs.Relation.{At, OnTime, Ends, Kept, zeros, noted, Noting, Ready, Ticked, Begins, MissedAt, Going}
 use Rattle.machine.proofs.Sets.{mem-none}
 use Rattle.machine.proofs.Pick.{Follows}
 use Rattle.machine.proofs.Ticking.{tick-at, tick-ends, tick-end}

@@ -2,13 +2,13 @@
 use mathlib.Core.Path.{_≡_, refl, sym, ap, _∙_}
 use mathlib.Core.Bool.{Bool, true, false, cond, false≢true}
 use mathlib.Core.List.{List}
-use Prim.Native.Nat.{ℕ, _+_, _≤_, _<_}
+use Prim.Native.Nat.{ℕ, _+_, _<_}
 use native.Mathlib.Omega.{arith}
 use native.Mathlib.Numerals.{add-one}
 use native.Mathlib.Decide.{ℕ-discrete}
 use lib.Dec.{ltb}
-use lib.ListN.{length, getD}
-use borrow.Author.Tests.{lt-ltb, le-ltb, ltb-true, ltb-false, eq-eqb, eqb-true}
+use lib.ListN.{length}
+use borrow.Author.Tests.{le-ltb, ltb-true, eq-eqb, eqb-true}
 use Rattle.scope.specs.Limits.{mostTasks}
 use Rattle.scope.specs.Numbers.{bit, sum, greatest}
 use Rattle.scope.specs.Tasks.{Task}
@@ -19,8 +19,8 @@ use Rattle.theory.specs.Numbers.{sum-eq, sum-swap, sum-zero, sum-at, at, at-oth
 use Rattle.theory.specs.Machine.{workLeft-length, workLeft-before}
 use Rattle.jobs.specs.Legal.{Tasks, Jobs}
 use Rattle.machine.specs.declared.state.RunState.{RunState}
-use Rattle.machine.specs.Bits.{mem, members, pickTo}
-use Rattle.machine.specs.Places.{allPlaces, dueAt, heldAt, noJob, servedAt, endedAt, soonestOf, lateTo}
+use Rattle.machine.specs.Bits.{mem, members}
+use Rattle.machine.specs.Places.{allPlaces, heldAt, noJob, servedAt, endedAt, soonestOf, lateTo}
 use Rattle.machine.specs.State.{Whole, whole, releaseAt, goesToOf, countedOf, workedOf, testedOf, tickOf}
 use Rattle.machine.specs.Relation.{Holds, Sound, Split, At, OnTime, Ends}
 use Rattle.machine.proofs.Pick.{Follows, pending-held, held-pending, soonest-sound}

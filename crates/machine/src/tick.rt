@@ -11,15 +11,15 @@ use tables::window::is_on;
 ghost use mathlib.Core.Path.{_≡_};
 ghost use Prim.Native.Nat.{_<_, _≤_};
 ghost use lib.ListN.{length};
-ghost use Rattle.scope.specs.Limits.{mostTasks, mostJobs};
+ghost use Rattle.scope.specs.Limits.{mostJobs};
 ghost use Rattle.scope.specs.Windows.{suppliedBy};
 ghost use Rattle.scope.specs.Tasks.{tasksOf};
-ghost use Rattle.scope.specs.Jobs.{jobsOf, jobAt};
+ghost use Rattle.scope.specs.Jobs.{jobsOf};
 ghost use Rattle.tables.specs.Told.{boardOf};
 ghost use Rattle.jobs.specs.Legal.{Tasks, Jobs};
 ghost use Rattle.jobs.specs.Told.{jobOf};
 ghost use Rattle.machine.specs.Places.{allPlaces};
-ghost use Rattle.machine.specs.State.{whole, nextOf, releaseAt, goesToOf, tickOf};
+ghost use Rattle.machine.specs.State.{whole, nextOf, releaseAt, goesToOf};
 ghost use Rattle.machine.specs.Rule.{rule};
 ghost use Rattle.machine.specs.Relation.{Arriving, noted, Noting, Ready, Ticked, Begins, Over};
 

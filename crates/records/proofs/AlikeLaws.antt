@@ -9,7 +9,8 @@ use lib.ListN.{length, take}
 use lib.Seq.{length-take-le, take-all}
 use Rattle.scope.specs.Limits.{mostTasks}
 use Rattle.scope.specs.Windows.{Board}
-use Rattle.scope.specs.Answers.{Fault, Fault.fine, Fault.fault, _orElse_, unless, unlessKept, taskListFault, tableFault, groupFault, demandAnswer, marginAnswer, verdictAnswer, boundAnswer, runFault, runAnswer, runOut}
+use Rattle.scope.specs.Answers.{Fault, Fault.fine, Fault.fault, _orElse_, unless, unlessKept, taskListFault, tableFault, groupFault, demandAnswer, marginAnswer}
+use Rattle.scope.specs.Answers.{verdictAnswer, boundAnswer, runFault, runAnswer, runOut}
 use Rattle.tables.specs.declared.task.Task.{Task}
 use Rattle.tables.proofs.FaultLaws.{or-fault}
 use Rattle.tables.proofs.TaskLaws.{too-many}

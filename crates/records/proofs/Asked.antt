@@ -43,7 +43,8 @@ use Rattle.records.proofs.AlikeLaws.{Alike, flattened-alike}
 use Rattle.records.proofs.flat.Flat as F
 use Rattle.records.proofs.flat.flatten.Symbol.{name as #flatten}
 use Rattle.records.proofs.Carried.{Carried}
-use Rattle.records.proofs.Passed.{Windows, Records, windows-mir, records-mir, windows-val, records-val, board-vals, Token, Flatten, Entry, Left, Kept, opened, asked, answered, ended}
+use Rattle.records.proofs.Passed.{Windows, Records, windows-mir, records-mir, windows-val, records-val, board-vals, Token, Flatten, Entry, Left, Kept}
+use Rattle.records.proofs.Passed.{opened, asked, answered, ended}
 use Rattle.records.proofs.Flattening.{flattening, Flattens, flattens}
 
 module _ (R : RattleType) (Right : Board → List ℕ → List ℕ → ℕ → R .Denot → Type 0) where

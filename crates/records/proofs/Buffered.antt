@@ -16,7 +16,8 @@ use base.Fml.{Lft, Fml, ftrue, fsep, feq}
 use prog.Wp.{Heap}
 use ghost.Atoms.{Atoms, sem}
 use contract.Monad.{fact}
-use types.Kit.{Given, Item, ‵, raw, some, given, _⊛_, ⋆, mean, _$_, _∵_, !, qed, move, keep, drop, group, use1, split, split3, fsplit, fjoin, feqL, show, check, done}
+use types.Kit.{Given, Item, ‵, raw, some, given, _⊛_, ⋆, mean, _$_, _∵_, !, qed, move, keep, drop, group, use1, split, split3, fsplit, fjoin, feqL, show, check}
+use types.Kit.{done}
 use denote.Laws.{Is}
 use denote.Plain.{uint-makes}
 use denote.Builtin.{u32}

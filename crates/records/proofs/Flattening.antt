@@ -20,7 +20,8 @@ use prog.Routine.{Routine}
 use prog.Wp.{Heap, Calls, Loops, WpFn}
 use ghost.Atoms.{Atoms}
 use contract.Monad.{Fun, fact}
-use types.Kit.{Given, Item, ‵, raw, some, given, later, _⊛_, ⋆, mean, Post, runs, Sq, Go, _$_, _∵_, !, qed, by, move, keep, use1, use2, split, pick, learn, await}
+use types.Kit.{Given, Item, ‵, raw, some, given, later, _⊛_, ⋆, mean, Post, runs, Sq, Go, _$_, _∵_, !, qed, by, move, keep, use1, use2, split, pick, learn}
+use types.Kit.{await}
 use types.Run.{Opds, look, init, forget, stop, from, land, returns, enter, alloc1, alloc0, params1, free1, free0}
 use sound.WpLaws.{FmC}
 use denote.Laws.{Is, shows}
@@ -35,7 +36,8 @@ use Rattle.records.proofs.flat.Flat as F
 use Rattle.records.proofs.flat.Flat.Laws as F′
 use Rattle.records.proofs.flat.flatten as flatten
 use Rattle.records.proofs.flat.flatten.Symbol.{name as #flatten}
-use Rattle.records.proofs.Carried.{Carried, locals, vals, Typed, after, Blocks, envOf, env-after, Rooms, Cells, spread, allocs-all, passes-all, frees-all, found, read-all}
+use Rattle.records.proofs.Carried.{Carried, locals, vals, Typed, after, Blocks, envOf, env-after, Rooms, Cells, spread, allocs-all, passes-all}
+use Rattle.records.proofs.Carried.{frees-all, found, read-all}
 use Rattle.records.proofs.Passed.{Records, Token, Flatten, flatten-of, to-flatten}
 
 module _ (tasks : ℕ) (f : Name) (res : Ty) (ps es : Carried) (first : Body → Body) (xs : List Operand) where

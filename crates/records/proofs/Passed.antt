@@ -20,7 +20,8 @@ use prog.Routine.{Routine}
 use prog.Wp.{Heap}
 use ghost.Atoms.{Atoms, sem}
 use contract.Monad.{Fun, fact}
-use types.Kit.{Given, Item, ‵, raw, some, given, later, _⊛_, ⋆, mean, _$_, _∵_, !, qed, by, move, keep, drop, group, use0, use1, use3, split, join, pick, fsplit, fjoin, frame, updating, now as at-once, await, show, check, done}
+use types.Kit.{Given, Item, ‵, raw, some, given, later, _⊛_, ⋆, mean, _$_, _∵_, !, qed, by, move, keep, drop, group, use0, use1, use3, split, join, pick}
+use types.Kit.{fsplit, fjoin, frame, updating, now as at-once, await, show, check, done}
 use denote.RattleType.{RattleType}
 use denote.Laws.{Is, Makes, shows}
 use denote.Builtin.{u32}

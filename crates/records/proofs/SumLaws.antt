@@ -10,7 +10,8 @@ use lib.ListN.{length, getD}
 use borrow.Author.Tests.{not-false}
 use Rattle.scope.specs.Numbers.{sum, first, firstBy}
 use Rattle.scope.specs.Tasks.{Task, tasksOf, taskAt, taskLegal, badTask, taskDemand, demand}
-use Rattle.scope.specs.Answers.{Fault, Fault.fine, Fault.fault, Answer, faultIf, faultAt, _orElse_, unless, taskListFault, taskFault, groupFault, lengthFault, demandAnswer}
+use Rattle.scope.specs.Answers.{Fault, Fault.fine, Fault.fault, Answer, faultIf, faultAt, _orElse_, unless, taskListFault, taskFault, groupFault, lengthFault}
+use Rattle.scope.specs.Answers.{demandAnswer}
 use Rattle.theory.specs.Numbers.{sum-le, sum-same, first-none, first-some, some-first}
 use Rattle.theory.specs.Answers.{task-list-legal}
 use Rattle.theory.specs.Tasks.{demand-sum}

@@ -12,7 +12,8 @@ use Rattle.scope.specs.Cycle.{cycle}
 use Rattle.scope.specs.Verdict as Verdicts
 use Rattle.scope.specs.Jobs.{Job, jobsOf, taskOf, deadline, badJob}
 use Rattle.scope.specs.Run.{countOf}
-use Rattle.scope.specs.Answers.{Answer.given, Fault.fine, _orElse_, jobListFault, jobFault, roomFault, demandAnswer, marginAnswer, verdictAnswer, boundAnswer, runAnswer, runOut}
+use Rattle.scope.specs.Answers.{Answer.given, Fault.fine, _orElse_, jobListFault, jobFault, roomFault, demandAnswer, marginAnswer, verdictAnswer, boundAnswer}
+use Rattle.scope.specs.Answers.{runAnswer, runOut}
 use Rattle.scope.specs.Demands.{LeastMiss, Under, Way, Served}
 use Rattle.tables.specs.declared.board.Board.{Board}
 use Rattle.tables.specs.declared.task.Task.{Task}

@@ -23,7 +23,8 @@ use Rattle.tables.specs.declared.board.MadeBoard as madeBoard
 use Rattle.tables.specs.declared.window.MadeWindow as madeWindow
 use Rattle.tables.specs.declared.task.MadeTask as madeTask
 use Rattle.tables.specs.declared.length.MadeLength as madeLength
-use Rattle.tables.specs.Told.{number, place, faultOf, toldSupplied, toldAmount, toldDelay, toldMargin, toldVerdict, toldBound, toldBoard, toldWindow, toldTask, toldLength}
+use Rattle.tables.specs.Told.{number, place, faultOf, toldSupplied, toldAmount, toldDelay, toldMargin, toldVerdict, toldBound, toldBoard, toldWindow}
+use Rattle.tables.specs.Told.{toldTask, toldLength}
 
 -- what can be undone tells all cases apart
 pub undone : {A B : Type 0} (f : A → B) (g : B → A) → ((a : A) → g (f a) ≡ a) → (a b : A) → f a ≡ f b → a ≡ b

@@ -18,7 +18,9 @@ use Rattle.scope.specs.Bound.{Bound, response}
 use Rattle.scope.specs.Jobs.{jobsOf, badJob}
 use Rattle.scope.specs.Machine.{edf}
 use Rattle.scope.specs.Run.{Ran, ran}
-use Rattle.scope.specs.Answers.{Fault, Fault.fine, Fault.fault, Answer.given, Answer.refused, faultIf, faultAt, _orElse_, unless, windowListFault, frameFault, windowFault, taskListFault, taskFault, cycleFault, lengthFault, absentFault, tableFault, groupFault, verdictAnswer, boundAnswer, jobListFault, jobFault, roomFault, runFault, runAnswer}
+use Rattle.scope.specs.Answers.{Fault, Fault.fine, Fault.fault, Answer.given, Answer.refused, faultIf, faultAt, _orElse_, unless, windowListFault, frameFault}
+use Rattle.scope.specs.Answers.{windowFault, taskListFault, taskFault, cycleFault, lengthFault, absentFault, tableFault, groupFault, verdictAnswer, boundAnswer}
+use Rattle.scope.specs.Answers.{jobListFault, jobFault, roomFault, runFault, runAnswer}
 use Rattle.theory.specs.Numbers.{or-neither}
 use Rattle.theory.specs.Lists.{count-fine, fine-count}
 use Rattle.theory.specs.Tasks.{TaskRules, Within, task-rules}

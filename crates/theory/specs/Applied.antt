@@ -18,7 +18,8 @@ use Rattle.scope.specs.Limits.{mostWindows, mostTasks, mostNumber}
 use Rattle.scope.specs.Plan.{Plan, planOf, planAnswer, numberBytesWithin, numberBytes, numbersBytes, planBytes, writeAnswer, writeOut}
 use Rattle.scope.specs.Line.{lineAnswer, lineOut}
 use Rattle.scope.specs.Run.{Outcome.met, outcome, countOf, counts}
-use Rattle.scope.specs.Answers.{Answer.given, Answer.refused, windowListFault, taskListFault, verdictAnswer, boundAnswer, runAnswer, runOut, criticalAnswer, criticalOut}
+use Rattle.scope.specs.Answers.{Answer.given, Answer.refused, windowListFault, taskListFault, verdictAnswer, boundAnswer, runAnswer, runOut, criticalAnswer}
+use Rattle.scope.specs.Answers.{criticalOut}
 use Rattle.scope.specs.Demands.{LeastMiss, Way, givenTo, Served}
 use Rattle.scope.specs.Examples.{Reply.windows, Reply.bytesIn, Reply.aVerdict, Reply.bounds, Reply.aRun, X, on, reply, table, examples, row}
 use Rattle.scope.specs.Computing.{everything}
@@ -152,7 +153,8 @@ w4-served (suc i) m l d = absurd (omega arith)
 x-kept : criticalOut (on 8) X (9 ∷ 9 ∷ 9 ∷ []) ≡ 9 ∷ 9 ∷ 9 ∷ []
 unfolding reply table
 x-kept =
-    let e : windows (criticalAnswer (on 8) X 3) (criticalOut (on 8) X (9 ∷ 9 ∷ 9 ∷ [])) ≡ windows (refused 8 4) (9 ∷ 9 ∷ 9 ∷ []) = row table examples "partition without room" in
+    let e : windows (criticalAnswer (on 8) X 3) (criticalOut (on 8) X (9 ∷ 9 ∷ 9 ∷ []))
+    ≡ windows (refused 8 4) (9 ∷ 9 ∷ 9 ∷ []) = row table examples "partition without room" in
     let short : criticalAnswer (on 8) X 3 ≡ refused 8 4 = cc in
     critical-kept 8 4 (on 8) X (9 ∷ 9 ∷ 9 ∷ []) short
 

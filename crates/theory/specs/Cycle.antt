@@ -5,7 +5,9 @@ use mathlib.Core.Logic.{⊎-elim}
 use Prim.Native.Nat.{ℕ, zero, suc, _+_, _*_, _/_, _%_, _≤_, _<_, _∣_}
 use native.Mathlib.Omega.{arith}
 use native.Mathlib.Decide.{le-ind}
-use native.Mathlib.Nat.{mod-lt, zero-lt-suc, not-suc-le-zero, le-refl, dvd-refl, dvd-zero, dvd-mod-iff, pos-of-dvd-of-pos, mul-add, mul-assoc, mul-comm, div-add-mod, dvd-mul-right-of-dvd, dvd-add-iff-right, eq-zero-or-pos, zero-mul, mul-pos, div-mul-cancel, dvd-mul-left, mul-dvd-mul-left, mul-dvd-mul-right, dvd-trans, dvd-of-mul-dvd-mul-right}
+use native.Mathlib.Nat.{mod-lt, zero-lt-suc, not-suc-le-zero, le-refl, dvd-refl, dvd-zero, dvd-mod-iff, pos-of-dvd-of-pos, mul-add, mul-assoc, mul-comm}
+use native.Mathlib.Nat.{div-add-mod, dvd-mul-right-of-dvd, dvd-add-iff-right, eq-zero-or-pos, zero-mul, mul-pos, div-mul-cancel, dvd-mul-left, mul-dvd-mul-left}
+use native.Mathlib.Nat.{mul-dvd-mul-right, dvd-trans, dvd-of-mul-dvd-mul-right}
 use Rattle.scope.specs.Tasks.{Task}
 use Rattle.scope.specs.Cycle.{gcdWithin, gcd, lcm, cycle}
 use Rattle.theory.specs.Tasks.{TaskRules, Periods}

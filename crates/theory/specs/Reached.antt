@@ -15,7 +15,8 @@ use Rattle.scope.specs.Numbers.{when, bit, sum, lexically}
 use Rattle.scope.specs.Tasks.{Task, taskAt, badTask, taskDemand, demand}
 use Rattle.scope.specs.Jobs.{Job, job, jobAt, releaseOf, taskOf, workOf, inOrder, apart, jobLegal, badJob}
 use Rattle.scope.specs.Demands.{dueWithin, fullJobsIn, fullJobs}
-use Rattle.theory.specs.Numbers.{both-and, fits, true-fits, sum-eq, sum-zero, sum-split, sum-first, sum-swap, sum-when-same, when-none, true-all, none-first}
+use Rattle.theory.specs.Numbers.{both-and, fits, true-fits, sum-eq, sum-zero, sum-split, sum-first, sum-swap, sum-when-same, when-none, true-all}
+use Rattle.theory.specs.Numbers.{none-first}
 use Rattle.theory.specs.Spaced.{work-le}
 use Rattle.theory.specs.Jobs.{job-rules, spaced}
 use Rattle.theory.specs.Tasks.{TaskRules, task-rules, jobsIn, jobsIn-short, jobsIn-long, demand-jobs, demand-sum}

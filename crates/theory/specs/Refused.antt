@@ -5,7 +5,8 @@ use Prim.Native.Nat.{ℕ}
 use lib.ListN.{length}
 use Rattle.scope.specs.Windows.{Board}
 use Rattle.scope.specs.Verdict.{Verdict}
-use Rattle.scope.specs.Answers.{Fault, Answer, Answer.refused, unless, unlessKept, roomFault, criticalFault, criticalAnswer, criticalOut, runFault, runAnswer, runOut}
+use Rattle.scope.specs.Answers.{Fault, Answer, Answer.refused, unless, unlessKept, roomFault, criticalFault, criticalAnswer, criticalOut, runFault, runAnswer}
+use Rattle.scope.specs.Answers.{runOut}
 use Rattle.scope.specs.Plan.{Plan, writeFault, writeAnswer, writeOut}
 use Rattle.scope.specs.Line.{line, lineAnswer, lineOut}
 use Rattle.theory.specs.Answers.{unless-refused}

@@ -17,7 +17,8 @@ use Rattle.scope.specs.Limits.{mostNumber}
 use Rattle.scope.specs.Plan.{Groups, groups, wellFormed, Read.read, Read.bad, readGroups, readNumber, numberBytes}
 use Rattle.theory.specs.Numbers.{greatest-ge}
 use Rattle.theory.specs.Writing.{number-one, number-more}
-use Rattle.theory.specs.Reading.{well-formed, is-well-formed, groups-alone, groups-over, groups-all, groups-size, groups-append, groups-take, groups-worth, five-bytes, one-byte}
+use Rattle.theory.specs.Reading.{well-formed, is-well-formed, groups-alone, groups-over, groups-all, groups-size, groups-append, groups-take}
+use Rattle.theory.specs.Reading.{groups-worth, five-bytes, one-byte}
 
 -- every number of a list is at most m
 abbrev pub UpTo : ℕ → List ℕ → Type 0

@@ -8,7 +8,8 @@ use native.Mathlib.Decide.{decLt}
 use lib.Dec.{eqb}
 use borrow.Author.Tests.{eqb-true, eq-eqb}
 use Rattle.scope.specs.Numbers.{sum, bit, when}
-use Rattle.theory.specs.Numbers.{fits, fits-true, true-fits, at, sum-le, sum-zero, sum-sorted, sum-when-same, when-le, when-none, when-pos, when-when, and-both, both-and}
+use Rattle.theory.specs.Numbers.{fits, fits-true, true-fits, at, sum-le, sum-zero, sum-sorted, sum-when-same, when-le, when-none, when-pos, when-when}
+use Rattle.theory.specs.Numbers.{and-both, both-and}
 use Rattle.theory.specs.Tasks.{jobsIn, jobsIn-long}
 
 -- n jobs of m tasks: job j is of task c j, is released at r j, and has work w j

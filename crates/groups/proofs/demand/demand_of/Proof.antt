@@ -16,7 +16,8 @@ use prog.Wp.{Heap, Calls, Loops, WpFn, Tables}
 use ghost.Atoms.{Atoms, sem}
 use contract.Monad.{Fun, fact}
 use contract.Running.{givenOf, tables, tablesOf}
-use types.Kit.{Given, Item, ‵, raw, some, given, later, _⊛_, ⋆, mean, _$_, _∵_, !, qed, move, drop, use1, split, join, pick, fjoin, suffices, frame, updating, now as at-once, await, show, check, done}
+use types.Kit.{Given, Item, ‵, raw, some, given, later, _⊛_, ⋆, mean, _$_, _∵_, !, qed, move, drop, use1, split, join, pick, fjoin, suffices, frame, updating}
+use types.Kit.{now as at-once, await, show, check, done}
 use types.Run.{look, stop, from, load, and-then, no-more}
 use sound.WpLaws.{fmOf, WpFn-mono}
 use denote.Laws.{Is, shows}

@@ -17,7 +17,8 @@ use prog.Wp.{Heap, Calls, Loops, WpFn, Tables}
 use ghost.Atoms.{Atoms}
 use contract.Monad.{Fun, fact}
 use contract.Running.{givenOf, tables, tablesOf}
-use types.Kit.{Given, Item, ‵, raw, some, given, later, _⊛_, ⋆, mean, Post as Aim, runs, Sq, _$_, _∵_, !, qed, move, use1, use2, use3, split, join, pick, learn, suffices, show, check, frame, updating, now as at-once, await, done}
+use types.Kit.{Given, Item, ‵, raw, some, given, later, _⊛_, ⋆, mean, Post as Aim, runs, Sq, _$_, _∵_, !, qed, move, use1, use2, use3, split, join, pick, learn}
+use types.Kit.{suffices, show, check, frame, updating, now as at-once, await, done}
 use types.Part.{agg, whole, sub, look-in}
 use types.Run.{look, init, stop, hop, fld, from, load, addr, and-then, no-more, assigns}
 use sound.WpLaws.{fmOf, WpFn-mono}
@@ -33,7 +34,8 @@ use denote.Triple.Spec.{Meets, tripleOf}
 use denote.Triple.Statement.{Contract, Triple}
 use denote.Triple.Clauses.{Lasts, ensured}
 use denote.Triple.Table.{entered, cited}
-use denote.Triple.Walked.{says, Stays, needs, stay-none, stay-none-slice, gave-slice, onExit, walkOf, AllGo, goes-none, goes-none-slice, goes-gave-slice, Walks, ends-at, walked, walk-meets}
+use denote.Triple.Walked.{says, Stays, needs, stay-none, stay-none-slice, gave-slice, onExit, walkOf, AllGo, goes-none, goes-none-slice, goes-gave-slice, Walks}
+use denote.Triple.Walked.{ends-at, walked, walk-meets}
 use denote.Exit.{yes}
 use Rattle.tables.specs.declared.board.Board.{Board}
 use Rattle.tables.specs.declared.task.Task.{Task}

@@ -1,15 +1,15 @@
-use borrow.Author.Needs.{needs}
-use mathlib.Core.Path.{_≡_, sym, ap, _∙_}
 use mathlib.Core.Bool.{true}
+use mathlib.Core.Path.{_≡_, sym, ap, _∙_}
 use Prim.Native.Nat.{ℕ, _-_, _≤_, _<_}
 use native.Mathlib.Omega.{arith}
 use lib.ListN.{length}
+use borrow.Author.Needs.{needs}
 use borrow.Author.Tests.{not-true, not-false}
-use Rattle.scope.specs.Tasks.{Task, tasksOf, taskAt}
 use Rattle.scope.specs.Jobs.{Job, job, jobsOf}
-use Rattle.theory.specs.Numbers.{below-suc}
-use Rattle.theory.specs.Lists.{pieces-length}
+use Rattle.scope.specs.Tasks.{Task, tasksOf, taskAt}
 use Rattle.theory.specs.Jobs.{JobRule, job-rule}
+use Rattle.theory.specs.Lists.{pieces-length}
+use Rattle.theory.specs.Numbers.{below-suc}
 use Rattle.jobs.specs.Legal.{FreeTable}
 use Rattle.jobs.proofs.Legality.{free-first, free-next, kept, job-bad, jobs-fine}
 use Rattle.jobs.proofs.check.check_each_job.Statement.{statement}

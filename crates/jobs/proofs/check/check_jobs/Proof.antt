@@ -1,9 +1,9 @@
 use mathlib.Core.Path.{_≡_, refl, sym, ap, _∙_}
+use borrow.Author.Needs.{needs}
 use Rattle.scope.specs.Answers.{Fault.fine, groupFault, jobListFault}
 use Rattle.theory.specs.Answers.{group-legal, job-list-legal}
 use Rattle.tables.specs.Told.{faultOf}
 use Rattle.jobs.proofs.Legality.{tasks-of, in-turn}
-use borrow.Author.Needs.{needs}
 use Rattle.jobs.proofs.check.check_jobs.Statement.{statement}
 use Rattle.jobs.proofs.check.check_jobs.Tie as tie
 use Rattle.jobs.proofs.check.check_jobs.Reads as reads

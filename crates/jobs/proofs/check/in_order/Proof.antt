@@ -1,6 +1,6 @@
+use borrow.Author.Needs.{needs}
 use Rattle.scope.specs.Jobs.{jobsOf}
 use Rattle.jobs.proofs.Legality.{order-first, order-later, order-back, order-task}
-use borrow.Author.Needs.{needs}
 use Rattle.jobs.proofs.check.in_order.Statement.{statement}
 use Rattle.jobs.proofs.check.in_order.Tie as tie
 use Rattle.jobs.proofs.check.in_order.Reads as reads

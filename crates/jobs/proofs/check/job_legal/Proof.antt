@@ -1,15 +1,15 @@
-use native.Mathlib.Omega.{arith}
-use mathlib.Core.Path.{_≡_, sym, ap, _∙_}
 use mathlib.Core.Bool.{true}
+use mathlib.Core.Path.{_≡_, sym, ap, _∙_}
 use Prim.Native.Nat.{_≤_, _<_}
+use native.Mathlib.Omega.{arith}
 use lib.ListN.{length}
+use borrow.Author.Needs.{needs}
 use borrow.Author.Tests.{not-true, not-false}
+use Rattle.scope.specs.Jobs.{jobsOf, inOrder}
 use Rattle.scope.specs.Limits.{mostTasks}
 use Rattle.scope.specs.Tasks.{Task, task, tasksOf, taskAt}
-use Rattle.scope.specs.Jobs.{jobsOf, inOrder}
 use Rattle.theory.specs.Lists.{pieces-length}
 use Rattle.jobs.proofs.Legality.{bad-order, bad-task, bad-none, bad-most, bad-late, by-free}
-use borrow.Author.Needs.{needs}
 use Rattle.jobs.proofs.check.job_legal.Statement.{statement}
 use Rattle.jobs.proofs.check.job_legal.Tie as tie
 use Rattle.jobs.proofs.check.job_legal.Reads as reads

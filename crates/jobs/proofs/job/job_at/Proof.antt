@@ -1,8 +1,8 @@
-use native.Mathlib.Omega.{arith}
 use mathlib.Core.Path.{sym}
+use native.Mathlib.Omega.{arith}
+use borrow.Author.Needs.{needs}
 use Rattle.scope.specs.Jobs.{job}
 use Rattle.theory.specs.Lists.{three-at, piece-past}
-use borrow.Author.Needs.{needs}
 use Rattle.jobs.proofs.job.job_at.Statement.{statement}
 use Rattle.jobs.proofs.job.job_at.Tie as tie
 use Rattle.jobs.proofs.job.job_at.Reads as reads

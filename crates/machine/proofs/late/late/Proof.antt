@@ -1,7 +1,7 @@
-use native.Mathlib.Omega.{arith}
-use borrow.Author.Needs.{needs}
 use mathlib.Core.Path.{_≡_, refl, sym, ap, _∙_}
 use Prim.Native.Nat.{_-_, _≤_}
+use native.Mathlib.Omega.{arith}
+use borrow.Author.Needs.{needs}
 use Rattle.scope.specs.Limits.{mostTasks}
 use Rattle.machine.specs.Places.{lowerIn, lateTo}
 use Rattle.machine.proofs.Lowest.{late-next}

@@ -1,5 +1,5 @@
-use Rattle.machine.proofs.Lowest.{lower-out, lower-due, lower-keep, lower-take}
 use borrow.Author.Needs.{needs}
+use Rattle.machine.proofs.Lowest.{lower-out, lower-due, lower-keep, lower-take}
 use Rattle.machine.proofs.late.lower.Statement.{statement}
 use Rattle.machine.proofs.late.lower.Tie as tie
 use Rattle.machine.proofs.late.lower.Reads as reads

@@ -1,8 +1,8 @@
-use native.Mathlib.Omega.{arith}
-use borrow.Author.Needs.{needs}
 use mathlib.Core.Path.{refl}
 use Prim.Native.Nat.{_+_, _*_}
+use native.Mathlib.Omega.{arith}
 use lib.ListN.{set, length-set}
+use borrow.Author.Needs.{needs}
 use Rattle.machine.specs.Places.{putAt}
 use Rattle.machine.proofs.places.put.Statement.{statement}
 use Rattle.machine.proofs.places.put.Tie as tie

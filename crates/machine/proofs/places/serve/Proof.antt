@@ -1,9 +1,9 @@
-use borrow.Author.Needs.{needs}
 use mathlib.Core.Path.{sym, _∙_}
 use Prim.Native.Nat.{_+_, _-_, _*_}
 use native.Mathlib.Omega.{arith}
 use lib.ListN.{getD, length-set}
 use lib.Seq.{getD-set-other}
+use borrow.Author.Needs.{needs}
 use Rattle.machine.proofs.PlaceLaws.{served-idle, served-is, served-none, ended-idle, ended-last, ended-more}
 use Rattle.machine.proofs.places.serve.Statement.{statement}
 use Rattle.machine.proofs.places.serve.Tie as tie

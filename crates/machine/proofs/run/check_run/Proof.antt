@@ -1,8 +1,8 @@
-use borrow.Author.Needs.{needs}
 use mathlib.Core.Path.{sym, ap, ap₂, _∙_}
 use Prim.Native.Nat.{ℕ}
-use Rattle.scope.specs.Jobs.{job}
+use borrow.Author.Needs.{needs}
 use Rattle.scope.specs.Answers.{_orElse_, roomFault}
+use Rattle.scope.specs.Jobs.{job}
 use Rattle.theory.specs.Lists.{pieces-length}
 use Rattle.tables.specs.Told.{boardOf}
 use Rattle.machine.proofs.RunLaws.{in-turn}

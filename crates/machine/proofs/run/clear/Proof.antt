@@ -1,9 +1,9 @@
 use mathlib.Core.Path.{_≡_, subst}
 use Prim.Native.Nat.{ℕ, _-_, _≤_}
+use native.Mathlib.Omega.{arith}
+use borrow.Author.Needs.{needs}
 use Rattle.machine.specs.Relation.{Kept, zeros}
 use Rattle.machine.proofs.Buffer.{kept-start, kept-more}
-use borrow.Author.Needs.{needs}
-use native.Mathlib.Omega.{arith}
 use Rattle.machine.proofs.run.clear.Statement.{statement}
 use Rattle.machine.proofs.run.clear.Tie as tie
 use Rattle.machine.proofs.run.clear.Reads as reads

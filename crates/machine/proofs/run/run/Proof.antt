@@ -1,10 +1,10 @@
 use mathlib.Core.Path.{sym, ap, _∙_, _≡_}
+use lib.ListN.{length}
+use borrow.Author.Needs.{needs}
 use Rattle.scope.specs.Answers.{Fault.fine, runFault, runAnswer, runOut}
 use Rattle.tables.specs.Told.{boardOf, faultOf}
 use Rattle.tables.proofs.FaultLaws.{refused-by, given-by, kept-by, written-by}
 use Rattle.machine.proofs.RunLaws.{legal-run}
-use lib.ListN.{length}
-use borrow.Author.Needs.{needs}
 use Rattle.machine.proofs.run.run.Statement.{statement}
 use Rattle.machine.proofs.run.run.Tie as tie
 use Rattle.machine.proofs.run.run.Reads as reads

@@ -1,8 +1,8 @@
-use native.Mathlib.Omega.{arith}
-use borrow.Author.Needs.{needs}
 use mathlib.Core.Path.{refl, ap, _∙_}
-use lib.ListN.{replicate}
 use Prim.Native.Nat.{ℕ}
+use native.Mathlib.Omega.{arith}
+use lib.ListN.{replicate}
+use borrow.Author.Needs.{needs}
 use Rattle.scope.specs.Jobs.{job}
 use Rattle.scope.specs.Run.{Outcome.missed}
 use Rattle.theory.specs.Lists.{pieces-length}

@@ -1,7 +1,7 @@
-use borrow.Author.Needs.{needs}
 use mathlib.Core.Path.{ap}
 use Prim.Native.Nat.{_+_}
 use native.Mathlib.Omega.{arith}
+use borrow.Author.Needs.{needs}
 use Rattle.scope.specs.Tasks.{Task, tasksOf}
 use Rattle.machine.proofs.Releasing.{next-is}
 use Rattle.machine.proofs.tick.next_job.Statement.{statement}

@@ -1,6 +1,6 @@
-use borrow.Author.Needs.{needs}
 use mathlib.Core.Path.{ap}
 use native.Mathlib.Omega.{arith}
+use borrow.Author.Needs.{needs}
 use Rattle.scope.specs.Jobs.{Job}
 use Rattle.machine.proofs.Buffer.{noted-none, noted-one}
 use Rattle.machine.proofs.tick.note.Statement.{statement}

@@ -1,15 +1,14 @@
-use lib.ListN.{length}
-use native.Mathlib.Omega.{arith}
-use borrow.Author.Needs.{needs}
-use Rattle.machine.proofs.PlaceLaws.{put-length}
 use mathlib.Core.Path.{_≡_, refl, sym, ap, _∙_}
-use Prim.Native.Nat.{_+_, _-_, _≤_, _<_}
-use Rattle.scope.specs.Tasks.{tasksOf}
+use Prim.Native.Nat.{_-_, _≤_, _<_}
+use native.Mathlib.Omega.{arith}
+use lib.ListN.{length}
+use borrow.Author.Needs.{needs}
 use Rattle.scope.specs.Jobs.{job, jobsOf}
+use Rattle.scope.specs.Tasks.{tasksOf}
 use Rattle.theory.specs.Lists.{pieces-length}
-use Rattle.machine.specs.declared.state.RunState.{RunState}
 use Rattle.machine.specs.Places.{allPlaces}
 use Rattle.machine.specs.State.{Whole, whole, releaseAt}
+use Rattle.machine.proofs.PlaceLaws.{put-length}
 use Rattle.machine.proofs.Releasing.{can-arrive, release-yes, release-no, release-end}
 use Rattle.machine.proofs.tick.release.Statement.{statement}
 use Rattle.machine.proofs.tick.release.Tie as tie

@@ -15,7 +15,8 @@ use prog.Wp.{Heap, Calls, Loops, WpFn, Tables}
 use ghost.Atoms.{Atoms}
 use contract.Monad.{Fun, fact}
 use contract.Running.{givenOf, tables, tablesOf}
-use types.Kit.{Given, !, Item, ‵, raw, some, given, later, _⊛_, ⋆, mean, Post as Aim, runs, Sq, _$_, _∵_, qed, move, use1, use2, use3, split, join, pick, learn, suffices, show, check, frame, updating, now as at-once, await, done, by, drop, group, keep, fsplit, fjoin}
+use types.Kit.{Given, !, Item, ‵, raw, some, given, later, _⊛_, ⋆, mean, Post as Aim, runs, Sq, _$_, _∵_, qed, move, use1, use2, use3, split, join, pick, learn}
+use types.Kit.{suffices, show, check, frame, updating, now as at-once, await, done, by, drop, group, keep, fsplit, fjoin}
 use types.Run.{look, stop, from, load, and-then, no-more, init, hop, fld, addr, assigns}
 use sound.WpLaws.{fmOf, WpFn-mono}
 use denote.Laws.{Is, shows}
@@ -29,7 +30,8 @@ use denote.Triple.Spec.{Meets, tripleOf}
 use denote.Triple.Statement.{Contract, Triple}
 use denote.Triple.Table.{entered, cited}
 use denote.Triple.Clauses.{ensured, Lasts}
-use denote.Triple.Walked.{Stays, stay-none, stay-none-slice, walkOf, goes-none, goes-none-slice, Walks, ends-at, walked, walk-meets, says, gave-slice, onExit, AllGo, goes-gave-slice}
+use denote.Triple.Walked.{Stays, stay-none, stay-none-slice, walkOf, goes-none, goes-none-slice, Walks, ends-at, walked, walk-meets, says, gave-slice, onExit}
+use denote.Triple.Walked.{AllGo, goes-gave-slice}
 use denote.Exit.{yes}
 use Rattle.tables.specs.declared.board.Board.{Board}
 use Rattle.tables.specs.Told.{boardOf}
@@ -41,7 +43,8 @@ use Rattle.records.proofs.FlatLaws.{front, Flattened}
 use Rattle.records.proofs.AlikeLaws.{flattened-alike, alike-run, alike-out}
 use Rattle.records.proofs.flat.flatten.Symbol.{name as #flatten}
 use Rattle.records.proofs.Carried.{Carried, Rooms, Cells, opened, shut}
-use Rattle.records.proofs.Passed.{Windows, Records, windows-mir, records-mir, windows-val, records-val, board-vals, Token, Flatten, WindowsOwn, Params, lists-in, RecordsOwn, to-flatten, goes-flatten}
+use Rattle.records.proofs.Passed.{Windows, Records, windows-mir, records-mir, windows-val, records-val, board-vals, Token, Flatten, WindowsOwn, Params}
+use Rattle.records.proofs.Passed.{lists-in, RecordsOwn, to-flatten, goes-flatten}
 use Rattle.records.proofs.Flattening.{Flattens, flattens, Spots, envAt}
 use Rattle.records.proofs.flat.flatten.Symbol as flatten-def
 use Rattle.records.proofs.flat.flatten.Met as flatten-thm
@@ -60,7 +63,8 @@ use Rattle.machine.specs.declared.run.Ran.{Ran}
 use Rattle.machine.proofs.run.Ran as U
 use Rattle.machine.proofs.run.Ran.Laws as U′
 use Rattle.records.proofs.Buffered as Buffered
-use Rattle.records.proofs.Buffered.{anew, lent-anew, Numbers, numbers-val, JobsOwn, CountsOwn, Last, Answered, Written, Told, Lasted, rest-out, rest-in, lasted}
+use Rattle.records.proofs.Buffered.{anew, lent-anew, Numbers, numbers-val, JobsOwn, CountsOwn, Last, Answered, Written, Told, Lasted, rest-out, rest-in}
+use Rattle.records.proofs.Buffered.{lasted}
 use Rattle.records.proofs.flat.Flat as F
 use Rattle.records.proofs.flat.Flat.Laws as F′
 use Rattle.records.specs.declared.flat.Flat.{Flat}

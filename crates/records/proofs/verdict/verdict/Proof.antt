@@ -44,7 +44,8 @@ use Rattle.records.proofs.FlatLaws.{front}
 use Rattle.records.proofs.AlikeLaws.{flattened-alike, alike-verdict}
 use Rattle.records.proofs.flat.flatten.Symbol.{name as #flatten}
 use Rattle.records.proofs.Carried.{Carried}
-use Rattle.records.proofs.Passed.{Windows, Records, windows-mir, records-mir, windows-val, records-val, board-vals, Token, Flatten, Entry, Left, Kept, opened, asked, answered, ended}
+use Rattle.records.proofs.Passed.{Windows, Records, windows-mir, records-mir, windows-val, records-val, board-vals, Token, Flatten, Entry, Left, Kept}
+use Rattle.records.proofs.Passed.{opened, asked, answered, ended}
 use Rattle.records.proofs.Flattening.{Flattens, flattens}
 use Rattle.records.proofs.flat.flatten.Symbol as flatten-def
 use Rattle.records.proofs.flat.flatten.Met as flatten-thm

@@ -11,7 +11,8 @@ use Rattle.theory.specs.Buffers.{written-none}
 use Rattle.tables.specs.Told.{boardOf}
 use native.Mathlib.Omega.{arith}
 use borrow.Author.Needs.{needs}
-use Rattle.supply.proofs.PartitionLaws.{kept-none, count-hit, count-miss, count-up, keep-write, keep-skip, was, was-none, was-more, edge-is, risen, edges, edges-critical}
+use Rattle.supply.proofs.PartitionLaws.{kept-none, count-hit, count-miss, count-up, keep-write, keep-skip, was, was-none, was-more, edge-is, risen}
+use Rattle.supply.proofs.PartitionLaws.{edges, edges-critical}
 use Rattle.supply.proofs.partition.write_edges.Statement.{statement}
 use Rattle.supply.proofs.partition.write_edges.Tie as tie
 use Rattle.supply.proofs.partition.write_edges.Reads as reads

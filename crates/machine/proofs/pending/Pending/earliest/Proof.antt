@@ -1,6 +1,6 @@
 use Prim.Native.Nat.{_^_, _<_}
-use native.Mathlib.Omega.{arith}
 use native.Mathlib.Nat.{lt-of-le-of-lt, pos-of-ne-zero}
+use native.Mathlib.Omega.{arith}
 use lib.Bits.{xor-lt, and-le-l}
 use lib.Count.{trailingZeros}
 use Rattle.scope.specs.Limits.{mostTasks}

@@ -1,6 +1,6 @@
+use borrow.Author.Needs.{needs}
 use Rattle.machine.specs.Bits.{added}
 use Rattle.machine.proofs.Digits.{one-shl}
-use borrow.Author.Needs.{needs}
 use Rattle.machine.proofs.pending.Pending.with.Statement.{statement}
 use Rattle.machine.proofs.pending.Pending.with.Tie as tie
 use Rattle.machine.proofs.pending.Pending.with.Reads as reads

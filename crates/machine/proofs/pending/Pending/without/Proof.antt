@@ -1,6 +1,6 @@
+use borrow.Author.Needs.{needs}
 use Rattle.machine.specs.Bits.{removed}
 use Rattle.machine.proofs.Digits.{one-shl}
-use borrow.Author.Needs.{needs}
 use Rattle.machine.proofs.pending.Pending.without.Statement.{statement}
 use Rattle.machine.proofs.pending.Pending.without.Tie as tie
 use Rattle.machine.proofs.pending.Pending.without.Reads as reads
