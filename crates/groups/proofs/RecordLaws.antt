@@ -6,32 +6,41 @@ use mathlib.Core.List.{List, [], _∷_, _++_}
 use Prim.Native.Nat.{ℕ, _+_, _/_, _%_, _<_, _≤_}
 use native.Mathlib.Omega.{arith}
 use native.Mathlib.Numerals.{add-one}
-use lib.ListN.{length, take, set}
+use lib.ListN.{length, getD, take, set}
 use lib.Seq.{length-take-le, take-all, take-suc, take-suc-set}
-use Rattle.scope.specs.Numbers.{badCount}
+use Rattle.scope.specs.Numbers.{pieces, badCount}
 use Rattle.scope.specs.Limits.{mostTasks}
+use Rattle.scope.specs.Tasks as Tasks
+use Rattle.scope.specs.Tasks.{task, tasksOf, taskAt}
 use Rattle.scope.specs.Answers.{Fault, Fault.fine, Fault.fault, taskListFault}
 use Rattle.theory.specs.Lists.{pieces-length, three-at, count-fine}
 use Rattle.theory.specs.Answers.{task-list-legal}
 use Rattle.tables.specs.declared.task.Task.{Task}
+use Rattle.tables.specs.Told.{taskOf}
 use Rattle.tables.proofs.TaskLaws.{list-by}
 use Rattle.records.specs.Numbers.{numbersOf, enoughRecords}
 use Rattle.records.proofs.NumberLaws.{none, numbers-length}
 use Rattle.records.proofs.AlikeLaws.{Alike, bad-list, over}
-use Rattle.groups.specs.Records.{recordOf, recordsOf, recordAt, madeRecords, lentOf, lentRecords, records-numbers}
+use Rattle.groups.specs.Records.{recordOf, recordsOf, madeRecords, lentOf, lentRecords, records-numbers}
 
 records-length : (ns : List ℕ) → length (recordsOf ns) ≡ length ns / 3
 unfolding recordsOf
 records-length ns = pieces-length _ 3 recordOf ns
 
-record-is : (ns : List ℕ) (i : ℕ) (x : Task) → i < length ns / 3 → x ≡ recordAt ns i → take i (recordsOf ns) ++ (x ∷ []) ≡ take (i + 1) (recordsOf ns)
+-- the record of a task
+abbrev back : Tasks.Task → Task
+back x = recordOf (x .C) (x .T) (x .D)
+
+record-is : (ns : List ℕ) (i : ℕ) (x : Task) → i < length ns / 3 → taskOf x ≡ taskAt (tasksOf ns) i → take i (recordsOf ns) ++ (x ∷ []) ≡ take (i + 1) (recordsOf ns)
 unfolding recordsOf
 record-is ns i x l e =
-    rw (add-one i) (ap (λ (y : Task). take i (recordsOf ns) ++ (y ∷ [])) (e ∙ sym (three-at recordOf none ns i (omega arith)))
+    let is : x ≡ getD (pieces 3 recordOf ns) i none =
+    ap back (e ∙ three-at task (task 0 0 0) ns i (omega arith)) ∙ sym (three-at recordOf none ns i (omega arith)) in
+    rw (add-one i) (ap (λ (y : Task). take i (recordsOf ns) ++ (y ∷ [])) is
     ∙ sym (take-suc (recordsOf ns) i none (omega (arith, records-length ns))))
 
 -- one record more is made
-pub record-more : (ns : List ℕ) (xs : List Task) (i : ℕ) (x : Task) → i < madeRecords ns → i < length xs → x ≡ recordAt ns i →
+pub record-more : (ns : List ℕ) (xs : List Task) (i : ℕ) (x : Task) → i < madeRecords ns → i < length xs → taskOf x ≡ taskAt (tasksOf ns) i →
     take i xs ≡ take i (recordsOf ns) → take (i + 1) (set xs i x) ≡ take (i + 1) (recordsOf ns)
 record-more ns xs i x h l e so =
     ap (λ (k : ℕ). take k (set xs i x)) (add-one i) ∙ take-suc-set xs i x l ∙ ap (λ (ys : List Task). ys ++ (x ∷ [])) so ∙ record-is ns i x (omega arith) e

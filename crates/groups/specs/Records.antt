@@ -1,9 +1,9 @@
 -- The task records that numbers are, C, T, D, C, T, D, .., and how many of them are lent to `records`
-use Prim.Native.Nat.{ℕ, _+_, _*_, _/_, _%_, min}
+use Prim.Native.Nat.{ℕ, _/_, _%_, min}
 use mathlib.Core.Path.{_≡_, refl, ap}
 use mathlib.Core.List.{List, [], _∷_}
 use native.Mathlib.Omega.{arith}
-use lib.ListN.{length, getD}
+use lib.ListN.{length}
 use Rattle.scope.specs.Numbers.{piecesFrom, pieces}
 use Rattle.scope.specs.Limits.{mostTasks}
 use Rattle.scope.specs.Answers.{Fault, Fault.fine, Fault.fault, taskListFault}
@@ -15,10 +15,6 @@ recordOf c t d = record { work = c; period = t; deadline = d }
 
 unfoldable pub recordsOf : List ℕ → List Task
 recordsOf ns = pieces 3 recordOf ns
-
--- record i of the numbers
-abbrev pub recordAt : List ℕ → ℕ → Task
-recordAt ns i = recordOf (getD ns (3 * i) 0) (getD ns (3 * i + 1) 0) (getD ns (3 * i + 2) 0)
 
 -- how many records are made: no more than a group may have
 abbrev pub madeRecords : List ℕ → ℕ

@@ -1,11 +1,12 @@
 use tables::answer::Checked;
 use tables::task::Task;
 use tables::task::check_task_list;
+use tables::task::task_at;
 ghost use mathlib.Core.Path.{_≡_};
 ghost use Prim.Native.Nat.{_+_, _*_, _<_};
 ghost use lib.ListN.{length, take};
 ghost use Rattle.records.specs.Numbers.{enoughRecords};
-ghost use Rattle.groups.specs.Records.{recordAt, recordsOf, madeRecords, lentRecords};
+ghost use Rattle.groups.specs.Records.{recordsOf, madeRecords, lentRecords};
 
 // How many records are lent: all that the numbers are, or of a list that is refused one more than a group may have.
 // `records` refuses those with 4 too, whatever they hold.
@@ -17,20 +18,6 @@ pub(crate) fn count(numbers: &[u32]) -> usize
     match check_task_list(numbers) {
         Checked::Fine => whole,
         Checked::Bad(_) => over,
-    }
-}
-
-fn record_at(numbers: &[u32], i: usize) -> Task
-    requires { ⌜ 3 * i + 2 < length (now numbers) ⌝ }
-    ensures { λ r. ⌜ r ≡ recordAt (now (numbers .entry)) i ⌝ }
-{
-    let work = numbers[3 * i];
-    let period = numbers[3 * i + 1];
-    let deadline = numbers[3 * i + 2];
-    Task {
-        work,
-        period,
-        deadline,
     }
 }
 
@@ -58,7 +45,7 @@ pub(crate) fn gathered(numbers: &[u32]) -> [Task; Task::MOST + 1]
     let n = made(numbers);
     let mut i = 0;
     while i < n {
-        tasks[i] = record_at(numbers, i);
+        tasks[i] = task_at(numbers, i);
         i += 1;
     }
     tasks

@@ -21,8 +21,8 @@ made-requires c κs = search needs
 loop-holds : tie.Need-loop-holds Inv-loop μ-loop
 loop-holds c = search needs
 
-record-at-requires : tie.Need-record-at-requires Inv-loop μ-loop
-record-at-requires c κs = search needs
+task-at-requires : tie.Need-task-at-requires Inv-loop μ-loop
+task-at-requires c κs = search needs
 
 mul-tasks : tie.Need-mul-tasks Inv-loop μ-loop
 mul-tasks c = search needs
@@ -45,7 +45,7 @@ loop-again c =
       omega arith,
       search needs,
       record-more (start .before .before .before .args .numbers .now) (l .tasks)
-          (l .i) (c .record-at .result) (omega arith) (omega (arith, l .inv .1)) (c .record-at .ensures) (l .inv .2),
+          (l .i) (c .task-at .result) (omega arith) (omega (arith, l .inv .1)) (c .task-at .ensures) (l .inv .2),
     )
 
 returns : tie.Need-returns Inv-loop μ-loop
@@ -65,7 +65,7 @@ gathered-spec =
     μ-loop
     made-requires
     loop-holds
-    record-at-requires
+    task-at-requires
     mul-tasks
     array-set-from-tasks
     add-i
