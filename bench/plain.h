@@ -17,7 +17,7 @@ struct palikudyom_answer plain_bound(uint32_t frame, const uint32_t *windows, si
 struct palikudyom_answer plain_run(uint32_t frame, const uint32_t *windows, size_t windows_len, const uint32_t *tasks, size_t tasks_len, uint32_t ticks,
                                    const uint32_t *jobs, size_t jobs_len, uint32_t *counts, size_t counts_len);
 
-/* The run of one who trusts his own check: the table is checked before the first tick, and not again at each. */
+/* The same run, but late jobs are looked for in all 32 places at every tick. */
 struct palikudyom_answer plain_run_every_tick(uint32_t frame, const uint32_t *windows, size_t windows_len, const uint32_t *tasks, size_t tasks_len,
                                                 uint32_t ticks, const uint32_t *jobs, size_t jobs_len, uint32_t *counts, size_t counts_len);
 

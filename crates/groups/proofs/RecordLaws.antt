@@ -31,7 +31,8 @@ records-length ns = pieces-length _ 3 recordOf ns
 abbrev back : Tasks.Task → Task
 back x = recordOf (x .C) (x .T) (x .D)
 
-record-is : (ns : List ℕ) (i : ℕ) (x : Task) → i < length ns / 3 → taskOf x ≡ taskAt (tasksOf ns) i → take i (recordsOf ns) ++ (x ∷ []) ≡ take (i + 1) (recordsOf ns)
+record-is : (ns : List ℕ) (i : ℕ) (x : Task) → i < length ns / 3 → taskOf x ≡ taskAt (tasksOf ns) i →
+    take i (recordsOf ns) ++ (x ∷ []) ≡ take (i + 1) (recordsOf ns)
 unfolding recordsOf
 record-is ns i x l e =
     let is : x ≡ getD (pieces 3 recordOf ns) i none =

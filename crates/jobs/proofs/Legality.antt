@@ -261,7 +261,6 @@ module _ (ts : List Task) (n : ℕ) (js : List Job) (legal : badJob ts n js ≡ 
         few = few;
         known = λ j l. rule j l .known;
         some = λ j l. rule j l .some;
-        most = λ j l. rule j l .most;
         small = λ j l. omega (arith, rule j l .inside);
         rises = up;
         apart = λ i j a l e. rule j l .apart i a e;

@@ -19,7 +19,6 @@ pub record Jobs (ts : List Task) (js : List Job) : Type 0 where
   pub few : length js ≤ mostJobs
   pub known : (j : ℕ) → j < length js → taskOf js j < length ts
   pub some : (j : ℕ) → j < length js → 1 ≤ workOf js j
-  pub most : (j : ℕ) → j < length js → workOf js j ≤ (taskAt ts (taskOf js j)) .C
   pub small : (j : ℕ) → j < length js → releaseOf js j < mostTicks
   pub rises : (i j : ℕ) → i ≤ j → j < length js → releaseOf js i ≤ releaseOf js j
   pub apart : (i j : ℕ) → i < j → j < length js → taskOf js i ≡ taskOf js j → releaseOf js i + (taskAt ts (taskOf js j)) .T ≤ releaseOf js j

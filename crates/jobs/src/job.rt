@@ -9,7 +9,7 @@ pub struct Job {
     pub work: u32,
 }
 
-// Job j of a list of threes; beyond its end, zeros.
+// Job j of a list of threes; past the last one the job 0 0 0.
 pub fn job_at(jobs: &[u32], j: usize) -> Job
     ensures { λ r. ⌜ jobOf r ≡ jobAt (jobsOf (now (jobs .entry))) j ⌝ }
 {

@@ -28,41 +28,38 @@ module _ (pending : ℕ) (places : List ℕ) (t : ℕ) where
   abbrev lateTask : ℕ → Bool
   lateTask i = mem pending i && leb (dueAt places i) t
 
-  abbrev jobAt : ℕ → ℕ
-  jobAt i = heldAt places i
-
   -- r is the lowest job of the late tasks below n
   record Lowest (n r : ℕ) : Type 0 where
     at : ℕ
     bound : at < n
     is : lateTask at ≡ true
-    job : jobAt at ≡ r
-    least : (i : ℕ) → i < n → lateTask i ≡ true → r ≤ jobAt i
+    job : heldAt places at ≡ r
+    least : (i : ℕ) → i < n → lateTask i ≡ true → r ≤ heldAt places i
 
   abbrev Found : ℕ → ℕ → Type 0
   Found n r = ((r ≡ noJob) × ((i : ℕ) → i < n → lateTask i ≡ true → ⊥)) ⊎ ((r < noJob) × Lowest n r)
 
   -- a task more that is not late, or not lower
-  lowest-keep : (n r : ℕ) → (lateTask n ≡ true → r ≤ jobAt n) → Lowest n r → Lowest (suc n) r
+  lowest-keep : (n r : ℕ) → (lateTask n ≡ true → r ≤ heldAt places n) → Lowest n r → Lowest (suc n) r
   lowest-keep n r h q = record {
     at = q .at;
     bound = omega (arith, q .bound);
     is = q .is;
     job = q .job;
-    least = below-suc (λ i. lateTask i ≡ true → r ≤ jobAt i) n (q .least) h;
+    least = below-suc (λ i. lateTask i ≡ true → r ≤ heldAt places i) n (q .least) h;
   }
 
   -- a task more that is late and lower
-  lowest-take : (n : ℕ) → lateTask n ≡ true → ((i : ℕ) → i < n → lateTask i ≡ true → jobAt n ≤ jobAt i) → Lowest (suc n) (jobAt n)
+  lowest-take : (n : ℕ) → lateTask n ≡ true → ((i : ℕ) → i < n → lateTask i ≡ true → heldAt places n ≤ heldAt places i) → Lowest (suc n) (heldAt places n)
   lowest-take n e h = record {
     at = n;
     bound = omega arith;
     is = e;
     job = refl;
-    least = below-suc (λ i. lateTask i ≡ true → jobAt n ≤ jobAt i) n h (λ z. omega arith);
+    least = below-suc (λ i. lateTask i ≡ true → heldAt places n ≤ heldAt places i) n h (λ z. omega arith);
   }
 
-  module _ (small : (i : ℕ) → i < mostTasks → lateTask i ≡ true → jobAt i < noJob) where
+  module _ (small : (i : ℕ) → i < mostTasks → lateTask i ≡ true → heldAt places i < noJob) where
     late-found : (n : ℕ) → n ≤ mostTasks → Found n (lateTo pending places t n)
     unfolding lateTo lowerIn
     late-found zero l = inl (refl, λ i a e. absurd (omega arith))
@@ -71,15 +68,15 @@ module _ (pending : ℕ) (places : List ℕ) (t : ℕ) where
         best : ℕ
         best = lateTo pending places t n
 
-        two : Found n best → lateTask n ≡ true → (b : Bool) → ltb (jobAt n) best ≡ b → Found (suc n) (cond b (jobAt n) best)
+        two : Found n best → lateTask n ≡ true → (b : Bool) → ltb (heldAt places n) best ≡ b → Found (suc n) (cond b (heldAt places n) best)
         two (inl p) e true q = inr (small n (omega arith) e, lowest-take n e (λ i a z. absurd (p .1 i a z)))
-        two (inl p) e false q = absurd (omega (arith, ltb-false (jobAt n) best q, small n (omega arith) e, p .0))
+        two (inl p) e false q = absurd (omega (arith, ltb-false (heldAt places n) best q, small n (omega arith) e, p .0))
         two (inr p) e true q =
-            inr (small n (omega arith) e, lowest-take n e (λ i a z. omega (arith, p .1 .least i a z, ltb-true (jobAt n) best q)))
-        two (inr p) e false q = inr (p .0, lowest-keep n best (λ z. ltb-false (jobAt n) best q) (p .1))
+            inr (small n (omega arith) e, lowest-take n e (λ i a z. omega (arith, p .1 .least i a z, ltb-true (heldAt places n) best q)))
+        two (inr p) e false q = inr (p .0, lowest-keep n best (λ z. ltb-false (heldAt places n) best q) (p .1))
 
-        go : Found n best → (b : Bool) → lateTask n ≡ b → Found (suc n) (cond (b && ltb (jobAt n) best) (jobAt n) best)
-        go p true e = two p e (ltb (jobAt n) best) refl
+        go : Found n best → (b : Bool) → lateTask n ≡ b → Found (suc n) (cond (b && ltb (heldAt places n) best) (heldAt places n) best)
+        go p true e = two p e (ltb (heldAt places n) best) refl
         go (inl p) false e = inl (p .0, below-suc (λ i. lateTask i ≡ true → ⊥) n (p .1) (λ z. false≢true (sym e ∙ z)))
         go (inr p) false e = inr (p .0, lowest-keep n best (λ z. absurd (false≢true (sym e ∙ z))) (p .1))
 
@@ -89,29 +86,29 @@ module _ (ts : List Task) (js : List Job) (tasks : Tasks ts) (legal : Jobs ts js
     (h : Holds ts js work pending next places) (sp : Split js t t next) where
   -- the job of a late task is late
   task-late : (i : ℕ) → i < mostTasks → lateTask pending places t i ≡ true →
-      (jobAt pending places t i < length js) × (late ts js t work (jobAt pending places t i) ≡ true)
+      (heldAt places i < length js) × (late ts js t work (heldAt places i) ≡ true)
   unfolding late
   task-late i l e =
       let p = and-both (mem pending i) (leb (dueAt places i) t) e in
       let z = h .place i l (p .0) in
-      let c : ℕ = jobAt pending places t i in (
+      let c : ℕ = heldAt places i in (
         omega (arith, z .known, sp .bound),
         true-fits (deadline ts js c) t 1 (getD work c 0) (omega (arith, z .due, leb-true (dueAt places i) t (p .1))) (omega (arith, z .left, z .some)),
       )
 
   -- a late job is that of a late task: it is released, for its deadline is after its release
   late-task : (j : ℕ) → j < length js → late ts js t work j ≡ true →
-      (taskOf js j < mostTasks) × (lateTask pending places t (taskOf js j) ≡ true) × (jobAt pending places t (taskOf js j) ≡ j)
+      (taskOf js j < mostTasks) × (lateTask pending places t (taskOf js j) ≡ true) × (heldAt places (taskOf js j) ≡ j)
   unfolding late
   late-task j l e =
       let p = fits-true (deadline ts js j) t 1 (getD work j 0) e in
       let i : ℕ = taskOf js j in
       let due : 1 ≤ (taskAt ts i) .D = tasks .rules i (legal .known j l) .due in
       let low : i < mostTasks = omega (arith, legal .known j l, tasks .few) in
-      let a : j < next = elim (decLt j (next)) [ yes a ↦ a | no a ↦ absurd (omega (arith, sp .later j (omega arith) l, p .0)) ] in
+      let a : j < next = elim (decLt j next) [ yes a ↦ a | no a ↦ absurd (omega (arith, sp .later j (omega arith) l, p .0)) ] in
       let y = h .held j a (p .1) in
       let z = h .place i low (y .0) in
-      let d : deadline ts js (jobAt pending places t i) ≡ deadline ts js j = ap (deadline ts js) (y .1) in
+      let d : deadline ts js (heldAt places i) ≡ deadline ts js j = ap (deadline ts js) (y .1) in
       (low, both-and {a = mem pending i} (y .0) (le-leb (dueAt places i) t (omega (arith, z .due, d, p .0))), y .1)
 
   found : Found pending places t mostTasks (lateTo pending places t mostTasks)

@@ -111,7 +111,7 @@ module _ (ts : List Task) (js : List Job) (tasks : Tasks ts) (legal : Jobs ts js
 
   -- ---- releasing the jobs of tick k
 
-  -- the state w after that
+  -- v is w after that
   pub record Fed (k : ℕ) (w v : Whole) : Type 0 where
     pub holds : Holds ts js work (v .state .pending) (v .state .next) (v .places)
     pub soon : Sound (v .state .pending) (v .places) (v .state .soon)

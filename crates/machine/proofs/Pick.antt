@@ -19,7 +19,7 @@ use Rattle.theory.specs.Numbers.{below-suc, fits-true, true-fits, first-passes}
 use Rattle.jobs.specs.Legal.{Tasks, Jobs}
 use Rattle.machine.specs.Bits.{mem, betterOf, pickTo}
 use Rattle.machine.specs.Places.{dueAt, heldAt, soonestOf}
-use Rattle.machine.specs.Rule.{rule}
+use Rattle.machine.specs.Rule.{rule, choice}
 use Rattle.machine.specs.Relation.{Holds, Sound, Split}
 
 -- ---- the first in an order, where none passes the test, and where one that passes goes before every other
@@ -121,7 +121,7 @@ Chosen before js k work pending places i =
 -- the code's choice is that of the rule, once the jobs of a tick are released
 abbrev pub Follows : (ℕ → ℕ → Bool) → List Task → List Job → Type 0
 Follows before ts js = (k : ℕ) (work : List ℕ) (pend next : ℕ) (places : List ℕ) → Split js (k + 1) (k + 1) next → Holds ts js work pend next places →
-    Chosen before js k work pend places (pickTo (mem pend) (dueAt places) mostTasks)
+    Chosen before js k work pend places (choice pend places)
 
 module _ (ts : List Task) (js : List Job) where
   -- the lesser by deadline and then task goes before the other, and not the other way round
@@ -153,10 +153,10 @@ module _ (ts : List Task) (js : List Job) where
     held-pending j a q = true-fits (releaseOf js j) k 1 (getD work j 0) (omega (arith, sp .early j a)) q
 
     module _ (places : List ℕ) (tasks : Tasks ts) (legal : Jobs ts js) (h : Holds ts js work pend next places) where
-      chosen-is : Chosen (rule ts js) js k work pend places (pickTo (mem pend) (dueAt places) mostTasks)
-      chosen-is = go (pickTo (mem pend) (dueAt places) mostTasks) (picked (mem pend) (dueAt places) mostTasks (omega arith))
+      chosen-is : Chosen (rule ts js) js k work pend places (choice pend places)
+      chosen-is = go (choice pend places) (picked (mem pend) (dueAt places) mostTasks (omega arith))
         where
-          -- the task of a pending job
+          -- the task of a job
           low : (j : ℕ) → j < length js → taskOf js j < mostTasks
           low j a = omega (arith, legal .known j a, tasks .few)
 

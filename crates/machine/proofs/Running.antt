@@ -222,7 +222,7 @@ module _ (σ : ℕ → Bool) (before : ℕ → ℕ → Bool) (ts : List Task) (j
     -- ---- it is over; b is the buffer that was lent, d the cleared one
 
     module _ (over : s .end ≤ s .instant) (b : List ℕ) (cleared : Kept zeros (length js) b d) where
-      -- the whole buffer, where the run ends at instant k
+      -- the whole buffer, at the state's instant
       buffer : c ≡ written (listed (count σ before js (s .instant)) (length js)) b
       buffer =
           kept-written (count σ before js (s .instant)) (length js) b c (omega (arith, cleared .same, begins .room))

@@ -13,10 +13,9 @@ use Rattle.scope.specs.Jobs.{Job}
 use Rattle.machine.specs.declared.state.RunState.{RunState}
 use Rattle.machine.specs.Places.{allPlaces, servedAt, endedAt}
 use Rattle.machine.specs.State.{Whole, whole, releaseAt, countedOf, goesToOf, workedOf, testedOf, tickOf}
-use Rattle.machine.specs.Rule.{rule}
 use Rattle.machine.specs.Relation.{noted, Noting, Ready, Ticked}
 use Rattle.machine.proofs.PlaceLaws.{served-idle, served-length, ended-idle}
-use Rattle.machine.proofs.Pick.{chosen-follows}
+use Rattle.machine.proofs.Pick.{Follows}
 use Rattle.machine.proofs.Ticking.{fed-holds}
 use Rattle.machine.proofs.Running.{can-note}
 
@@ -42,11 +41,11 @@ pub halved : (σ : ℕ → Bool) (ts : List Task) (js : List Job) (s : RunState)
     whole f p₁ ≡ releaseAt ts js (whole s p) → k ≡ countedOf f → on ≡ σ (s .instant) → i ≡ goesToOf on (f .pending) p₁ → Half σ ts js s p f p₁ k i
 halved σ ts js s p f p₁ k i on er ek eo ei = record { released = er; counted = ek; goes = ei ∙ ap (λ (b : Bool). goesToOf b (f .pending) p₁) eo }
 
-module _ (σ : ℕ → Bool) (ts : List Task) (js : List Job) (s : RunState) (p c : List ℕ) (ready : Ready σ (rule ts js) ts js s p c) where
+module _ (σ : ℕ → Bool) (before : ℕ → ℕ → Bool) (ts : List Task) (js : List Job) (s : RunState) (p c : List ℕ) (ready : Ready σ before ts js s p c) where
   -- what is released keeps its relation, so that the places are as many, and the instant is the same
   pub still-all : (f : RunState) (p₁ : List ℕ) → whole f p₁ ≡ releaseAt ts js (whole s p) → (length p₁ ≡ allPlaces) × (f .instant ≡ s .instant)
   still-all f p₁ e =
-      let y = fed-holds ts js (ready .tasks) (ready .jobs) σ (rule ts js) s p (ready .at) (ready .ontime) in
+      let y = fed-holds ts js (ready .tasks) (ready .jobs) σ before s p (ready .at) (ready .ontime) in
       (ap (λ (w : Whole). length (w .places)) e ∙ y .0, ap (λ (w : Whole). w .state .instant) e ∙ y .1)
 
   module _ (f : RunState) (p₁ : List ℕ) (k : RunState) (i : ℕ) (half : Half σ ts js s p f p₁ k i) where
@@ -73,19 +72,18 @@ module _ (σ : ℕ → Bool) (ts : List Task) (js : List Job) (s : RunState) (p 
             let e₁ : p₁ ≡ (releaseAt ts js (whole s p)) .places = ap (λ (x : Whole). x .places) (half .released) in
             rw (ew, ep, ed, half .goes, half .counted, ef, e₁)
 
-        done-is : done ≡ (tickOf σ ts js (whole s p)) .state .done
-        done-is = sym (ap (λ (x : RunState). x .done) ew) ∙ sym (tested-keeps p₂ w .1) ∙ ap (λ (x : Whole). x .state .done) moved
+        done-is : w .done ≡ (tickOf σ ts js (whole s p)) .state .done
+        done-is = sym (tested-keeps p₂ w .1) ∙ ap (λ (x : Whole). x .state .done) moved
 
-        pub may-note : done < mostJobs → Noting js (w .instant) done c
-        may-note l =
+        pub may-note : Follows before ts js → w .done < mostJobs → Noting js (w .instant) (w .done) c
+        may-note follows l =
             let n : w .instant ≡ s .instant + 1 = omega (arith, ap (λ (x : RunState). x .instant) ew, at-instant) in
-            let follows = chosen-follows ts js (ready .tasks) (ready .jobs) in
             rw (n, done-is)
-            (can-note σ (rule ts js) ts js (ready .tasks) (ready .jobs) follows s p (ready .at) (ready .ontime) c (ready .room) (omega (arith, done-is)))
+            (can-note σ before ts js (ready .tasks) (ready .jobs) follows s p (ready .at) (ready .ontime) c (ready .room) (omega (arith, done-is)))
 
-        pub step-is : (r : RunState) (c′ : List ℕ) → r ≡ testedOf p₂ w → c′ ≡ noted js (w .instant) done c → Ticked σ ts js s p c r p₂ c′
+        pub step-is : (r : RunState) (c′ : List ℕ) → r ≡ testedOf p₂ w → c′ ≡ noted js (w .instant) (w .done) c → Ticked σ ts js s p c r p₂ c′
         step-is r c′ er ec =
             let keeps = tested-keeps p₂ w in
             let at : r .instant ≡ w .instant = ap (λ (x : RunState). x .instant) er ∙ keeps .0 in
-            let end : r .done ≡ done = ap (λ (x : RunState). x .done) er ∙ keeps .1 ∙ ap (λ (x : RunState). x .done) ew in
+            let end : r .done ≡ w .done = ap (λ (x : RunState). x .done) er ∙ keeps .1 in
             record { moved = ap (λ (x : RunState). whole x p₂) er ∙ moved; counted = rw (at, end) ec }

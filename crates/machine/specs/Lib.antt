@@ -1,7 +1,7 @@
 pub mod Bits
 pub mod Places
-pub mod State
 pub mod Rule
+pub mod State
 pub mod Relation
 pub mod Told
 pub mod Determined

@@ -7,8 +7,9 @@ use lib.ListN.{length}
 use Rattle.scope.specs.Limits.{mostTasks, mostNumber}
 use Rattle.scope.specs.Tasks.{Task, taskAt}
 use Rattle.scope.specs.Jobs.{Job, jobAt, releaseOf}
-use Rattle.machine.specs.Bits.{mem, added, removed, members, noTask, pickTo}
-use Rattle.machine.specs.Places.{noJob, dueAt, putAt, servedAt, endedAt, soonestOf, lateTo}
+use Rattle.machine.specs.Bits.{added, removed, members, noTask}
+use Rattle.machine.specs.Places.{noJob, putAt, servedAt, endedAt, soonestOf, lateTo}
+use Rattle.machine.specs.Rule.{choice}
 use Rattle.machine.specs.declared.state.RunState.{RunState}
 
 -- the state with the places of the tasks
@@ -63,9 +64,9 @@ countedOf s = record {
   done = s .done;
 }
 
--- the task that a tick goes to: the pending one with the earliest deadline, ties to the lower, if the tick is supplied; or none
+-- the task that a tick goes to: the one that is chosen, if the tick is supplied; or none
 unfoldable pub goesToOf : Bool → ℕ → List ℕ → ℕ
-goesToOf on pending places = cond on (pickTo (mem pending) (dueAt places) mostTasks) noTask
+goesToOf on pending places = cond on (choice pending places) noTask
 
 -- the tick is done; it went to task i, whose job `done` ended, if it is a job
 abbrev pub workedOf : ℕ → ℕ → RunState → RunState

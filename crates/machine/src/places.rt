@@ -17,7 +17,7 @@ pub(crate) fn put(places: &mut [u32], i: u32, work: u32, due: u32, job: u32)
     places[x + 2] = job;
 }
 
-// The job of task i, if i is a task, gets one tick of work; the job, if that was its last.
+// The job of task i, if i is a task, gets one tick of work. Answers the job if that was its last, else no job.
 pub(crate) fn serve(places: &mut [u32], i: u32) -> u32
     requires { ⌜ length (now places) ≡ allPlaces ⌝ }
     ensures answer { λ r. ⌜ r ≡ endedAt i (now (places .entry)) ⌝ }

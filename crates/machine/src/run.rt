@@ -80,7 +80,7 @@ fn run_legal(
     Ran::Met { backlog: s.backlog }
 }
 
-// The checks of a run: 1 2 3 4 5 10 11 8, where `room` is how many counts can be lent.
+// The checks of a run: 1 2 3 4 5 10 11 8, where `room` is how many counts the lent buffer has room for.
 fn check_run(
     board: Board,
     windows: &[u32],

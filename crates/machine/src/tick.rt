@@ -97,7 +97,7 @@ fn step(
     let i = goes_to(on, Pending { bits: fed.pending }, places);
     let done = serve(places, i);
     let worked = counted.worked(i, done);
-    note(jobs, worked.instant, done, counts);
+    note(jobs, worked.instant, worked.done, counts);
     worked.tested(places)
 }
 

@@ -8,7 +8,7 @@ use Rattle.scope.specs.Numbers.{written}
 use Rattle.scope.specs.Answers.{roomFault}
 use Rattle.scope.specs.Plan.{planAnswer}
 use Rattle.scope.specs.Line.{bytes, line, lineAnswer, lineOut}
-use Rattle.scope.specs.Examples.{Reply.text, reply, table, examples}
+use Rattle.scope.specs.Examples.{Reply.text, reply, table, examples, row}
 use Rattle.theory.specs.Applied.{w6-file}
 use Rattle.tables.specs.declared.answer.Verdict.{Verdict}
 use Rattle.tables.specs.declared.answer.Amount.{Amount}
@@ -22,7 +22,7 @@ printed = bytes "MISS length 6 start 2 demand 3 supply 2\n"
 -- a row of the table
 w6-line : line (planAnswer w6-file) ≡ printed
 unfolding reply table
-w6-line = let e : text (line (planAnswer w6-file)) ≡ text printed = examples .1 .1 .1 .1 .1 .1 .0 in cc
+w6-line = let e : text (line (planAnswer w6-file)) ≡ text printed = row table examples "W6, its line" in cc
 
 pub w6-printed : (v : Verdict) → toldVerdict v ≡ planAnswer w6-file → (out left : List ℕ) (r : Amount) → 40 ≤ length out →
     toldAmount r ≡ lineAnswer (toldVerdict v) (length out) → left ≡ lineOut (toldVerdict v) out →

@@ -12,11 +12,13 @@ use Rattle.scope.specs.Machine.{pending, tick, workLeft}
 use Rattle.scope.specs.Run.{late, outcome, backlogIn, backlog, countOf, ran, counts}
 use Rattle.scope.specs.Answers.{windowListFault, frameFault, windowFault, tableFault, lengthFault, roomFault, criticalFault, taskListFault, taskFault}
 use Rattle.scope.specs.Answers.{groupFault, cycleFault, absentFault, jobListFault, jobFault, runFault, boardAnswer, windowAnswer, taskAnswer}
-use Rattle.scope.specs.Answers.{lengthAnswer, runTicksAnswer, leastSupplyAnswer, criticalAnswer, criticalOut, delayAnswer, outageAnswer, demandAnswer}
+use Rattle.scope.specs.Answers.{suppliedAnswer, lengthAnswer, runTicksAnswer, leastSupplyAnswer, criticalAnswer, criticalOut, delayAnswer, outageAnswer}
+use Rattle.scope.specs.Answers.{demandAnswer}
 use Rattle.scope.specs.Answers.{marginAnswer, verdictAnswer, boundAnswer, runAnswer, runOut}
 use Rattle.scope.specs.Plan.{groups, wellFormed, readNumber, readNumbers, restFault, countedFrom, listsFrom, planFrom, planOf, planAnswer}
 use Rattle.scope.specs.Plan.{numberBytesWithin, numberBytes, numbersBytes, planBytes, writeFault, writeAnswer, writeOut}
 use Rattle.scope.specs.Line.{decimalWithin, decimal, line, lineAnswer, lineOut}
+use Rattle.scope.specs.Demands.{dueWithin, fullJobsIn, fullJobs, givenTo}
 
 unfoldable pub numbers·compute : Unit {0}
 unfolding sum least greatest all firstBy listed keep piecesFrom pieces badCount written
@@ -51,7 +53,7 @@ unfolding boardAnswer windowAnswer taskAnswer lengthAnswer runTicksAnswer
 constructors·compute = tt
 
 unfoldable pub tableAnswers·compute : Unit {0}
-unfolding leastSupplyAnswer criticalAnswer criticalOut delayAnswer outageAnswer
+unfolding suppliedAnswer leastSupplyAnswer criticalAnswer criticalOut delayAnswer outageAnswer
 tableAnswers·compute = tt
 
 unfoldable pub groupAnswers·compute : Unit {0}
@@ -66,6 +68,10 @@ unfoldable pub writing·compute : Unit {0}
 unfolding numberBytesWithin numberBytes numbersBytes planBytes writeFault writeAnswer writeOut decimalWithin decimal line lineAnswer lineOut
 writing·compute = tt
 
+unfoldable pub demands·compute : Unit {0}
+unfolding dueWithin fullJobsIn fullJobs givenTo
+demands·compute = tt
+
 unfoldable pub amounts·compute : Unit {0}
 unfolding numbers·compute tables·compute partitions·compute tests·compute runs·compute
 amounts·compute = tt
@@ -75,5 +81,5 @@ unfolding tableFaults·compute groupFaults·compute constructors·compute tableA
 answers·compute = tt
 
 unfoldable pub everything : Unit {0}
-unfolding amounts·compute answers·compute reading·compute writing·compute
+unfolding amounts·compute answers·compute reading·compute writing·compute demands·compute
 everything = tt

@@ -67,7 +67,7 @@ pub fn least_of(board: Board, windows: &[u32], length: u32) -> u32
     length / frame * whole + rest
 }
 
-// Whether tick k is supplied. Refusals 1 2 3.
+// Whether a tick is supplied. Refusals 1 2 3.
 pub fn supplied(board: Board, windows: &[u32], tick: u32) -> Supplied
     ensures { λ r. ⌜ toldSupplied r ≡ suppliedAnswer (boardOf board) (now (windows .entry)) tick ⌝ }
 {

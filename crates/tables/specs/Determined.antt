@@ -20,11 +20,13 @@ use Rattle.tables.specs.declared.answer.Margin as margin
 use Rattle.tables.specs.declared.answer.Verdict as verdict
 use Rattle.tables.specs.declared.answer.Bound as bound
 use Rattle.tables.specs.declared.board.MadeBoard as madeBoard
+use Rattle.tables.specs.declared.window.Window as window
 use Rattle.tables.specs.declared.window.MadeWindow as madeWindow
+use Rattle.tables.specs.declared.task.Task as task
 use Rattle.tables.specs.declared.task.MadeTask as madeTask
 use Rattle.tables.specs.declared.length.MadeLength as madeLength
 use Rattle.tables.specs.Told.{number, place, faultOf, toldSupplied, toldAmount, toldDelay, toldMargin, toldVerdict, toldBound, toldBoard, toldWindow}
-use Rattle.tables.specs.Told.{toldTask, toldLength}
+use Rattle.tables.specs.Told.{toldTask, toldLength, windowOf, taskOf}
 
 -- what can be undone tells all cases apart
 pub undone : {A B : Type 0} (f : A → B) (g : B → A) → ((a : A) → g (f a) ≡ a) → (a b : A) → f a ≡ f b → a ≡ b
@@ -131,6 +133,14 @@ bound-determined = undone toldBound (made boundFrom bound.the-variants.Refused) 
     back (bound.the-variants.Of t) = refl
     back bound.the-variants.NoBound = refl
     back (bound.the-variants.Refused r) = ap bound.the-variants.Refused (refusal-back r)
+
+-- ---- structs
+
+pub window-determined : (a b : window.Window) → windowOf a ≡ windowOf b → a ≡ b
+window-determined = undone windowOf (λ w. record { start = w .start; end = w .end }) (λ a. refl)
+
+pub task-determined : (a b : task.Task) → taskOf a ≡ taskOf b → a ≡ b
+task-determined = undone taskOf (λ x. record { work = x .C; period = x .T; deadline = x .D }) (λ a. refl)
 
 -- ---- constructors' answers
 

@@ -141,7 +141,7 @@ w4-way : Way
 w4-way k = some (record { task = 0; turn = k - 5 })
 
 w4-served : Served (suppliedBy (on 8) X) (tasksOf (1 ∷ 4 ∷ 4 ∷ [])) w4-way 2 8
-unfolding everything givenTo w4-way
+unfolding everything w4-way
 w4-served zero zero l d = omega arith
 w4-served zero (suc zero) l d = omega arith
 w4-served zero (suc (suc m)) l d = absurd (omega arith)

@@ -77,5 +77,5 @@ not-each-release claim =
 -- a miss starves not every job, but some: of W6 the first job of task 0 can well be served
 pub not-every-job : ((b : Board) (ws ts : List ℕ) (t s d p : ℕ) → verdictAnswer b ws ts ≡ given (miss t s d p) →
     (w : Way) (i m : ℕ) → i < length (tasksOf ts) → (taskAt (tasksOf ts) i) .C ≤ givenTo (suppliedBy b ws) w i m s t → ⊥) → ⊥
-unfolding everything givenTo
+unfolding everything
 not-every-job claim = claim (on 8) X w6 6 2 3 2 w6-misses (λ k. some (record { task = 0; turn = 0 })) 0 0 (omega arith) (omega arith)

@@ -1,5 +1,6 @@
 use mathlib.Core.Path.{sym, _∙_}
 use borrow.Author.Needs.{needs}
+use Rattle.machine.proofs.Pick.{chosen-follows}
 use Rattle.machine.proofs.Stepping.{halved, still-all, can-work, all-served, may-note, step-is}
 use Rattle.machine.proofs.tick.step.Statement.{statement}
 use Rattle.machine.proofs.tick.step.Tie as tie
@@ -28,41 +29,58 @@ is-on-requires c κs = search needs
 
 goes-to-requires : tie.Need-goes-to-requires
 goes-to-requires c κs =
-    still-all _ _ _ _ _ _ (c .before .before .before .before .before .before .before .before .before .before .before .before .before .pre) _ _
+    still-all _ _ _ _ _ _ _ (c .before .before .before .before .before .before .before .before .before .before .before .before .before .pre) _ _
     (c .before .before .before .before .before .before .release .ensures) .0
 
 serve-requires : tie.Need-serve-requires
 serve-requires c κs =
-    still-all _ _ _ _ _ _ (c .before .before .before .before .before .before .before .before .before .before .before .before .before .before .before .pre) _ _
+    still-all _ _ _ _ _ _ _ (c .before .before .before .before .before .before .before .before .before .before .before .before .before .before .before .pre) _ _
     (c .before .before .before .before .before .before .before .before .release .ensures) .0
 
 worked-requires : tie.Need-worked-requires
 worked-requires c κs =
     let g = c .before .before .before .before in
-    let half = halved _ _ _ _ _ _ _ _ _ _ (g .before .before .before .before .before .before .before .release .ensures) (g .before .before .before .before .counted .ensures) (g .before .before .is-on .ensures) (g .goes-to .ensures) in
+    let k = g .before .before .before .before in
+    let r = k .before .before .before in
+    let half =
+    halved _ _ _ _ _ _ _ _ _ _ (r .release .ensures) (k .counted .ensures) (g .before .before .is-on .ensures) (g .goes-to .ensures) in
     let e = c .before .before .serve .ensures in
-    can-work _ _ _ _ _ _ (g .before .before .before .before .before .before .before .before .before .before .before .before .before .before .pre) _ _ _ _ half _ _ (e .0) (e .1)
+    let ready = r .before .before .before .before .before .before .before .pre in
+    can-work _ _ _ _ _ _ _ ready _ _ _ _ half _ _ (e .0) (e .1)
 
 note-requires : tie.Need-note-requires
 note-requires c κs =
     let g = c .before .before .before .before .before .before in
-    let half = halved _ _ _ _ _ _ _ _ _ _ (g .before .before .before .before .before .before .before .release .ensures) (g .before .before .before .before .counted .ensures) (g .before .before .is-on .ensures) (g .goes-to .ensures) in
+    let k = g .before .before .before .before in
+    let r = k .before .before .before in
+    let half =
+    halved _ _ _ _ _ _ _ _ _ _ (r .release .ensures) (k .counted .ensures) (g .before .before .is-on .ensures) (g .goes-to .ensures) in
     let e = c .before .before .before .before .serve .ensures in
-    may-note _ _ _ _ _ _ (g .before .before .before .before .before .before .before .before .before .before .before .before .before .before .pre) _ _ _ _ half _ _ (e .0) (e .1) _ (c .before .worked .ensures)
+    let ready = r .before .before .before .before .before .before .before .pre in
+    may-note _ _ _ _ _ _ _ ready _ _ _ _ half _ _ (e .0) (e .1) _ (c .before .worked .ensures)
+    (chosen-follows _ _ (ready .tasks) (ready .jobs))
 
 tested-requires : tie.Need-tested-requires
 tested-requires c κs =
     let g = c .before .before .before .before .before .before .before .before .before .before in
-    let half = halved _ _ _ _ _ _ _ _ _ _ (g .before .before .before .before .before .before .before .release .ensures) (g .before .before .before .before .counted .ensures) (g .before .before .is-on .ensures) (g .goes-to .ensures) in
+    let k = g .before .before .before .before in
+    let r = k .before .before .before in
+    let half =
+    halved _ _ _ _ _ _ _ _ _ _ (r .release .ensures) (k .counted .ensures) (g .before .before .is-on .ensures) (g .goes-to .ensures) in
     let e = c .before .before .before .before .before .before .before .before .serve .ensures in
-    all-served _ _ _ _ _ _ (g .before .before .before .before .before .before .before .before .before .before .before .before .before .before .pre) _ _ _ _ half _ _ (e .0) (e .1)
+    let ready = r .before .before .before .before .before .before .before .pre in
+    all-served _ _ _ _ _ _ _ ready _ _ _ _ half _ _ (e .0) (e .1)
 
 same-length : tie.Need-same-length
 same-length c =
     let g = c .before .before .before .before .before .before .before .before .before .before .before in
-    let half = halved _ _ _ _ _ _ _ _ _ _ (g .before .before .before .before .before .before .before .release .ensures) (g .before .before .before .before .counted .ensures) (g .before .before .is-on .ensures) (g .goes-to .ensures) in
+    let k = g .before .before .before .before in
+    let r = k .before .before .before in
+    let half =
+    halved _ _ _ _ _ _ _ _ _ _ (r .release .ensures) (k .counted .ensures) (g .before .before .is-on .ensures) (g .goes-to .ensures) in
     let e = c .before .before .before .before .before .before .before .before .before .serve .ensures in
-    all-served _ _ _ _ _ _ (g .before .before .before .before .before .before .before .before .before .before .before .before .before .before .pre) _ _ _ _ half _ _ (e .0) (e .1) ∙ sym (g .before .before .before .before .before .before .before .before .before .before .before .before .before .before .pre .at .holds .size)
+    let ready = r .before .before .before .before .before .before .before .pre in
+    all-served _ _ _ _ _ _ _ ready _ _ _ _ half _ _ (e .0) (e .1) ∙ sym (ready .at .holds .size)
 
 same-length-2 : tie.Need-same-length-2
 same-length-2 c = search needs
@@ -70,9 +88,14 @@ same-length-2 c = search needs
 returns : tie.Need-returns
 returns c =
     let g = c .before .before .before .before .before .before .before .before .before .before .before in
-    let half = halved _ _ _ _ _ _ _ _ _ _ (g .before .before .before .before .before .before .before .release .ensures) (g .before .before .before .before .counted .ensures) (g .before .before .is-on .ensures) (g .goes-to .ensures) in
+    let k = g .before .before .before .before in
+    let r = k .before .before .before in
+    let half =
+    halved _ _ _ _ _ _ _ _ _ _ (r .release .ensures) (k .counted .ensures) (g .before .before .is-on .ensures) (g .goes-to .ensures) in
     let e = c .before .before .before .before .before .before .before .before .before .serve .ensures in
-    step-is _ _ _ _ _ _ (g .before .before .before .before .before .before .before .before .before .before .before .before .before .before .pre) _ _ _ _ half _ _ (e .0) (e .1) _ (c .before .before .before .before .before .before .worked .ensures) _ _ (c .tested .ensures) (c .before .before .before .before .note .ensures)
+    let ready = r .before .before .before .before .before .before .before .pre in
+    step-is _ _ _ _ _ _ _ ready _ _ _ _ half _ _ (e .0) (e .1)
+    _ (c .before .before .before .before .before .before .worked .ensures) _ _ (c .tested .ensures) (c .before .before .before .before .note .ensures)
 
 pub step-spec : {M : Type 1} → statement M
 step-spec =
