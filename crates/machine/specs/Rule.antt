@@ -1,5 +1,5 @@
--- The rule of the machine, earliest deadline first, and the code's choice by it. Both enter here: the relation and its laws are over any rule, what a tick does names the
--- choice, and that the choice follows the rule is one law, `chosen-follows` (proofs/Pick).
+-- The rule of the machine, earliest deadline first, and the code's choice by it. Both enter here: the relation and its laws are over any rule, what a tick
+-- does names the choice, and that the choice follows the rule is one law, `chosen-follows` (proofs/Pick).
 use mathlib.Core.Bool.{Bool}
 use mathlib.Core.List.{List}
 use Prim.Native.Nat.{ℕ}
