@@ -196,22 +196,16 @@ table =
     ∷ ("4 as soon as it is read" asks lineOf (0 ∷ 1 ∷ 0 ∷ 2 ∷ 33 ∷ []) gives text (bytes "REFUSED 4 at 0\n"))
     ∷ []
 
-infixr 2 _&_
-abbrev _&_ : {A B : Type 0} → A → B → A × B
-a & b = (a, b)
-
 -- every row's question gets its expected reply
 abbrev pub Hold : List Example → Type 0
 Hold [] = Unit {0}
 Hold (e ∷ rows) = (reply (e .question) ≡ e .expected) × Hold rows
 
+-- one tuple in another, so that a refused row is named by its own message; `rt fmt` would lay a broken line out one bracket a line
 pub examples : Hold table
 unfolding everything reply table
 examples =
-    refl & refl & refl & refl & refl & refl & refl & refl & refl & refl & refl & refl & refl & refl & refl & refl & refl & refl & refl & refl &
-    refl & refl & refl & refl & refl & refl & refl & refl & refl & refl & refl & refl & refl & refl & refl & refl & refl & refl & refl & refl &
-    refl & refl & refl & refl & refl & refl & refl & refl & refl & refl & refl & refl & refl & refl & refl & refl & refl & refl & refl & refl &
-    refl & refl & refl & refl & refl & refl & refl & refl & refl & refl & refl & refl & refl & tt
+    (refl, (refl, (refl, (refl, (refl, (refl, (refl, (refl, (refl, (refl, (refl, (refl, (refl, (refl, (refl, (refl, (refl, (refl, (refl, (refl, (refl, (refl, (refl, (refl, (refl, (refl, (refl, (refl, (refl, (refl, (refl, (refl, (refl, (refl, (refl, (refl, (refl, (refl, (refl, (refl, (refl, (refl, (refl, (refl, (refl, (refl, (refl, (refl, (refl, (refl, (refl, (refl, (refl, (refl, (refl, (refl, (refl, (refl, (refl, (refl, (refl, (refl, (refl, (refl, (refl, (refl, (refl, (refl, (refl, (refl, (refl, (refl, (refl, tt)))))))))))))))))))))))))))))))))))))))))))))))))))))))))))))))))))))))))
 
 -- ---- a row by its name
 
