@@ -8,7 +8,8 @@ use tables::board::Board;
 use tables::task::Task;
 use tables::window::check_table;
 ghost use mathlib.Core.Path.{_≡_};
-ghost use Prim.Native.Nat.{_≤_};
+ghost use Prim.Native.Nat.{ℕ, _≤_};
+ghost use mathlib.Core.Bool.{Bool};
 ghost use lib.ListN.{length};
 ghost use Rattle.scope.specs.Numbers.{written};
 ghost use Rattle.scope.specs.Limits.{mostTicks};
@@ -48,7 +49,7 @@ fn clear(counts: &mut [u32], m: usize)
     }
 }
 
-// The run of legal lists: the buffer is cleared, the state is advanced to the run's end, and a job that is late there is the miss.
+// The run of legal lists under a rule `before`, which is tied to the machine's once: the buffer is cleared, the state is advanced to the run's end, and a job that is late there is the miss.
 fn run_legal(
     board: Board,
     windows: &[u32],
@@ -57,13 +58,14 @@ fn run_legal(
     jobs: &[u32],
     counts: &mut [u32],
 ) -> Ran
-    requires { ⌜ Tasks (tasksOf (now tasks)) × Jobs (tasksOf (now tasks)) (jobsOf (now jobs)) × (n ≤ mostTicks)
+    ghost { ℕ → ℕ → Bool }
+    requires { λ before. ⌜ rule (tasksOf (now tasks)) (jobsOf (now jobs)) ≡ before ⌝ }
+    requires { λ before. ⌜ Tasks (tasksOf (now tasks)) × Jobs (tasksOf (now tasks)) (jobsOf (now jobs)) × (n ≤ mostTicks)
         × (length (jobsOf (now jobs)) ≤ length (now counts)) ⌝ }
-    ensures answer { λ r. ⌜ toldRan r ≡ given (ran (suppliedBy (boardOf board) (now (windows .entry)))
-        (rule (tasksOf (now (tasks .entry))) (jobsOf (now (jobs .entry)))) (tasksOf (now (tasks .entry))) (jobsOf (now (jobs .entry))) n) ⌝ }
-    ensures buffer { λ _. ⌜ now (counts .exit) ≡ written (countsBy (suppliedBy (boardOf board) (now (windows .entry)))
-        (rule (tasksOf (now (tasks .entry))) (jobsOf (now (jobs .entry)))) (tasksOf (now (tasks .entry))) (jobsOf (now (jobs .entry))) n)
-        (now (counts .entry)) ⌝ }
+    ensures answer { λ before r. ⌜ toldRan r ≡ given (ran (suppliedBy (boardOf board) (now (windows .entry)))
+        before (tasksOf (now (tasks .entry))) (jobsOf (now (jobs .entry))) n) ⌝ }
+    ensures buffer { λ before _. ⌜ now (counts .exit) ≡ written (countsBy (suppliedBy (boardOf board) (now (windows .entry)))
+        before (tasksOf (now (tasks .entry))) (jobsOf (now (jobs .entry))) n) (now (counts .entry)) ⌝ }
 {
     let count = jobs.len() / 3;
     clear(counts, count);
