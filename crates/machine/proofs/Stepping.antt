@@ -31,59 +31,67 @@ tested-keeps p s = go (ltb (s .instant) (s .soon)) _ refl refl
 served-size : (i : ℕ) (p : List ℕ) → length (servedAt i p) ≡ length p
 served-size i p = elim (decLt i mostTasks) [ yes l ↦ served-length p i l | no l ↦ ap length (served-idle p i (omega arith)) ]
 
--- f and p₁ are the state and the places once the jobs are released, k the state once the backlog is counted; the tick goes to task i
-pub record Half (σ : ℕ → Bool) (ts : List Task) (js : List Job) (s : RunState) (p : List ℕ) (f : RunState) (p₁ : List ℕ) (k : RunState) (i : ℕ) : Type 0 where
-  pub released : whole f p₁ ≡ releaseAt ts js (whole s p)
-  pub counted : k ≡ countedOf f
-  pub goes : i ≡ goesToOf (σ (s .instant)) (f .pending) p₁
+-- what is known once the tick is given out: the state and the places once the jobs are released, the state once the backlog is counted, whether
+-- the tick is supplied and the task that it goes to, the job that ended, and the places then
+pub record GivenOut (σ : ℕ → Bool) (before : ℕ → ℕ → Bool) (ts : List Task) (js : List Job) (s : RunState) (p c : List ℕ) : Type 0 where
+  pub ready : Ready σ before ts js s p c
+  pub fed : RunState
+  pub fedPlaces : List ℕ
+  pub counted : RunState
+  pub on : Bool
+  pub task : ℕ
+  pub done : ℕ
+  pub places : List ℕ
+  pub released : whole fed fedPlaces ≡ releaseAt ts js (whole s p)
+  pub backlog : counted ≡ countedOf fed
+  pub supplied : on ≡ σ (s .instant)
+  pub goes : task ≡ goesToOf on (fed .pending) fedPlaces
+  pub ended : done ≡ endedAt task fedPlaces
+  pub served : places ≡ servedAt task fedPlaces
 
-pub halved : (σ : ℕ → Bool) (ts : List Task) (js : List Job) (s : RunState) (p : List ℕ) (f : RunState) (p₁ : List ℕ) (k : RunState) (i : ℕ) (on : Bool) →
-    whole f p₁ ≡ releaseAt ts js (whole s p) → k ≡ countedOf f → on ≡ σ (s .instant) → i ≡ goesToOf on (f .pending) p₁ → Half σ ts js s p f p₁ k i
-halved σ ts js s p f p₁ k i on er ek eo ei = record { released = er; counted = ek; goes = ei ∙ ap (λ (b : Bool). goesToOf b (f .pending) p₁) eo }
-
-module _ (σ : ℕ → Bool) (before : ℕ → ℕ → Bool) (ts : List Task) (js : List Job) (s : RunState) (p c : List ℕ) (ready : Ready σ before ts js s p c) where
+module _ (σ : ℕ → Bool) (before : ℕ → ℕ → Bool) (ts : List Task) (js : List Job) (s : RunState) (p c : List ℕ) where
   -- what is released keeps its relation, so that the places are as many, and the instant is the same
-  pub still-all : (f : RunState) (p₁ : List ℕ) → whole f p₁ ≡ releaseAt ts js (whole s p) → (length p₁ ≡ allPlaces) × (f .instant ≡ s .instant)
-  still-all f p₁ e =
+  pub still-all : Ready σ before ts js s p c → (f : RunState) (q : List ℕ) → whole f q ≡ releaseAt ts js (whole s p) →
+      (length q ≡ allPlaces) × (f .instant ≡ s .instant)
+  still-all ready f q e =
       let y = fed-holds ts js (ready .tasks) (ready .jobs) σ before s p (ready .at) (ready .ontime) in
       (ap (λ (w : Whole). length (w .places)) e ∙ y .0, ap (λ (w : Whole). w .state .instant) e ∙ y .1)
 
-  module _ (f : RunState) (p₁ : List ℕ) (k : RunState) (i : ℕ) (half : Half σ ts js s p f p₁ k i) where
-    at-instant : k .instant ≡ s .instant
-    at-instant = ap (λ (x : RunState). x .instant) (half .counted) ∙ still-all f p₁ (half .released) .1
+  module _ (x : GivenOut σ before ts js s p c) where
+    at-instant : x .counted .instant ≡ s .instant
+    at-instant = ap (λ (y : RunState). y .instant) (x .backlog) ∙ still-all (x .ready) (x .fed) (x .fedPlaces) (x .released) .1
 
-    -- done is the job that ended, p₂ the places when the tick is done
-    module _ (done : ℕ) (p₂ : List ℕ) (ed : done ≡ endedAt i p₁) (ep : p₂ ≡ servedAt i p₁) where
-      pub can-work : (k .instant + 1 < 2 ^ 32) × (done < mostJobs → i < mostTasks)
-      can-work = (
-        omega (arith, at-instant, ready .few),
-        λ l. elim (decLt i mostTasks) [ yes a ↦ a | no a ↦ absurd (omega (arith, ed, ended-idle p₁ i (omega arith))) ],
-      )
+    pub can-work : (x .counted .instant + 1 < 2 ^ 32) × (x .done < mostJobs → x .task < mostTasks)
+    can-work = (
+      omega (arith, at-instant, x .ready .few),
+      λ l. elim (decLt (x .task) mostTasks) [ yes a ↦ a | no a ↦ absurd (omega (arith, x .ended, ended-idle (x .fedPlaces) (x .task) (omega arith))) ],
+    )
 
-      pub all-served : length p₂ ≡ allPlaces
-      all-served = ap length ep ∙ served-size i p₁ ∙ still-all f p₁ (half .released) .0
+    pub all-served : length (x .places) ≡ allPlaces
+    all-served = ap length (x .served) ∙ served-size (x .task) (x .fedPlaces) ∙ still-all (x .ready) (x .fed) (x .fedPlaces) (x .released) .0
 
-      module _ (w : RunState) (ew : w ≡ workedOf i done k) where
-        -- the state and the places are those of the tick
-        moved : whole (testedOf p₂ w) p₂ ≡ tickOf σ ts js (whole s p)
-        unfolding tickOf
-        moved =
-            let ef : f ≡ (releaseAt ts js (whole s p)) .state = ap (λ (x : Whole). x .state) (half .released) in
-            let e₁ : p₁ ≡ (releaseAt ts js (whole s p)) .places = ap (λ (x : Whole). x .places) (half .released) in
-            rw (ew, ep, ed, half .goes, half .counted, ef, e₁)
+    module _ (w : RunState) (ew : w ≡ workedOf (x .task) (x .done) (x .counted)) where
+      -- the state and the places are those of the tick
+      moved : whole (testedOf (x .places) w) (x .places) ≡ tickOf σ ts js (whole s p)
+      unfolding tickOf
+      moved =
+          let ef : x .fed ≡ (releaseAt ts js (whole s p)) .state = ap (λ (y : Whole). y .state) (x .released) in
+          let eq : x .fedPlaces ≡ (releaseAt ts js (whole s p)) .places = ap (λ (y : Whole). y .places) (x .released) in
+          rw (ew, x .served, x .ended, x .goes, x .supplied, x .backlog, ef, eq)
 
-        done-is : w .done ≡ (tickOf σ ts js (whole s p)) .state .done
-        done-is = sym (tested-keeps p₂ w .1) ∙ ap (λ (x : Whole). x .state .done) moved
+      done-is : w .done ≡ (tickOf σ ts js (whole s p)) .state .done
+      done-is = sym (tested-keeps (x .places) w .1) ∙ ap (λ (y : Whole). y .state .done) moved
 
-        pub may-note : Follows before ts js → w .done < mostJobs → Noting js (w .instant) (w .done) c
-        may-note follows l =
-            let n : w .instant ≡ s .instant + 1 = omega (arith, ap (λ (x : RunState). x .instant) ew, at-instant) in
-            rw (n, done-is)
-            (can-note σ before ts js (ready .tasks) (ready .jobs) follows s p (ready .at) (ready .ontime) c (ready .room) (omega (arith, done-is)))
+      pub may-note : Follows before ts js → w .done < mostJobs → Noting js (w .instant) (w .done) c
+      may-note follows l =
+          let ready = x .ready in
+          let n : w .instant ≡ s .instant + 1 = omega (arith, ap (λ (y : RunState). y .instant) ew, at-instant) in
+          rw (n, done-is)
+          (can-note σ before ts js (ready .tasks) (ready .jobs) follows s p (ready .at) (ready .ontime) c (ready .room) (omega (arith, done-is)))
 
-        pub step-is : (r : RunState) (c′ : List ℕ) → r ≡ testedOf p₂ w → c′ ≡ noted js (w .instant) (w .done) c → Ticked σ ts js s p c r p₂ c′
-        step-is r c′ er ec =
-            let keeps = tested-keeps p₂ w in
-            let at : r .instant ≡ w .instant = ap (λ (x : RunState). x .instant) er ∙ keeps .0 in
-            let end : r .done ≡ w .done = ap (λ (x : RunState). x .done) er ∙ keeps .1 in
-            record { moved = ap (λ (x : RunState). whole x p₂) er ∙ moved; counted = rw (at, end) ec }
+      pub step-is : (r : RunState) (c′ : List ℕ) → r ≡ testedOf (x .places) w → c′ ≡ noted js (w .instant) (w .done) c → Ticked σ ts js s p c r (x .places) c′
+      step-is r c′ er ec =
+          let keeps = tested-keeps (x .places) w in
+          let at : r .instant ≡ w .instant = ap (λ (y : RunState). y .instant) er ∙ keeps .0 in
+          let end : r .done ≡ w .done = ap (λ (y : RunState). y .done) er ∙ keeps .1 in
+          record { moved = ap (λ (y : RunState). whole y (x .places)) er ∙ moved; counted = rw (at, end) ec }

@@ -1,15 +1,11 @@
-use mathlib.Core.Path.{refl, ap, _∙_}
-use Prim.Native.Nat.{ℕ}
+use mathlib.Core.Path.{refl}
 use native.Mathlib.Omega.{arith}
 use lib.ListN.{replicate}
 use borrow.Author.Needs.{needs}
 use Rattle.scope.specs.Jobs.{job}
-use Rattle.scope.specs.Run.{Outcome.missed}
 use Rattle.theory.specs.Lists.{pieces-length}
 use Rattle.machine.specs.Places.{allPlaces}
-use Rattle.machine.specs.Relation.{zeros}
-use Rattle.machine.proofs.Buffer.{kept-all}
-use Rattle.machine.proofs.Running.{answers, begins-run, run-met, run-missed}
+use Rattle.machine.proofs.Running.{begins-run, run-ends}
 use Rattle.machine.proofs.run.run_legal.Statement.{statement}
 use Rattle.machine.proofs.run.run_legal.Tie as tie
 use Rattle.machine.proofs.run.run_legal.Reads as reads
@@ -26,9 +22,9 @@ slice-aggregate-advance : tie.Need-slice-aggregate-advance
 slice-aggregate-advance c = search needs
 
 advance-requires : tie.Need-advance-requires
-advance-requires c κs = begins-run _ _ _ _ _ _ (c .before .before .before .before .before .before .before .before .before .before .pre)
-    (kept-all zeros (c .before .before .before .before .before .before .before .before .before .before .args .jobs .now) _ _
-    (c .before .before .before .before .clear .ensures)) refl
+advance-requires c κs =
+    begins-run _ (c .before .before .before .before .before .before .before .before .before .before .args .jobs .now) _ _ _ _
+    (c .before .before .before .before .before .before .before .before .before .before .pre) (c .before .before .before .before .clear .ensures) refl
 
 slice-aggregate-late : tie.Need-slice-aggregate-late
 slice-aggregate-late c = search needs
@@ -41,31 +37,20 @@ same-length c = search needs
 
 returns : tie.Need-returns
 returns c =
-    let cleared = kept-all zeros
-    (c .before .before .before .before .before .before .before .before .before .before .before .before .before .before .before .before .before .args .jobs .now)
-    _ _ (c .before .before .before .before .before .before .before .before .before .before .before .clear .ensures) in
-    let begins = begins-run _ _ _ _ _ (replicate allPlaces 0)
-    (c .before .before .before .before .before .before .before .before .before .before .before .before .before .before .before .before .before .pre)
-    cleared refl in
-    let s = c .before .before .before .before .before .before .advance .result in
-    let over = c .before .before .before .before .before .before .advance .ensures in
-    let e = c .before .late .ensures in
-    let y = run-missed _ _ _ _ _ _ _ begins _ _ _ (over .going) (over .ended) _ cleared (omega (arith, e, c .if1 .taken)) in
-    (ap (λ (j : ℕ). answers (missed (s .instant) j) (s .backlog)) e ∙ y .0, y .1)
+    let a = c .before .before .before .before .before .before in
+    let z = a .before .before .before .before .before in
+    run-ends _ _ _ (z .before .before .before .before .before .before .args .jobs .now) _ _ _ (replicate allPlaces 0)
+    (z .before .before .before .before .before .before .pre) (z .clear .ensures) refl _ _ _ (a .advance .ensures) _ (c .before .late .ensures) .1 (c .if1 .taken)
 
 same-length-2 : tie.Need-same-length-2
 same-length-2 c = search needs
 
 returns-2 : tie.Need-returns-2
 returns-2 c =
-    let cleared = kept-all zeros
-    (c .before .before .before .before .before .before .before .before .before .before .before .before .before .before .before .before .before .args .jobs .now)
-    _ _ (c .before .before .before .before .before .before .before .before .before .before .before .clear .ensures) in
-    let begins = begins-run _ _ _ _ _ (replicate allPlaces 0)
-    (c .before .before .before .before .before .before .before .before .before .before .before .before .before .before .before .before .before .pre)
-    cleared refl in
-    let over = c .before .before .before .before .before .before .advance .ensures in
-    run-met _ _ _ _ _ _ _ begins _ _ _ (over .going) (over .ended) _ cleared (omega (arith, c .before .late .ensures, c .if1 .left))
+    let a = c .before .before .before .before .before .before in
+    let z = a .before .before .before .before .before in
+    run-ends _ _ _ (z .before .before .before .before .before .before .args .jobs .now) _ _ _ (replicate allPlaces 0)
+    (z .before .before .before .before .before .before .pre) (z .clear .ensures) refl _ _ _ (a .advance .ensures) _ (c .before .late .ensures) .0 (c .if1 .left)
 
 pub run-legal-spec : {M : Type 1} → statement M
 run-legal-spec =

@@ -1,7 +1,12 @@
 use mathlib.Core.Path.{sym, _∙_}
 use borrow.Author.Needs.{needs}
+use Rattle.scope.specs.Windows.{suppliedBy}
+use Rattle.scope.specs.Tasks.{tasksOf}
+use Rattle.scope.specs.Jobs.{jobsOf}
+use Rattle.tables.specs.Told.{boardOf}
+use Rattle.machine.specs.Rule.{rule}
 use Rattle.machine.proofs.Pick.{chosen-follows}
-use Rattle.machine.proofs.Stepping.{halved, still-all, can-work, all-served, may-note, step-is}
+use Rattle.machine.proofs.Stepping.{GivenOut, still-all, can-work, all-served, may-note, step-is}
 use Rattle.machine.proofs.tick.step.Statement.{statement}
 use Rattle.machine.proofs.tick.step.Tie as tie
 use Rattle.machine.proofs.tick.step.Reads as reads
@@ -37,64 +42,51 @@ serve-requires c κs =
     still-all _ _ _ _ _ _ _ (c .before .before .before .before .before .before .before .before .before .before .before .before .before .before .before .pre) _ _
     (c .before .before .before .before .before .before .before .before .release .ensures) .0
 
-worked-requires : tie.Need-worked-requires
-worked-requires c κs =
-    let g = c .before .before .before .before in
+-- what is known once the tick is given out
+abbrev given-out : (c : tie.After-serve) → let a = c .before .before .before .before .before .before .before .before .before .before .before .before .before .before .before .before .args in
+    GivenOut (suppliedBy (boardOf (a .board)) (a .windows .now)) (rule (tasksOf (a .tasks .now)) (jobsOf (a .jobs .now)))
+    (tasksOf (a .tasks .now)) (jobsOf (a .jobs .now)) (a .s) (a .places .now) (a .counts .now)
+given-out c =
+    let g = c .before .before in
     let k = g .before .before .before .before in
     let r = k .before .before .before in
-    let half =
-    halved _ _ _ _ _ _ _ _ _ _ (r .release .ensures) (k .counted .ensures) (g .before .before .is-on .ensures) (g .goes-to .ensures) in
-    let e = c .before .before .serve .ensures in
-    let ready = r .before .before .before .before .before .before .before .pre in
-    can-work _ _ _ _ _ _ _ ready _ _ _ _ half _ _ (e .0) (e .1)
+    record {
+      ready = r .before .before .before .before .before .before .before .pre;
+      fed = _;
+      fedPlaces = _;
+      counted = _;
+      on = _;
+      task = _;
+      done = _;
+      places = _;
+      released = r .release .ensures;
+      backlog = k .counted .ensures;
+      supplied = g .before .before .is-on .ensures;
+      goes = g .goes-to .ensures;
+      ended = c .serve .ensures .0;
+      served = c .serve .ensures .1;
+    }
+
+worked-requires : tie.Need-worked-requires
+worked-requires c κs = can-work _ _ _ _ _ _ _ (given-out (c .before .before))
 
 note-requires : tie.Need-note-requires
 note-requires c κs =
-    let g = c .before .before .before .before .before .before in
-    let k = g .before .before .before .before in
-    let r = k .before .before .before in
-    let half =
-    halved _ _ _ _ _ _ _ _ _ _ (r .release .ensures) (k .counted .ensures) (g .before .before .is-on .ensures) (g .goes-to .ensures) in
-    let e = c .before .before .before .before .serve .ensures in
-    let ready = r .before .before .before .before .before .before .before .pre in
-    may-note _ _ _ _ _ _ _ ready _ _ _ _ half _ _ (e .0) (e .1) _ (c .before .worked .ensures)
-    (chosen-follows _ _ (ready .tasks) (ready .jobs))
+    let x = given-out (c .before .before .before .before) in
+    may-note _ _ _ _ _ _ _ x _ (c .before .worked .ensures) (chosen-follows _ _ (x .ready .tasks) (x .ready .jobs))
 
 tested-requires : tie.Need-tested-requires
-tested-requires c κs =
-    let g = c .before .before .before .before .before .before .before .before .before .before in
-    let k = g .before .before .before .before in
-    let r = k .before .before .before in
-    let half =
-    halved _ _ _ _ _ _ _ _ _ _ (r .release .ensures) (k .counted .ensures) (g .before .before .is-on .ensures) (g .goes-to .ensures) in
-    let e = c .before .before .before .before .before .before .before .before .serve .ensures in
-    let ready = r .before .before .before .before .before .before .before .pre in
-    all-served _ _ _ _ _ _ _ ready _ _ _ _ half _ _ (e .0) (e .1)
+tested-requires c κs = all-served _ _ _ _ _ _ _ (given-out (c .before .before .before .before .before .before .before .before))
 
 same-length : tie.Need-same-length
-same-length c =
-    let g = c .before .before .before .before .before .before .before .before .before .before .before in
-    let k = g .before .before .before .before in
-    let r = k .before .before .before in
-    let half =
-    halved _ _ _ _ _ _ _ _ _ _ (r .release .ensures) (k .counted .ensures) (g .before .before .is-on .ensures) (g .goes-to .ensures) in
-    let e = c .before .before .before .before .before .before .before .before .before .serve .ensures in
-    let ready = r .before .before .before .before .before .before .before .pre in
-    all-served _ _ _ _ _ _ _ ready _ _ _ _ half _ _ (e .0) (e .1) ∙ sym (ready .at .holds .size)
+same-length c = let x = given-out (c .before .before .before .before .before .before .before .before .before) in all-served _ _ _ _ _ _ _ x ∙ sym (x .ready .at .holds .size)
 
 same-length-2 : tie.Need-same-length-2
 same-length-2 c = search needs
 
 returns : tie.Need-returns
 returns c =
-    let g = c .before .before .before .before .before .before .before .before .before .before .before in
-    let k = g .before .before .before .before in
-    let r = k .before .before .before in
-    let half =
-    halved _ _ _ _ _ _ _ _ _ _ (r .release .ensures) (k .counted .ensures) (g .before .before .is-on .ensures) (g .goes-to .ensures) in
-    let e = c .before .before .before .before .before .before .before .before .before .serve .ensures in
-    let ready = r .before .before .before .before .before .before .before .pre in
-    step-is _ _ _ _ _ _ _ ready _ _ _ _ half _ _ (e .0) (e .1)
+    step-is _ _ _ _ _ _ _ (given-out (c .before .before .before .before .before .before .before .before .before))
     _ (c .before .before .before .before .before .before .worked .ensures) _ _ (c .tested .ensures) (c .before .before .before .before .note .ensures)
 
 pub step-spec : {M : Type 1} → statement M
