@@ -2,7 +2,7 @@
 use Rattle.scope.specs.Numbers.{sum, least, greatest, all, firstBy, listed, keep, piecesFrom, pieces, badCount, written}
 use Rattle.scope.specs.Ticks.{supply, leastSupply, leastStart}
 use Rattle.scope.specs.Windows.{gives, covers, supplied, windowLegal, badWindow}
-use Rattle.scope.specs.Partition.{rises, within, edge, maximalRuns, critical, lag, delay, outageBefore, outage}
+use Rattle.scope.specs.Partition.{rises, within, edge, maximalRuns, critical, lag, delay, outageFrom, outage}
 use Rattle.scope.specs.Tasks.{taskLegal, badTask, taskDemand, demand, margin}
 use Rattle.scope.specs.Cycle.{gcdWithin, gcd, lcm, cycle}
 use Rattle.scope.specs.Verdict.{violates, verdict}
@@ -29,7 +29,7 @@ unfolding supply leastSupply leastStart gives covers supplied windowLegal badWin
 tables·compute = tt
 
 unfoldable pub partitions·compute : Unit {0}
-unfolding rises within edge maximalRuns critical lag delay outageBefore outage
+unfolding rises within edge maximalRuns critical lag delay outageFrom outage
 partitions·compute = tt
 
 unfoldable pub tests·compute : Unit {0}

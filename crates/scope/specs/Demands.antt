@@ -38,6 +38,12 @@ unfoldable pub fullJobs : List Task → ℕ → ℕ → List Job
 fullJobs ts s zero = []
 fullJobs ts s (suc t) = fullJobs ts s t ++ fullJobsIn ts s t (length ts)
 
+-- ---- the longest outage
+
+-- the n ticks from s on are unsupplied, in whatever frames they are
+abbrev pub Silent : (ℕ → Bool) → ℕ → ℕ → Type 0
+Silent σ s n = (k : ℕ) → k < n → σ (s + k) ≡ false
+
 -- ---- the miss that is shown
 
 -- t is the least violating length, s the least of all starts that hold the least supply of t, d and p are the two amounts

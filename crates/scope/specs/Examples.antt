@@ -123,9 +123,11 @@ table =
     -- W13: W7's tasks, both released in full at tick 2
     ∷ ("W13" asks runOf 8 X (1 ∷ 4 ∷ 4 ∷ 2 ∷ 8 ∷ 7 ∷ []) 10 (2 ∷ 0 ∷ 1 ∷ 2 ∷ 1 ∷ 2 ∷ []) (9 ∷ 9 ∷ 9 ∷ [])
     gives aRun (given (record { outcome = met; backlog = 2 })) (4 ∷ 7 ∷ 9 ∷ []))
-    -- the longest outage: between windows, at both ends of a frame but not over its end, and none
+    -- the longest outage: between windows, over the end of a frame, after the windows, and none; one tick more than it holds has a supplied one
     ∷ ("outage of X" asks outageOf 8 X gives amounts (given 3 ∷ []))
-    ∷ ("outage at both ends" asks outageOf 8 (3 ∷ 5 ∷ []) gives amounts (given 3 ∷ []))
+    ∷ ("outage over midnight" asks outageOf 8 (3 ∷ 5 ∷ []) gives amounts (given 6 ∷ []))
+    ∷ ("supply of that outage" asks leastSupplies 8 (3 ∷ 5 ∷ []) (6 ∷ 7 ∷ []) gives amounts (given 0 ∷ given 1 ∷ []))
+    ∷ ("where it starts" asks verdictOf 8 (3 ∷ 5 ∷ []) (1 ∷ 8 ∷ 6 ∷ []) gives aVerdict (given (miss 6 5 1 0)))
     ∷ ("outage after the windows" asks outageOf 8 (0 ∷ 2 ∷ []) gives amounts (given 6 ∷ []))
     ∷ ("no outage" asks outageOf 8 (0 ∷ 8 ∷ []) gives amounts (given 0 ∷ []))
     -- of the four errors, W5 and W9 show two: here supply counted from tick 0 passes the first, and starts at window ends miss the second's least start
@@ -205,7 +207,7 @@ Hold (e ∷ rows) = (reply (e .question) ≡ e .expected) × Hold rows
 pub examples : Hold table
 unfolding everything reply table
 examples =
-    (refl, (refl, (refl, (refl, (refl, (refl, (refl, (refl, (refl, (refl, (refl, (refl, (refl, (refl, (refl, (refl, (refl, (refl, (refl, (refl, (refl, (refl, (refl, (refl, (refl, (refl, (refl, (refl, (refl, (refl, (refl, (refl, (refl, (refl, (refl, (refl, (refl, (refl, (refl, (refl, (refl, (refl, (refl, (refl, (refl, (refl, (refl, (refl, (refl, (refl, (refl, (refl, (refl, (refl, (refl, (refl, (refl, (refl, (refl, (refl, (refl, (refl, (refl, (refl, (refl, (refl, (refl, (refl, (refl, (refl, (refl, (refl, (refl, tt)))))))))))))))))))))))))))))))))))))))))))))))))))))))))))))))))))))))))
+    (refl, (refl, (refl, (refl, (refl, (refl, (refl, (refl, (refl, (refl, (refl, (refl, (refl, (refl, (refl, (refl, (refl, (refl, (refl, (refl, (refl, (refl, (refl, (refl, (refl, (refl, (refl, (refl, (refl, (refl, (refl, (refl, (refl, (refl, (refl, (refl, (refl, (refl, (refl, (refl, (refl, (refl, (refl, (refl, (refl, (refl, (refl, (refl, (refl, (refl, (refl, (refl, (refl, (refl, (refl, (refl, (refl, (refl, (refl, (refl, (refl, (refl, (refl, (refl, (refl, (refl, (refl, (refl, (refl, (refl, (refl, (refl, (refl, (refl, (refl, tt)))))))))))))))))))))))))))))))))))))))))))))))))))))))))))))))))))))))))))
 
 -- ---- a row by its name
 

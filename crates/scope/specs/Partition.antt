@@ -34,11 +34,12 @@ lag σ P t = perFrame σ P * t - P * leastSupply σ P t
 unfoldable pub delay : (ℕ → Bool) → ℕ → ℕ
 delay σ P = greatest (lag σ P) (P + 1)
 
--- the length of the run of unsupplied ticks, of those from tick 0 on, that ends just before tick k
-unfoldable pub outageBefore : (ℕ → Bool) → ℕ → ℕ
-outageBefore σ zero = 0
-outageBefore σ (suc k) = cond (σ k) 0 (outageBefore σ k + 1)
+-- the length of the run of unsupplied ticks that starts at tick s, of which at most n ticks are looked at
+unfoldable pub outageFrom : (ℕ → Bool) → ℕ → ℕ → ℕ
+outageFrom σ s zero = 0
+outageFrom σ s (suc n) = cond (σ s) 0 (outageFrom σ (s + 1) n + 1)
 
--- the longest run of unsupplied ticks inside one frame, ticks 0 to P − 1
+-- document 02, request 1: the longest run of unsupplied ticks over endless frames, 0 if every tick is supplied. A run starts at some tick of a
+-- frame, and goes on over its end; where σ repeats with P, the P ticks from its start show where it ends
 unfoldable pub outage : (ℕ → Bool) → ℕ → ℕ
-outage σ P = greatest (outageBefore σ) (P + 1)
+outage σ P = greatest (λ s. outageFrom σ s P) P

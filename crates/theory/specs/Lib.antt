@@ -3,6 +3,7 @@ pub mod Lists
 pub mod Buffers
 pub mod Ticks
 pub mod Windows
+pub mod Gaps
 pub mod Finer
 pub mod MaximalRuns
 pub mod Partition

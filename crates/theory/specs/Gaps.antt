@@ -1,0 +1,133 @@
+-- Which ticks a legal table supplies: those of its windows, and none of the gaps between them or from the last to the first of the next frame
+use mathlib.Core.Path.{_≡_, refl, sym, ap, _∙_}
+use mathlib.Core.Bool.{Bool, true, false, not, and-false, or-true}
+use mathlib.Core.Option.{none}
+use mathlib.Core.List.{List, [], _∷_}
+use Prim.Native.Nat.{ℕ, zero, suc, _+_, _-_, _≤_, _<_}
+use native.Mathlib.Omega.{arith}
+use native.Mathlib.Nat.{mod-eq-of-lt}
+use native.Mathlib.Decide.{ℕ-discrete, decLt, decLe}
+use lib.Dec.{leb, ltb}
+use lib.ListN.{length}
+use borrow.Author.Tests.{ltb-true, leb-true, lt-ltb, le-ltb, le-leb, lt-leb, ne-eqb, not-false}
+use Rattle.scope.specs.Ticks.{Periodic}
+use Rattle.scope.specs.Windows.{Board, Window, windowAt, windowFits, gives, covers, supplied, windowLegal, badWindow}
+use Rattle.theory.specs.Numbers.{and-both, both-and, first-none}
+use Rattle.theory.specs.Windows.{supplied-periodic}
+
+-- ---- one window
+
+module _ (b : Board) (w : Window) (k : ℕ) where
+  gives-in : w .start ≤ k → k < w .end → gives b w k ≡ true
+  unfolding gives
+  gives-in h l = both-and (le-leb _ _ h) (lt-ltb _ _ l)
+
+  gives-before : k < w .start → gives b w k ≡ false
+  unfolding gives
+  gives-before h = rw (lt-leb _ _ h)
+
+  gives-after : w .end ≤ k → gives b w k ≡ false
+  unfolding gives
+  gives-after h = rw (le-ltb _ _ h) (and-false (leb (w .start) k))
+
+-- ---- windows by their index
+
+module _ (b : Board) (k : ℕ) where
+  covers-at : (ws : List Window) (i : ℕ) → i < length ws → gives b (windowAt ws i) k ≡ true → covers b ws k ≡ true
+  unfolding covers
+  covers-at [] i h e = absurd (omega arith)
+  covers-at (w ∷ ws) zero h e = rw e
+  covers-at (w ∷ ws) (suc i) h e = rw (covers-at ws i (omega arith) e) (or-true (gives b w k))
+
+  covers-no : (ws : List Window) → ((i : ℕ) → i < length ws → gives b (windowAt ws i) k ≡ false) → covers b ws k ≡ false
+  unfolding covers
+  covers-no [] h = refl
+  covers-no (w ∷ ws) h = rw (h 0 (omega arith), covers-no ws (λ i u. h (suc i) (omega arith)))
+
+-- ---- a legal table
+
+module _ (b : Board) (ws : List Window) (legal : badWindow b ws ≡ none) where
+  abbrev startOf : ℕ → ℕ
+  startOf i = (windowAt ws i) .start
+
+  abbrev endOf : ℕ → ℕ
+  endOf i = (windowAt ws i) .end
+
+  abbrev σ : ℕ → Bool
+  σ = supplied b ws
+
+  rule : (i : ℕ) → i < length ws → windowLegal b ws i ≡ true
+  unfolding badWindow
+  rule i h = not-false _ (first-none (λ j. not (windowLegal b ws j)) (length ws) legal i h)
+
+  pub fits : (i : ℕ) → i < length ws → (startOf i < endOf i) × (endOf i ≤ b .frame)
+  unfolding windowLegal
+  fits i h =
+      let l = and-both (windowFits b (windowAt ws i)) _ (rule i h) in
+      let m = and-both (ltb (startOf i) (endOf i)) (leb (endOf i) (b .frame)) (l .0) in
+      (ltb-true _ _ (m .0), leb-true _ _ (m .1))
+
+  pub next : (i : ℕ) → suc i < length ws → endOf i < startOf (suc i)
+  unfolding windowLegal
+  next i h =
+      let e : suc i - 1 ≡ i = omega arith in
+      let l = and-both (windowFits b (windowAt ws (suc i))) _ (rule (suc i) h) in
+      ltb-true _ _ (rw (ne-eqb (suc i) 0 (λ z. omega arith), e) at l .1)
+
+  before : (i j : ℕ) → i < j → j < length ws → endOf i < startOf j
+  before i zero h l = absurd (omega arith)
+  before i (suc j) h l =
+      elim (ℕ-discrete i j) [
+        | yes e ↦ rw e (next j l)
+        | no u ↦ omega (arith, before i j (omega arith) (omega arith), fits j (omega arith) .0, next j l)
+      ]
+
+  -- past the end of window i no window up to it gives a tick, and before the start of window i none from it on
+  passed : (i k : ℕ) → i < length ws → endOf i ≤ k → (j : ℕ) → j ≤ i → gives b (windowAt ws j) k ≡ false
+  passed i k h l j m =
+      gives-after b (windowAt ws j) k
+      (elim (ℕ-discrete j i) [ yes e ↦ rw e l | no u ↦ omega (arith, before j i (omega arith) h, fits i h .0) ])
+
+  ahead : (i k : ℕ) → i < length ws → k < startOf i → (j : ℕ) → i ≤ j → j < length ws → gives b (windowAt ws j) k ≡ false
+  ahead i k h l j m u =
+      gives-before b (windowAt ws j) k
+      (elim (ℕ-discrete i j) [ yes e ↦ rw (← e) l | no v ↦ omega (arith, before i j (omega arith) u, fits i h .0) ])
+
+  here : (k : ℕ) → k < b .frame → σ k ≡ covers b ws k
+  unfolding supplied
+  here k h = ap (covers b ws) (mod-eq-of-lt h)
+
+  -- the ticks of a window are supplied
+  pub on-window : (i k : ℕ) → i < length ws → startOf i ≤ k → k < endOf i → σ k ≡ true
+  on-window i k h l m =
+      here k (omega (arith, fits i h .1)) ∙ covers-at b k ws i h (gives-in b (windowAt ws i) k l m)
+
+  -- those before the first, between two, and after the last are not
+  off-head : (k : ℕ) → 0 < length ws → k < startOf 0 → σ k ≡ false
+  off-head k some h = here k (omega (arith, fits 0 some)) ∙ covers-no b k ws (λ j u. ahead 0 k some h j (omega arith) u)
+
+  pub off-gap : (i k : ℕ) → suc i < length ws → endOf i ≤ k → k < startOf (suc i) → σ k ≡ false
+  off-gap i k h l m =
+      here k (omega (arith, fits (suc i) h)) ∙ covers-no b k ws
+      (λ j u. elim (decLe j i) [ yes v ↦ passed i k (omega arith) l j v | no v ↦ ahead (suc i) k h m j (omega arith) u ])
+
+  off-tail : (i k : ℕ) → suc i ≡ length ws → endOf i ≤ k → k < b .frame → σ k ≡ false
+  off-tail i k h l m = here k m ∙ covers-no b k ws (λ j u. passed i k (omega arith) l j (omega arith))
+
+  module _ (some : 0 < length ws) where
+    pub table-periodic : Periodic σ (b .frame)
+    table-periodic = supplied-periodic b ws (omega (arith, fits 0 some))
+
+    -- so from the end of the last window to the start of the first one of the next frame none is supplied
+    pub off-round : (i k : ℕ) → suc i ≡ length ws → endOf i ≤ k → k < startOf 0 + b .frame → σ k ≡ false
+    off-round i k h l m =
+        elim (decLt k (b .frame)) [
+          | yes u ↦ off-tail i k h l u
+          | no u ↦
+              let e : k - b .frame + b .frame ≡ k = omega arith in
+              ap σ (sym e) ∙ table-periodic .same (k - b .frame) ∙ off-head (k - b .frame) some (omega arith)
+        ]
+
+    -- and the first one's start is
+    pub on-first : σ (startOf 0) ≡ true
+    on-first = on-window 0 (startOf 0) some (omega arith) (fits 0 some .0)
