@@ -14,6 +14,7 @@ pub mod Horizon
 pub mod Answers
 pub mod Exact
 pub mod Bound
+pub mod Outage
 pub mod Spaced
 pub mod Jobs
 pub mod Reached

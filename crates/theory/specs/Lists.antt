@@ -1,13 +1,13 @@
 -- Laws of flat lists of numbers: read k at a time, counted by the piece, and kept by a test
 use mathlib.Core.Path.{_≡_, refl, sym, ap, _∙_}
-use mathlib.Core.Bool.{Bool, true, false, not, or-true, or-false}
+use mathlib.Core.Bool.{Bool, true, false, not, cond, or-true, or-false}
 use mathlib.Core.Logic.{_≢_, _⊎_, inl, inr}
 use mathlib.Core.List.{List, [], _∷_, _++_, append-nil, append-assoc}
 use Prim.Native.Nat.{ℕ, zero, suc, _+_, _-_, _*_, _/_, _%_, _≤_, _<_}
 use native.Mathlib.Omega.{arith}
 use native.Mathlib.Numerals.{add-one}
 use native.Mathlib.Nat.{add-div-right, div-eq-of-lt, div-zero, mod-zero}
-use native.Mathlib.Decide.{decLt}
+use native.Mathlib.Decide.{ℕ-discrete, decLt}
 use lib.Dec.{ltb, eqb}
 use lib.ListN.{length, getD, take, drop, length-append, length-drop, take-append-drop, List·getD-append, List·getD-eq-default}
 use lib.Seq.{getD-at, length-take-le}
@@ -168,6 +168,24 @@ module _ (p : ℕ → Bool) where
   pub keep-miss : (n : ℕ) → p n ≡ false → keep p (suc n) ≡ keep p n
   unfolding keep
   keep-miss n e = rw e (append-nil (keep p n))
+
+  keep-none : (n : ℕ) → ((j : ℕ) → j < n → p j ≡ false) → keep p n ≡ []
+  unfolding keep
+  keep-none zero h = refl
+  keep-none (suc n) h = keep-miss n (h n (omega arith)) ∙ keep-none n (λ j l. h j (omega arith))
+
+  -- the first that passes is the first that is kept
+  pub keep-first : (c n : ℕ) → c < n → p c ≡ true → ((j : ℕ) → j < c → p j ≡ false) → (rest : List ℕ) × (keep p n ≡ c ∷ rest)
+  unfolding keep
+  keep-first c zero l e h = absurd (omega arith)
+  keep-first c (suc n) l e h =
+      elim (ℕ-discrete n c) [
+        | yes z ↦ ([], rw (z, e, keep-none c h))
+        | no z ↦
+            let f = keep-first c n (omega arith) e h in
+            let more : List ℕ = cond (p n) (n ∷ []) [] in
+            (f .0 ++ more, ap (λ (l : List ℕ). l ++ more) (f .1))
+      ]
 
 -- ---- they rise, and all are below n
 

@@ -15,7 +15,7 @@ use Rattle.scope.specs.Numbers.{keep, piecesFrom, pieces}
 use Rattle.scope.specs.Windows.{Board, Window, window, windowsOf, windowAt, gives, covers, windowLegal, badWindow}
 use Rattle.scope.specs.Partition.{within, edge, maximalRuns}
 use Rattle.theory.specs.Numbers.{both-and, bool-cases, below-suc, none-first}
-use Rattle.theory.specs.Lists.{pieces-length, two-at, pieces-append, keep-hit, keep-miss, Rising, keep-rising}
+use Rattle.theory.specs.Lists.{pieces-length, two-at, pieces-append, keep-hit, keep-miss, keep-first, Rising, keep-rising}
 
 -- ---- rising numbers, none above the frame, read two at a time are legal windows
 
@@ -117,7 +117,7 @@ within-window b p s n h run k =
 
 -- ---- the edges of q below n: whole windows, or whole windows and the start of a run that is still open
 
-module _ (board : Board) (q : ℕ → Bool) where
+module _ (q : ℕ → Bool) where
   abbrev edges : ℕ → List ℕ
   edges n = keep (edge q) n
 
@@ -128,6 +128,16 @@ module _ (board : Board) (q : ℕ → Bool) where
   before-suc : (n : ℕ) → before (suc n) ≡ q n
   before-suc n = let e : suc n - 1 ≡ n = omega arith in let l : 0 < suc n = omega arith in rw (lt-ltb 0 (suc n) l, e)
 
+  -- it is false as long as q has not held
+  before-none : (n : ℕ) → ((k : ℕ) → k < n → q k ≡ false) → before n ≡ false
+  before-none zero h = refl
+  before-none (suc n) h = before-suc n ∙ h n (omega arith)
+
+  edge-is : (n : ℕ) (a b : Bool) → q n ≡ a → before n ≡ b → edge q n ≡ cond a (not b) b
+  unfolding edge
+  edge-is n a b e f = rw (e, f)
+
+module _ (board : Board) (q : ℕ → Bool) where
   -- the list l is of whole windows, which cover the ticks below n at which q holds
   record Closed (l : List ℕ) (n : ℕ) : Type 0 where
     even : length l % 2 ≡ 0
@@ -137,16 +147,12 @@ module _ (board : Board) (q : ℕ → Bool) where
   record Open (l : List ℕ) (s n : ℕ) : Type 0 where
     start : s < n
     run : (k : ℕ) → s ≤ k → k < n → q k ≡ true
-    is : edges n ≡ l ++ (s ∷ [])
+    is : edges q n ≡ l ++ (s ∷ [])
     shut : Closed l s
 
   data State (n : ℕ) : Type 0 where
-    closed : before n ≡ false → Closed (edges n) n → State n
-    opened : before n ≡ true → (l : List ℕ) (s : ℕ) → Open l s n → State n
-
-  edge-is : (n : ℕ) (a b : Bool) → q n ≡ a → before n ≡ b → edge q n ≡ cond a (not b) b
-  unfolding edge
-  edge-is n a b e f = rw (e, f)
+    closed : before q n ≡ false → Closed (edges q n) n → State n
+    opened : before q n ≡ true → (l : List ℕ) (s : ℕ) → Open l s n → State n
 
   closed-stays : (l : List ℕ) (n : ℕ) → q n ≡ false → Closed l n → Closed l (suc n)
   closed-stays l n e c = record { even = c .even; cover = λ k. c .cover k ∙ within-stays q n k e }
@@ -163,28 +169,28 @@ module _ (board : Board) (q : ℕ → Bool) where
 
   step : (n : ℕ) → (q n ≡ true) ⊎ (q n ≡ false) → State n → State (suc n)
   step n (inr e) (closed b c) =
-      let z = keep-miss (edge q) n (edge-is n false false e b) in
-      closed (before-suc n ∙ e) (rw z (closed-stays (edges n) n e c))
+      let z = keep-miss (edge q) n (edge-is q n false false e b) in
+      closed (before-suc q n ∙ e) (rw z (closed-stays (edges q n) n e c))
   step n (inl e) (closed b c) =
-      opened (before-suc n ∙ e) (edges n) n
+      opened (before-suc q n ∙ e) (edges q n) n
       (record {
         start = omega arith;
         run = λ k h l. let z : k ≡ n = omega arith in rw z e;
-        is = keep-hit (edge q) n (edge-is n true false e b);
+        is = keep-hit (edge q) n (edge-is q n true false e b);
         shut = c;
       })
   step n (inl e) (opened b l s o) =
-      opened (before-suc n ∙ e) l s
+      opened (before-suc q n ∙ e) l s
       (record {
         start = omega (arith, o .start);
         run = λ k h u. below-suc (λ j. s ≤ j → q j ≡ true) n (λ j v w. o .run j w v) (λ w. e) k u h;
-        is = keep-miss (edge q) n (edge-is n true true e b) ∙ o .is;
+        is = keep-miss (edge q) n (edge-is q n true true e b) ∙ o .is;
         shut = o .shut;
       })
   step n (inr e) (opened b l s o) =
-      let hit = keep-hit (edge q) n (edge-is n false true e b) in
-      let z : edges (suc n) ≡ l ++ (s ∷ n ∷ []) = hit ∙ ap (λ (m : List ℕ). m ++ (n ∷ [])) (o .is) ∙ append-assoc l (s ∷ []) (n ∷ []) in
-      closed (before-suc n ∙ e) (rw z (closed-stays (l ++ (s ∷ n ∷ [])) n e (open-closes l s n o)))
+      let hit = keep-hit (edge q) n (edge-is q n false true e b) in
+      let z : edges q (suc n) ≡ l ++ (s ∷ n ∷ []) = hit ∙ ap (λ (m : List ℕ). m ++ (n ∷ [])) (o .is) ∙ append-assoc l (s ∷ []) (n ∷ []) in
+      closed (before-suc q n ∙ e) (rw z (closed-stays (l ++ (s ∷ n ∷ [])) n e (open-closes l s n o)))
 
   state : (n : ℕ) → State n
   unfolding keep piecesFrom pieces covers
@@ -202,10 +208,10 @@ module _ (p : ℕ → Bool) (n : ℕ) where
   unfolding maximalRuns
   maximal-closed = rw add-one (go (state framed (within p n) (suc n)))
     where
-      go : State framed (within p n) (suc n) → Closed framed (within p n) (edges framed (within p n) (suc n)) (suc n)
+      go : State framed (within p n) (suc n) → Closed framed (within p n) (edges (within p n) (suc n)) (suc n)
       go (closed b c) = c
       go (opened b l s o) =
-          absurd (true≢false (sym (sym (before-suc framed (within p n) n) ∙ b) ∙ within-out p n n (omega arith)))
+          absurd (true≢false (sym (sym (before-suc (within p n) n) ∙ b) ∙ within-out p n n (omega arith)))
 
   pub maximal-even : length (maximalRuns p n) % 2 ≡ 0
   maximal-even = maximal-closed .even
@@ -222,3 +228,12 @@ module _ (p : ℕ → Bool) (n : ℕ) where
   pub maximal-rule : badWindow framed (windowsOf (maximalRuns p n)) ≡ none
   unfolding maximalRuns
   maximal-rule = rising-rule framed (maximalRuns p n) (keep-rising (edge (within p n)) (n + 1))
+
+  -- the first run starts where p first holds
+  pub maximal-first : (c : ℕ) → c < n → p c ≡ true → ((j : ℕ) → j < c → p j ≡ false) → (rest : List ℕ) × (maximalRuns p n ≡ c ∷ rest)
+  unfolding maximalRuns
+  maximal-first c l e h =
+      let q : ℕ → Bool = within p n in
+      let none : (j : ℕ) → j < c → q j ≡ false = λ j m. within-in p n j (omega arith) ∙ h j m in
+      keep-first (edge q) c (n + 1) (omega arith) (edge-is q c true false (within-in p n c l ∙ e) (before-none q c none))
+      (λ j m. edge-is q j false false (none j m) (before-none q j (λ i u. none i (omega arith))))

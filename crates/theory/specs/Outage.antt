@@ -1,0 +1,253 @@
+-- The longest outage: no run of unsupplied ticks anywhere is longer; it is the greatest length whose least supply is 0, and the start of the first
+-- critical window
+use mathlib.Core.Path.{_≡_, refl, sym, ap, _∙_}
+use mathlib.Core.Bool.{Bool, true, false, true≢false}
+use mathlib.Core.Logic.{_↔_, inl, inr}
+use mathlib.Core.Option.{none}
+use mathlib.Core.List.{List, _∷_}
+use Prim.Native.Nat.{ℕ, zero, suc, _+_, _-_, _%_, _≤_, _<_, max}
+use native.Mathlib.Omega.{arith}
+use native.Mathlib.Nat.{add-zero, mod-lt}
+use native.Mathlib.Numerals.{add-one}
+use native.Mathlib.Decide.{decLt, decLe}
+use lib.ListN.{length}
+use borrow.Author.Tests.{lt-ltb, le-ltb}
+use Rattle.scope.specs.Numbers.{bit, greatest}
+use Rattle.scope.specs.Ticks.{Periodic, supply, leastSupply}
+use Rattle.scope.specs.Windows.{Board, Window, windowAt, supplied, badWindow}
+use Rattle.scope.specs.Partition.{rises, critical, outageFrom, outage}
+use Rattle.scope.specs.Demands.{Silent}
+use Rattle.theory.specs.Numbers.{bool-cases, greatest-ge, greatest-met}
+use Rattle.theory.specs.Ticks.{supply-first, supply-up, supply-mod, supply-frame, least-over-all-starts, least-is-met, least-up}
+use Rattle.theory.specs.MaximalRuns.{maximal-first}
+use Rattle.theory.specs.Gaps.{fits, next, on-window, off-gap, off-round, on-first, table-periodic}
+
+-- ---- unsupplied ticks, and the supply of that length
+
+module _ (σ : ℕ → Bool) where
+  silent-supply : (s n : ℕ) → Silent σ s n → supply σ s n ≡ 0
+  unfolding supply
+  silent-supply s zero h = refl
+  silent-supply s (suc n) h = omega (arith, silent-supply s n (λ k l. h k (omega arith)), ap bit (h n (omega arith)))
+
+  supply-silent : (s n : ℕ) → supply σ s n ≡ 0 → Silent σ s n
+  unfolding supply
+  supply-silent s n e k l =
+      elim (bool-cases (σ (s + k))) [
+        | inl on ↦ absurd (omega (arith, supply-up σ s (suc k) n (omega arith), ap bit on))
+        | inr off ↦ off
+      ]
+
+  -- the run that starts at s is unsupplied
+  run-supply : (s n : ℕ) → supply σ s (outageFrom σ s n) ≡ 0
+  unfolding supply outageFrom
+  run-supply s zero = refl
+  run-supply s (suc n) =
+      elim (bool-cases (σ s)) [
+        | inl on ↦ rw on
+        | inr off ↦
+            let m : ℕ = outageFrom σ (s + 1) n in
+            rw (off, add-one m) (omega (arith, supply-first σ s m, ap bit off, run-supply (s + 1) n, ap (λ (k : ℕ). supply σ k m) (add-one s)))
+      ]
+
+  -- and has all unsupplied ticks from s on, as far as it is looked at
+  run-longest : (s n m : ℕ) → m ≤ n → supply σ s m ≡ 0 → m ≤ outageFrom σ s n
+  unfolding outageFrom
+  run-longest s n zero h e = omega arith
+  run-longest s zero (suc m) h e = absurd (omega arith)
+  run-longest s (suc n) (suc m) h e =
+      elim (bool-cases (σ s)) [
+        | inl on ↦ absurd (omega (arith, supply-first σ s m, ap bit on))
+        | inr off ↦
+            let rest : supply σ (s + 1) m ≡ 0 = rw (add-one s) (omega (arith, supply-first σ s m)) in
+            rw off (omega (arith, run-longest (s + 1) n m (omega arith) rest))
+      ]
+
+-- ---- over any pattern that repeats with P
+
+module _ (σ : ℕ → Bool) (P : ℕ) (per : Periodic σ P) where
+  -- there are so many unsupplied ticks in a row
+  outage-met : (s : ℕ) × (s < P) × (supply σ s (outage σ P) ≡ 0)
+  unfolding outage
+  outage-met =
+      let m = greatest-met (λ s. outageFrom σ s P) P (per .some) in
+      (m .0, m .1, ap (supply σ (m .0)) (sym (m .2)) ∙ run-supply σ (m .0) P)
+
+  pub outage-there : (s : ℕ) × (s < P) × Silent σ s (outage σ P)
+  outage-there = let m = outage-met in (m .0, m .1, supply-silent σ (m .0) (outage σ P) (m .2))
+
+  -- up to a frame's length no run anywhere is longer
+  outage-most : (s n : ℕ) → n ≤ P → supply σ s n ≡ 0 → n ≤ outage σ P
+  unfolding outage
+  outage-most s n h e =
+      omega (
+        arith,
+        run-longest σ (s % P) P n h (supply-mod σ P per s n ∙ e),
+        greatest-ge (λ r. outageFrom σ r P) P (s % P) (mod-lt s (per .some)),
+      )
+
+  -- 0 exactly if every tick is supplied
+  pub outage-none : (outage σ P ≡ 0) ↔ ((k : ℕ) → σ k ≡ true)
+  outage-none = (
+    λ e k. elim (bool-cases (σ k)) [
+      | inl on ↦ on
+      | inr off ↦
+          let alone : Silent σ k 1 = λ j l. let z : k + j ≡ k = omega arith in ap σ z ∙ off in
+          absurd (omega (arith, outage-most k 1 (per .some) (silent-supply σ k 1 alone)))
+    ],
+    λ on. elim (decLt 0 (outage σ P)) [
+      | yes l ↦ absurd (true≢false (sym (on (outage-there .0 + 0)) ∙ outage-there .2 0 l))
+      | no l ↦ omega arith
+    ],
+  )
+
+  -- the least supply of that length is 0
+  pub outage-least : leastSupply σ P (outage σ P) ≡ 0
+  outage-least = let m = outage-met in omega (arith, m .2, least-over-all-starts σ P per (m .0) (outage σ P))
+
+  -- where any tick at all is supplied
+  module _ (a : ℕ) (on : σ a ≡ true) where
+    outage-short : (s n : ℕ) → supply σ s n ≡ 0 → n < P
+    outage-short s n e =
+        elim (decLt n P) [
+          | yes l ↦ l
+          | no l ↦
+              let one = supply-first σ a (P - 1) in
+              let whole : suc (P - 1) ≡ P = omega (arith, per .some) in
+              absurd (omega (
+                arith,
+                one,
+                ap bit on,
+                ap (supply σ a) whole,
+                supply-frame σ P per a,
+                supply-frame σ P per s,
+                supply-up σ s P n (omega arith),
+              ))
+        ]
+
+    -- no run of unsupplied ticks, in whatever frame and however long, is longer
+    pub outage-longest : (s n : ℕ) → Silent σ s n → n ≤ outage σ P
+    outage-longest s n h =
+        let e = silent-supply σ s n h in
+        outage-most s n (omega (arith, outage-short s n e)) e
+
+    pub outage-below : outage σ P < P
+    outage-below = let m = outage-met in outage-short (m .0) (outage σ P) (m .2)
+
+    -- it is the greatest length whose least supply is 0
+    pub outage-greatest : (n : ℕ) → leastSupply σ P n ≡ 0 → n ≤ outage σ P
+    outage-greatest n e = let m = least-is-met σ P per n in outage-longest (m .0) n (supply-silent σ (m .0) n (m .2 ∙ e))
+
+    pub outage-more : 0 < leastSupply σ P (outage σ P + 1)
+    outage-more =
+        elim (decLt 0 (leastSupply σ P (outage σ P + 1))) [
+          | yes l ↦ l
+          | no l ↦ absurd (omega (arith, outage-greatest (outage σ P + 1) (omega arith)))
+        ]
+
+    -- so the least supply first rises there, and the first critical window starts there
+    pub outage-first : (rest : List ℕ) × (critical σ P ≡ outage σ P ∷ rest)
+    unfolding critical rises
+    outage-first =
+        maximal-first (rises σ P) P (outage σ P) outage-below
+        (lt-ltb (leastSupply σ P (outage σ P)) (leastSupply σ P (outage σ P + 1)) (omega (arith, outage-least, outage-more)))
+        (λ j l. le-ltb (leastSupply σ P j) (leastSupply σ P (j + 1)) (omega (arith, outage-least, least-up σ P per (j + 1) (outage σ P) (omega arith))))
+
+-- ---- found from the gaps of a table, one after the other
+
+-- of the runs that start in the ticks from a up to, not including, z none has more than n ticks, and so many in a row are unsupplied
+pub record Longest (σ : ℕ → Bool) (a z n : ℕ) : Type 0 where
+  at : ℕ
+  silent : Silent σ at n
+  ends : (s : ℕ) → a ≤ s → s < z → (k : ℕ) × (k ≤ n) × (σ (s + k) ≡ true)
+
+module _ (σ : ℕ → Bool) where
+  longest-none : (a : ℕ) → Longest σ a a 0
+  longest-none a = record { at = a; silent = λ k l. absurd (omega arith); ends = λ s h l. absurd (omega arith) }
+
+  module _ (a z n : ℕ) (so : Longest σ a z n) where
+    -- supplied ticks up to e
+    longest-on : (e : ℕ) → ((k : ℕ) → z ≤ k → k < e → σ k ≡ true) → Longest σ a e n
+    longest-on e on =
+        record {
+          at = so .at;
+          silent = so .silent;
+          ends = λ s h l. elim (decLt s z) [
+            | yes u ↦ so .ends s h u
+            | no u ↦ (0, omega arith, ap σ (add-zero s) ∙ on s (omega arith) l)
+          ];
+        }
+
+    -- a gap of g ticks, then a supplied one
+    longest-gap : (g : ℕ) → Silent σ z g → σ (z + g) ≡ true → Longest σ a (z + g) (max n g)
+    longest-gap g off on =
+        elim (decLe n g) [
+          | yes h ↦ let e : max n g ≡ g = omega arith in record { at = z; silent = rw e off; ends = ends }
+          | no h ↦ let e : max n g ≡ n = omega arith in record { at = so .at; silent = rw e (so .silent); ends = ends }
+        ]
+      where
+        ends : (s : ℕ) → a ≤ s → s < z + g → (k : ℕ) × (k ≤ max n g) × (σ (s + k) ≡ true)
+        ends s h l =
+            elim (decLt s z) [
+              | yes u ↦ let r = so .ends s h u in (r .0, omega (arith, r .1), r .2)
+              | no u ↦ let e : s + (z + g - s) ≡ z + g = omega arith in (z + g - s, omega arith, ap σ e ∙ on)
+            ]
+
+  -- once round it is the longest outage
+  longest-round : (P a n : ℕ) → Periodic σ P → a < P → Longest σ a (a + P) n → n ≡ outage σ P
+  longest-round P a n per h so =
+      let first = so .ends a (omega arith) (omega (arith, per .some)) in
+      let most = outage-longest σ P per (a + first .0) (first .2) (so .at) n (so .silent) in
+      let there = outage-there σ P per in
+      elim (decLt n (outage σ P)) [
+        | yes l ↦ absurd (later (there .0) (there .1) l (there .2))
+        | no l ↦ omega (arith, most)
+      ]
+    where
+      later : (s : ℕ) → s < P → n < outage σ P → Silent σ s (outage σ P) → ⊥
+      later s u l off =
+          elim (decLe a s) [
+            | yes v ↦ let r = so .ends s v (omega arith) in true≢false (sym (r .2) ∙ off (r .0) (omega (arith, r .1)))
+            | no v ↦
+                let r = so .ends (s + P) (omega arith) (omega arith) in
+                let e : s + P + r .0 ≡ s + r .0 + P = omega arith in
+                true≢false (sym (r .2) ∙ ap σ e ∙ per .same (s + r .0) ∙ off (r .0) (omega (arith, r .1)))
+          ]
+
+-- window by window of a legal table
+module _ (b : Board) (ws : List Window) (legal : badWindow b ws ≡ none) (some : 0 < length ws) where
+  abbrev σ : ℕ → Bool
+  σ = supplied b ws
+
+  abbrev startOf : ℕ → ℕ
+  startOf i = (windowAt ws i) .start
+
+  abbrev endOf : ℕ → ℕ
+  endOf i = (windowAt ws i) .end
+
+  -- the longest run of those that start from the first window's start on and before the end of window i
+  abbrev pub LongestTo : ℕ → ℕ → Type 0
+  LongestTo i n = Longest σ (startOf 0) (endOf i) n
+
+  pub first-window : LongestTo 0 0
+  first-window =
+      longest-on σ (startOf 0) (startOf 0) 0 (longest-none σ (startOf 0)) (endOf 0) (λ k h l. on-window b ws legal 0 k some h l)
+
+  pub next-window : (i n : ℕ) → suc i < length ws → LongestTo i n → LongestTo (suc i) (max n (startOf (suc i) - endOf i))
+  next-window i n h so =
+      let g : ℕ = startOf (suc i) - endOf i in
+      let e : endOf i + g ≡ startOf (suc i) = omega (arith, next b ws legal i h) in
+      let gap = longest-gap σ (startOf 0) (endOf i) n so g (λ k l. off-gap b ws legal i (endOf i + k) h (omega arith) (omega arith))
+      (on-window b ws legal (suc i) (endOf i + g) h (omega arith) (omega (arith, fits b ws legal (suc i) h))) in
+      longest-on σ (startOf 0) (endOf i + g) (max n g) gap (endOf (suc i)) (λ k l m. on-window b ws legal (suc i) k h (omega arith) m)
+
+  -- after the last one comes the gap to the first window of the next frame
+  pub last-window : (i n : ℕ) → suc i ≡ length ws → LongestTo i n → max n (b .frame - endOf i + startOf 0) ≡ outage σ (b .frame)
+  last-window i n h so =
+      let P : ℕ = b .frame in
+      let g : ℕ = P - endOf i + startOf 0 in
+      let e : endOf i + g ≡ startOf 0 + P = omega (arith, fits b ws legal i (omega arith)) in
+      let per = table-periodic b ws legal some in
+      let gap = longest-gap σ (startOf 0) (endOf i) n so g (λ k l. off-round b ws legal some i (endOf i + k) h (omega arith) (omega arith))
+      (ap σ e ∙ per .same (startOf 0) ∙ on-first b ws legal some) in
+      longest-round σ P (startOf 0) (max n g) per (omega (arith, fits b ws legal 0 some)) (rw e at gap)
