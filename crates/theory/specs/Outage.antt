@@ -4,22 +4,32 @@ use mathlib.Core.Path.{_≡_, refl, sym, ap, _∙_}
 use mathlib.Core.Bool.{Bool, true, false, true≢false}
 use mathlib.Core.Logic.{_↔_, inl, inr}
 use mathlib.Core.Option.{none}
-use mathlib.Core.List.{List, _∷_}
+use mathlib.Core.List.{List, [], _∷_}
 use Prim.Native.Nat.{ℕ, zero, suc, _+_, _-_, _%_, _≤_, _<_, max}
 use native.Mathlib.Omega.{arith}
-use native.Mathlib.Nat.{add-zero, mod-lt}
+use native.Mathlib.Nat.{add-zero, mod-lt, zero-div, dvd-refl, le-of-dvd}
 use native.Mathlib.Numerals.{add-one}
 use native.Mathlib.Decide.{decLt, decLe}
 use lib.ListN.{length}
-use borrow.Author.Tests.{lt-ltb, le-ltb}
-use Rattle.scope.specs.Numbers.{bit, greatest}
-use Rattle.scope.specs.Ticks.{Periodic, supply, leastSupply}
-use Rattle.scope.specs.Windows.{Board, Window, windowAt, supplied, badWindow}
+use borrow.Author.Tests.{lt-ltb, le-ltb, le-leb}
+use Rattle.scope.specs.Numbers.{bit, greatest, firstBy, piecesFrom, pieces, badCount}
+use Rattle.scope.specs.Limits.{mostOfTask, mostCycle, mostLength}
+use Rattle.scope.specs.Ticks.{Periodic, supply, leastSupply, leastStart}
+use Rattle.scope.specs.Windows.{Board, Window, window, windowsOf, windowAt, supplied, suppliedBy, badWindow}
 use Rattle.scope.specs.Partition.{rises, critical, outageFrom, outage}
+use Rattle.scope.specs.Tasks.{Task, task, tasksOf, taskLegal, badTask, taskDemand, demand}
+use Rattle.scope.specs.Cycle.{lcm, cycle}
+use Rattle.scope.specs.Verdict.{Verdict.miss, verdict}
+use Rattle.scope.specs.Answers.{Fault.fine, Answer.given, tableFault, lengthFault, groupFault, taskListFault, taskFault, cycleFault}
+use Rattle.scope.specs.Answers.{leastSupplyAnswer, criticalOf, outageAnswer, verdictAnswer}
 use Rattle.scope.specs.Demands.{Silent}
 use Rattle.theory.specs.Numbers.{bool-cases, greatest-ge, greatest-met}
-use Rattle.theory.specs.Ticks.{supply-first, supply-up, supply-mod, supply-frame, least-over-all-starts, least-is-met, least-up}
+use Rattle.theory.specs.Ticks.{supply-first, supply-up, supply-mod, supply-frame, least-over-all-starts, least-is-met, least-up, least-start}
+use Rattle.theory.specs.Lists.{pieces-length}
 use Rattle.theory.specs.MaximalRuns.{maximal-first}
+use Rattle.theory.specs.Cycle.{lcm-least}
+use Rattle.theory.specs.Answers.{LegalTable, table-legal, unless-given}
+use Rattle.theory.specs.Exact.{exact-miss}
 use Rattle.theory.specs.Gaps.{fits, next, on-window, off-gap, off-round, on-first, table-periodic}
 
 -- ---- unsupplied ticks, and the supply of that length
@@ -251,3 +261,125 @@ module _ (b : Board) (ws : List Window) (legal : badWindow b ws ≡ none) (some 
       let gap = longest-gap σ (startOf 0) (endOf i) n so g (λ k l. off-round b ws legal some i (endOf i + k) h (omega arith) (omega arith))
       (ap σ e ∙ per .same (startOf 0) ∙ on-first b ws legal some) in
       longest-round σ P (startOf 0) (max n g) per (omega (arith, fits b ws legal 0 some)) (rw e at gap)
+
+-- ---- the entry
+
+module _ (b : Board) (ws : List ℕ) (n : ℕ) (answered : outageAnswer b ws ≡ given n) where
+  abbrev P : ℕ
+  P = b .frame
+
+  abbrev τ : ℕ → Bool
+  τ = suppliedBy b ws
+
+  fine-table : tableFault b ws ≡ fine
+  unfolding outageAnswer
+  fine-table = unless-given (tableFault b ws) (outage τ P) n answered .0
+
+  is : outage τ P ≡ n
+  unfolding outageAnswer
+  is = unless-given (tableFault b ws) (outage τ P) n answered .1
+
+  table : LegalTable b ws
+  table = table-legal b ws fine-table
+
+  some : 0 < length (windowsOf ws)
+  some = omega (arith, pieces-length Window 2 window ws, table .even, table .some)
+
+  per : Periodic τ P
+  per = table-periodic b (windowsOf ws) (table .windows) some
+
+  abbrev first : ℕ
+  first = (windowAt (windowsOf ws) 0) .start
+
+  on : τ first ≡ true
+  on = on-first b (windowsOf ws) (table .windows) some
+
+  -- (i) so many unsupplied ticks in a row there are, and no run anywhere, in any frame, has more
+  pub outage-run : (s : ℕ) × (s < P) × Silent τ s n
+  outage-run = rw (← is) (outage-there τ P per)
+
+  pub outage-no-longer : (s m : ℕ) → Silent τ s m → m ≤ n
+  outage-no-longer s m h = omega (arith, is, outage-longest τ P per first on s m h)
+
+  -- (ii) its least supply is 0 and that of one tick more is not; no length without limit that is greater has least supply 0
+  least-given : (t : ℕ) → t ≤ P → leastSupplyAnswer b ws t ≡ given (leastSupply τ P t)
+  unfolding leastSupplyAnswer lengthFault
+  least-given t h = rw (fine-table, le-ltb mostLength t (omega (arith, table .frame-most)))
+
+  pub outage-supply : (leastSupplyAnswer b ws n ≡ given 0) × (p : ℕ) × (leastSupplyAnswer b ws (n + 1) ≡ given p) × (0 < p)
+  outage-supply =
+      let below = outage-below τ P per first on in (
+        least-given n (omega (arith, is)) ∙ ap given (rw is at (outage-least τ P per)),
+        leastSupply τ P (n + 1),
+        least-given (n + 1) (omega (arith, is)),
+        rw is at (outage-more τ P per first on),
+      )
+
+  pub outage-greatest-length : (t : ℕ) → leastSupply τ P t ≡ 0 → t ≤ n
+  outage-greatest-length t e = omega (arith, is, outage-greatest τ P per first on t e)
+
+  -- (iii) it is 0 exactly if every tick is supplied
+  pub outage-zero : (n ≡ 0) ↔ ((k : ℕ) → τ k ≡ true)
+  outage-zero = let z = outage-none τ P per in (λ e. z .0 (is ∙ e), λ h. sym is ∙ z .1 h)
+
+  -- (iv) it is the start of the first critical window
+  pub outage-critical : (rest : List ℕ) × (criticalOf b ws ≡ n ∷ rest)
+  outage-critical = let c = outage-first τ P per first on in (c .0, rw is at (c .1))
+
+  -- where it starts is found by asking for one tick of work each frame, due in n: the miss shows the least of all starts of n unsupplied ticks
+  abbrev one : Task
+  one = task 1 P n
+
+  module _ (pos : 0 < n) where
+    short : n < P
+    short = omega (arith, is, outage-below τ P per first on)
+
+    one-legal : taskLegal one ≡ true
+    unfolding taskLegal
+    one-legal =
+        let f = table .frame-most in
+        rw (le-leb 1 P (omega (arith, short)), le-leb P mostOfTask (omega arith), le-leb 1 n pos, le-leb n mostOfTask (omega (arith, short)), le-leb n P (omega (arith, short)))
+
+    one-group : groupFault (1 ∷ P ∷ n ∷ []) ≡ fine
+    unfolding groupFault taskListFault badCount taskFault badTask firstBy piecesFrom pieces
+    one-group = rw one-legal
+
+    one-cycle : cycleFault b (one ∷ []) ≡ fine
+    unfolding cycleFault cycle
+    one-cycle =
+        let l : lcm P P ≤ P = le-of-dvd (table .frame) (lcm-least P P P (table .frame) (dvd-refl P) (dvd-refl P)) in
+        rw (le-ltb mostCycle (lcm P P) (omega (arith, table .frame-most)))
+
+    one-demand : (t : ℕ) → t < n → demand (one ∷ []) t ≡ 0
+    unfolding demand taskDemand
+    one-demand t l = rw (lt-ltb t n l)
+
+    one-due : demand (one ∷ []) n ≡ 1
+    unfolding demand taskDemand
+    one-due =
+        let z : n - n ≡ 0 = omega arith in
+        rw (le-ltb n n (omega arith), z, zero-div P) (omega arith)
+
+    pub outage-asked : (s : ℕ) × (verdictAnswer b ws (1 ∷ P ∷ n ∷ []) ≡ given (miss n s 1 0)) × Silent τ s n × ((r : ℕ) → r < s → Silent τ r n → ⊥)
+    unfolding verdictAnswer piecesFrom pieces
+    outage-asked =
+        let H : ℕ = cycle P (one ∷ []) in
+        let s = least-start τ P per n in
+        let none : leastSupply τ P n ≡ 0 = rw is at (outage-least τ P per) in
+        let v = exact-miss b ws (1 ∷ P ∷ n ∷ []) (verdict τ P (one ∷ []) H) asked n (leastStart τ P n) 1 0 .1
+        (record {
+          demanded = sym one-due;
+          supplied = sym none;
+          above = omega arith;
+          leastLength = λ u l. omega (arith, one-demand u l);
+          holds = s .1 ∙ none;
+          leastStart = λ r l. omega (arith, s .2 r l, none);
+        }) in (
+          leastStart τ P n,
+          asked ∙ ap given v,
+          supply-silent τ (leastStart τ P n) n (s .1 ∙ none),
+          λ r l h. omega (arith, s .2 r l, silent-supply τ r n h),
+        )
+      where
+        asked : verdictAnswer b ws (1 ∷ P ∷ n ∷ []) ≡ given (verdict τ P (one ∷ []) (cycle P (one ∷ [])))
+        asked = rw (fine-table, one-group, one-cycle)
