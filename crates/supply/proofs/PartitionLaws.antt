@@ -1,4 +1,4 @@
--- The loops over the ticks of a frame, turn by turn: the critical partition, the delay and the longest outage
+-- The loops over the ticks of a frame, turn by turn: the critical partition and the delay
 use mathlib.Core.Path.{_≡_, refl, sym, ap, _∙_}
 use mathlib.Core.Bool.{Bool, true, false, cond, not, _&&_, Bool·beq}
 use mathlib.Core.List.{List, [], _∷_, _++_}
@@ -13,7 +13,7 @@ use borrow.Author.Tests.{lt-ltb, le-ltb}
 use Rattle.scope.specs.Numbers.{greatest, keep, written}
 use Rattle.scope.specs.Ticks.{leastSupply}
 use Rattle.scope.specs.Windows.{Board, suppliedBy}
-use Rattle.scope.specs.Partition.{rises, within, edge, maximalRuns, critical, outageBefore}
+use Rattle.scope.specs.Partition.{rises, within, edge, maximalRuns, critical}
 use Rattle.scope.specs.Answers.{Fault.fine, Fault.fault, tableFault, roomFault, criticalOf, criticalFault}
 use Rattle.theory.specs.Numbers.{bool-cases}
 use Rattle.theory.specs.Lists.{keep-hit, keep-miss}
@@ -132,7 +132,7 @@ module _ (b : Board) (ws : List ℕ) (room : ℕ) where
     unfolding roomFault
     critical-fine h = only-room ∙ sym (if-false _ 8 (length (criticalOf b ws)) (le-ltb room (length (criticalOf b ws)) h))
 
--- ---- the greatest of a function's values, and the longest outage
+-- ---- the greatest of a function's values
 
 module _ (f : ℕ → ℕ) where
   pub greatest-none : greatest f 0 ≡ 0
@@ -142,22 +142,3 @@ module _ (f : ℕ → ℕ) where
   pub greatest-more : (n : ℕ) → greatest f (n + 1) ≡ max (greatest f n) (f n)
   unfolding greatest
   greatest-more n = rw add-one
-
-module _ (σ : ℕ → Bool) where
-  pub outage-none : outageBefore σ 0 ≡ 0
-  unfolding outageBefore
-  outage-none = refl
-
-  pub longest-none : greatest (outageBefore σ) 1 ≡ 0
-  unfolding greatest outageBefore
-  longest-none = refl
-
-  pub outage-more : (k : ℕ) → outageBefore σ (k + 1) ≡ cond (σ k) 0 (outageBefore σ k + 1)
-  unfolding outageBefore
-  outage-more k = let e : k + 1 ≡ suc k = omega arith in ap (outageBefore σ) e
-
-  -- so a run counts no further than the ticks
-  pub outage-le : (k : ℕ) → outageBefore σ k ≤ k
-  unfolding outageBefore
-  outage-le zero = omega arith
-  outage-le (suc k) = elim (bool-cases (σ k)) [ inl e ↦ rw e (omega arith) | inr e ↦ rw e (omega (arith, outage-le k)) ]

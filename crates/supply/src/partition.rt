@@ -6,10 +6,9 @@ use tables::answer::Delay;
 use tables::answer::Refusal;
 use tables::board::Board;
 use tables::window::check_table;
-use tables::window::is_on;
+use tables::window::window_at;
 ghost use mathlib.Core.Path.{_≡_};
-ghost use mathlib.Core.Bool.{cond};
-ghost use Prim.Native.Nat.{_+_, _<_, _≤_, max};
+ghost use Prim.Native.Nat.{_+_, _-_, _<_, _≤_, max};
 ghost use lib.ListN.{length};
 ghost use Rattle.scope.specs.Limits.{mostFrame};
 ghost use Rattle.scope.specs.Numbers.{written};
@@ -17,6 +16,7 @@ ghost use Rattle.scope.specs.Ticks.{perFrame};
 ghost use Rattle.scope.specs.Windows.{suppliedBy};
 ghost use Rattle.scope.specs.Partition.{rises, within, lag, delay as delayBy, outage as outageBy};
 ghost use Rattle.scope.specs.Answers.{criticalOf, criticalAnswer, criticalOut, delayAnswer, outageAnswer};
+ghost use Rattle.theory.specs.Answers.{LegalTable};
 ghost use Rattle.tables.specs.Told.{boardOf, no, toldAmount, toldDelay};
 
 // Whether k is a tick of the frame at which the least supply rises.
@@ -150,32 +150,36 @@ fn larger(a: u32, b: u32) -> u32
     if a < b { b } else { a }
 }
 
-// An outage of n ticks so far, one tick later: a supplied tick ends it.
-fn outage_on(n: u32, on: bool) -> u32
-    requires { ⌜ n < 4294967295 ⌝ }
-    ensures { λ r. ⌜ r ≡ cond on 0 (n + 1) ⌝ }
+// The gap from the end of the last window to the first one's start in the next frame.
+fn joined(frame: u32, end: u32, start: u32) -> u32
+    requires { ⌜ (end ≤ frame) × (start ≤ frame) × (frame ≤ mostFrame) ⌝ }
+    ensures { λ r. ⌜ r ≡ frame - end + start ⌝ }
 {
-    if on { 0 } else { n + 1 }
+    frame - end + start
 }
 
-// The longest run of unsupplied ticks inside one frame.
+// The longest run of unsupplied ticks over endless frames: the longest gap between two windows, or between the last one and the next frame's first.
 fn outage_of(board: Board, windows: &[u32]) -> u32
+    requires { ⌜ LegalTable (boardOf board) (now windows) ⌝ }
     ensures { λ r. ⌜ r ≡ outageBy (suppliedBy (boardOf board) (now (windows .entry))) (board .frame) ⌝ }
 {
-    let frame = board.frame;
-    let mut lasting = 0;
+    let count = windows.len() / 2;
+    let first = window_at(windows, 0);
+    let mut end = first.end;
     let mut most = 0;
-    let mut k = 0;
-    while k < frame {
-        let on = is_on(board, windows, k as u64);
-        lasting = outage_on(lasting, on);
-        most = larger(most, lasting);
-        k += 1;
+    let mut i = 1;
+    while i < count {
+        let window = window_at(windows, i);
+        let gap = window.start - end;
+        most = larger(most, gap);
+        end = window.end;
+        i += 1;
     }
-    most
+    let gap = joined(board.frame, end, first.start);
+    larger(most, gap)
 }
 
-// The longest outage inside one frame. Refusals 1 2 3.
+// The longest outage over endless frames. Refusals 1 2 3.
 pub fn outage(board: Board, windows: &[u32]) -> Amount
     ensures { λ r. ⌜ toldAmount r ≡ outageAnswer (boardOf board) (now (windows .entry)) ⌝ }
 {

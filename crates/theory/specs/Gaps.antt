@@ -6,7 +6,7 @@ use mathlib.Core.List.{List, [], _∷_}
 use Prim.Native.Nat.{ℕ, zero, suc, _+_, _-_, _≤_, _<_}
 use native.Mathlib.Omega.{arith}
 use native.Mathlib.Nat.{mod-eq-of-lt}
-use native.Mathlib.Decide.{ℕ-discrete, decLt, decLe}
+use native.Mathlib.Decide.{ℕ-discrete, decLt}
 use lib.Dec.{leb, ltb}
 use lib.ListN.{length}
 use borrow.Author.Tests.{ltb-true, leb-true, lt-ltb, le-ltb, le-leb, lt-leb, ne-eqb, not-false}
@@ -67,19 +67,20 @@ module _ (b : Board) (ws : List Window) (legal : badWindow b ws ≡ none) where
       let m = and-both (ltb (startOf i) (endOf i)) (leb (endOf i) (b .frame)) (l .0) in
       (ltb-true _ _ (m .0), leb-true _ _ (m .1))
 
-  pub next : (i : ℕ) → suc i < length ws → endOf i < startOf (suc i)
+  pub next : (i : ℕ) → 0 < i → i < length ws → endOf (i - 1) < startOf i
   unfolding windowLegal
-  next i h =
-      let e : suc i - 1 ≡ i = omega arith in
-      let l = and-both (windowFits b (windowAt ws (suc i))) _ (rule (suc i) h) in
-      ltb-true _ _ (rw (ne-eqb (suc i) 0 (λ z. omega arith), e) at l .1)
+  next i p h =
+      let l = and-both (windowFits b (windowAt ws i)) _ (rule i h) in
+      ltb-true _ _ (rw (ne-eqb i 0 (λ z. omega arith)) at l .1)
 
   before : (i j : ℕ) → i < j → j < length ws → endOf i < startOf j
   before i zero h l = absurd (omega arith)
   before i (suc j) h l =
+      let back : suc j - 1 ≡ j = omega arith in
+      let gap : endOf j < startOf (suc j) = rw back at (next (suc j) (omega arith) l) in
       elim (ℕ-discrete i j) [
-        | yes e ↦ rw e (next j l)
-        | no u ↦ omega (arith, before i j (omega arith) (omega arith), fits j (omega arith) .0, next j l)
+        | yes e ↦ rw e gap
+        | no u ↦ omega (arith, before i j (omega arith) (omega arith), fits j (omega arith) .0)
       ]
 
   -- past the end of window i no window up to it gives a tick, and before the start of window i none from it on
@@ -106,23 +107,23 @@ module _ (b : Board) (ws : List Window) (legal : badWindow b ws ≡ none) where
   off-head : (k : ℕ) → 0 < length ws → k < startOf 0 → σ k ≡ false
   off-head k some h = here k (omega (arith, fits 0 some)) ∙ covers-no b k ws (λ j u. ahead 0 k some h j (omega arith) u)
 
-  pub off-gap : (i k : ℕ) → suc i < length ws → endOf i ≤ k → k < startOf (suc i) → σ k ≡ false
+  pub off-gap : (i k : ℕ) → i < length ws → endOf (i - 1) ≤ k → k < startOf i → σ k ≡ false
   off-gap i k h l m =
-      here k (omega (arith, fits (suc i) h)) ∙ covers-no b k ws
-      (λ j u. elim (decLe j i) [ yes v ↦ passed i k (omega arith) l j v | no v ↦ ahead (suc i) k h m j (omega arith) u ])
+      here k (omega (arith, fits i h)) ∙ covers-no b k ws
+      (λ j u. elim (decLt j i) [ yes v ↦ passed (i - 1) k (omega arith) l j (omega arith) | no v ↦ ahead i k h m j (omega arith) u ])
 
-  off-tail : (i k : ℕ) → suc i ≡ length ws → endOf i ≤ k → k < b .frame → σ k ≡ false
-  off-tail i k h l m = here k m ∙ covers-no b k ws (λ j u. passed i k (omega arith) l j (omega arith))
+  off-tail : (k : ℕ) → endOf (length ws - 1) ≤ k → k < b .frame → σ k ≡ false
+  off-tail k l m = here k m ∙ covers-no b k ws (λ j u. passed (length ws - 1) k (omega arith) l j (omega arith))
 
   module _ (some : 0 < length ws) where
     pub table-periodic : Periodic σ (b .frame)
     table-periodic = supplied-periodic b ws (omega (arith, fits 0 some))
 
     -- so from the end of the last window to the start of the first one of the next frame none is supplied
-    pub off-round : (i k : ℕ) → suc i ≡ length ws → endOf i ≤ k → k < startOf 0 + b .frame → σ k ≡ false
-    off-round i k h l m =
+    pub off-round : (k : ℕ) → endOf (length ws - 1) ≤ k → k < startOf 0 + b .frame → σ k ≡ false
+    off-round k l m =
         elim (decLt k (b .frame)) [
-          | yes u ↦ off-tail i k h l u
+          | yes u ↦ off-tail k l u
           | no u ↦
               let e : k - b .frame + b .frame ≡ k = omega arith in
               ap σ (sym e) ∙ table-periodic .same (k - b .frame) ∙ off-head (k - b .frame) some (omega arith)

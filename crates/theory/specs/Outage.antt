@@ -224,43 +224,63 @@ module _ (σ : ℕ → Bool) where
                 true≢false (sym (r .2) ∙ ap σ e ∙ per .same (s + r .0) ∙ off (r .0) (omega (arith, r .1)))
           ]
 
--- window by window of a legal table
-module _ (b : Board) (ws : List Window) (legal : badWindow b ws ≡ none) (some : 0 < length ws) where
+-- the first i windows are passed: the last of them ends at z, and n is the longest run of those that start from a on and before z
+pub record Passed (b : Board) (ws : List Window) (a i z n : ℕ) : Type 0 where
+  pub some : 0 < i
+  pub few : i ≤ length ws
+  pub end : z ≡ (windowAt ws (i - 1)) .end
+  pub longest : Longest (supplied b ws) a z n
+
+module _ (b : Board) (ws : List Window) (legal : badWindow b ws ≡ none) where
   abbrev σ : ℕ → Bool
   σ = supplied b ws
 
-  abbrev startOf : ℕ → ℕ
-  startOf i = (windowAt ws i) .start
+  pub passed-first : (w : Window) → 0 < length ws → w ≡ windowAt ws 0 → Passed b ws (w .start) 1 (w .end) 0
+  passed-first w some e =
+      let starts = ap (λ (v : Window). v .start) e in
+      let ends = ap (λ (v : Window). v .end) e in
+      record {
+        some = omega arith;
+        few = omega arith;
+        end = ends;
+        longest = longest-on σ (w .start) (w .start) 0 (longest-none σ (w .start)) (w .end)
+            (λ k h l. on-window b ws legal 0 k some (omega arith) (omega arith));
+      }
 
-  abbrev endOf : ℕ → ℕ
-  endOf i = (windowAt ws i) .end
+  module _ (a i z n : ℕ) (so : Passed b ws a i z n) where
+    -- the gap before the next window, and that window
+    pub passed-next : (w : Window) → i < length ws → w ≡ windowAt ws i → (z ≤ w .start) × Passed b ws a (i + 1) (w .end) (max n (w .start - z))
+    passed-next w l e =
+        let starts = ap (λ (v : Window). v .start) e in
+        let ends = ap (λ (v : Window). v .end) e in
+        let after : z < w .start = omega (arith, so .end, next b ws legal i (so .some) l) in
+        let g : ℕ = w .start - z in
+        let gap = longest-gap σ a z n (so .longest) g (λ k h. off-gap b ws legal i (z + k) l (omega (arith, so .end)) (omega arith))
+        (on-window b ws legal i (z + g) l (omega arith) (omega (arith, fits b ws legal i l))) in (
+          omega arith,
+          record {
+            some = omega arith;
+            few = omega arith;
+            end = let back : i + 1 - 1 ≡ i = omega arith in ends ∙ ap (λ (j : ℕ). (windowAt ws j) .end) (sym back);
+            longest = longest-on σ a (z + g) (max n g) gap (w .end) (λ k h m. on-window b ws legal i k l (omega arith) (omega arith));
+          },
+        )
 
-  -- the longest run of those that start from the first window's start on and before the end of window i
-  abbrev pub LongestTo : ℕ → ℕ → Type 0
-  LongestTo i n = Longest σ (startOf 0) (endOf i) n
-
-  pub first-window : LongestTo 0 0
-  first-window =
-      longest-on σ (startOf 0) (startOf 0) 0 (longest-none σ (startOf 0)) (endOf 0) (λ k h l. on-window b ws legal 0 k some h l)
-
-  pub next-window : (i n : ℕ) → suc i < length ws → LongestTo i n → LongestTo (suc i) (max n (startOf (suc i) - endOf i))
-  next-window i n h so =
-      let g : ℕ = startOf (suc i) - endOf i in
-      let e : endOf i + g ≡ startOf (suc i) = omega (arith, next b ws legal i h) in
-      let gap = longest-gap σ (startOf 0) (endOf i) n so g (λ k l. off-gap b ws legal i (endOf i + k) h (omega arith) (omega arith))
-      (on-window b ws legal (suc i) (endOf i + g) h (omega arith) (omega (arith, fits b ws legal (suc i) h))) in
-      longest-on σ (startOf 0) (endOf i + g) (max n g) gap (endOf (suc i)) (λ k l m. on-window b ws legal (suc i) k h (omega arith) m)
-
-  -- after the last one comes the gap to the first window of the next frame
-  pub last-window : (i n : ℕ) → suc i ≡ length ws → LongestTo i n → max n (b .frame - endOf i + startOf 0) ≡ outage σ (b .frame)
-  last-window i n h so =
-      let P : ℕ = b .frame in
-      let g : ℕ = P - endOf i + startOf 0 in
-      let e : endOf i + g ≡ startOf 0 + P = omega (arith, fits b ws legal i (omega arith)) in
-      let per = table-periodic b ws legal some in
-      let gap = longest-gap σ (startOf 0) (endOf i) n so g (λ k l. off-round b ws legal some i (endOf i + k) h (omega arith) (omega arith))
-      (ap σ e ∙ per .same (startOf 0) ∙ on-first b ws legal some) in
-      longest-round σ P (startOf 0) (max n g) per (omega (arith, fits b ws legal 0 some)) (rw e at gap)
+    -- after the last one comes the gap to the first window of the next frame
+    pub passed-last : i ≡ length ws → a ≡ (windowAt ws 0) .start →
+        (z ≤ b .frame) × (a ≤ b .frame) × (max n (b .frame - z + a) ≡ outage σ (b .frame))
+    passed-last l e =
+        let P : ℕ = b .frame in
+        let some : 0 < length ws = omega (arith, so .some) in
+        let per = table-periodic b ws legal some in
+        let last : z ≡ (windowAt ws (length ws - 1)) .end = so .end ∙ ap (λ (j : ℕ). (windowAt ws (j - 1)) .end) l in
+        let in-frame : z ≤ P = omega (arith, fits b ws legal (length ws - 1) (omega arith)) in
+        let first : a < P = omega (arith, fits b ws legal 0 some) in
+        let g : ℕ = P - z + a in
+        let round : z + g ≡ a + P = omega arith in
+        let gap = longest-gap σ a z n (so .longest) g (λ k h. off-round b ws legal some (z + k) (omega arith) (omega arith))
+        (ap σ round ∙ per .same a ∙ ap σ e ∙ on-first b ws legal some) in
+        (in-frame, omega arith, longest-round σ P a (max n g) per first (rw round at gap))
 
 -- ---- the entry
 

@@ -1,6 +1,7 @@
 use mathlib.Core.Path.{_≡_, sym, ap, _∙_}
 use Rattle.scope.specs.Answers.{Fault.fine, Answer.given, tableFault, outageAnswer}
 use Rattle.tables.specs.Told.{boardOf, faultOf}
+use Rattle.theory.specs.Answers.{table-legal}
 use borrow.Author.Needs.{needs}
 use Rattle.tables.proofs.FaultLaws.{refused-by, given-by}
 use Rattle.supply.proofs.partition.outage.Statement.{statement}
@@ -24,7 +25,7 @@ enum-told : tie.Need-enum-told
 enum-told c = search needs
 
 outage-of-requires : tie.Need-outage-of-requires
-outage-of-requires c κs = search needs
+outage-of-requires c κs = table-legal _ _ (fine-at c)
 
 cast-t7 : tie.Need-cast-t7
 cast-t7 c = search needs

@@ -1,72 +1,89 @@
 use mathlib.Core.Path.{_≡_, sym, ap, ap₂, _∙_}
-use mathlib.Core.Bool.{Bool, cond}
-use Prim.Native.Nat.{ℕ, _+_, _-_, _≤_, max}
-use Rattle.scope.specs.Numbers.{greatest}
-use Rattle.scope.specs.Windows.{suppliedBy}
-use Rattle.scope.specs.Partition.{outageBefore, outage}
-use Rattle.tables.specs.Told.{boardOf}
+use Prim.Native.Nat.{ℕ, _+_, _-_, _≤_, _<_, max}
+use lib.ListN.{length}
+use Rattle.scope.specs.Windows.{Window, window, windowsOf, suppliedBy}
+use Rattle.scope.specs.Partition.{outage}
+use Rattle.theory.specs.Lists.{pieces-length}
+use Rattle.theory.specs.Outage.{Passed, passed-first, passed-next, passed-last}
+use Rattle.tables.specs.Told.{boardOf, windowOf}
 use native.Mathlib.Omega.{arith}
 use borrow.Author.Needs.{needs}
-use Rattle.supply.proofs.PartitionLaws.{greatest-more, outage-none, outage-more, outage-le, longest-none}
 use Rattle.supply.proofs.partition.outage_of.Statement.{statement}
 use Rattle.supply.proofs.partition.outage_of.Tie as tie
 use Rattle.supply.proofs.partition.outage_of.Reads as reads
 use Rattle.supply.proofs.partition.outage_of.Lts as lts
+use Rattle.supply.proofs.partition.joined.Reads as joined-reads
 use Rattle.supply.proofs.partition.larger.Reads as larger-reads
-use Rattle.supply.proofs.partition.outage_on.Reads as outage-on-reads
-use Rattle.tables.proofs.window.is_on.Reads as is-on-reads
+use Rattle.tables.proofs.window.window_at.Reads as window-at-reads
 
 abbrev Inv-loop : tie.InvT-loop
-Inv-loop board windows frame lasting₀ most₀ k₀ lasting most k =
-    (k ≤ frame)
-    × (lasting ≡ outageBefore (suppliedBy (boardOf board) windows) k)
-    × (most ≡ greatest (outageBefore (suppliedBy (boardOf board) windows)) (k + 1))
+Inv-loop board windows count first end₀ most₀ i₀ end most i = Passed (boardOf board) (windowsOf windows) (first .start) i end most
 
 abbrev μ-loop : tie.MeasureT-loop
-μ-loop board windows frame lasting₀ most₀ k₀ lasting most k = frame - k
+μ-loop board windows count first end₀ most₀ i₀ end most i = count - i
+
+-- in a turn: the gap before window i, and one window more is passed
+turn : (c : tie.After-struct-known Inv-loop μ-loop) →
+    let a = c .before .before .before .before .before .before .args in
+    let first = c .before .before .before .before .window-at .result in
+    let l = c .before .before .before .loop in
+    let w = c .before .window-at2 .result in
+    (l .end ≤ w .start)
+    × Passed (boardOf (a .board)) (windowsOf (a .windows .now)) (first .start) (l .i + 1) (w .end) (max (l .most) (w .start - l .end))
+turn c =
+    let s = c .before .before .before .before .before .before in
+    let w = c .before .window-at2 in
+    passed-next _ _ (s .pre .windows) _ _ _ _ (c .before .before .before .loop .inv) (windowOf (w .result))
+    (omega (arith, pieces-length Window 2 window (s .args .windows .now))) (w .ensures)
+
+-- after the loop: the gap to the first window of the next frame
+round : (c : tie.After-loop Inv-loop μ-loop) →
+    let a = c .before .before .before .before .args in
+    let first = c .before .before .window-at .result in
+    let l = c .before .loop in
+    (l .end ≤ a .board .frame) × (first .start ≤ a .board .frame)
+    × (max (l .most) (a .board .frame - l .end + first .start) ≡ outage (suppliedBy (boardOf (a .board)) (a .windows .now)) (a .board .frame))
+round c =
+    let s = c .before .before .before .before in
+    let l = c .before .loop in
+    passed-last _ _ (s .pre .windows) _ _ _ _ (l .inv) (omega (arith, l .inv .few, pieces-length Window 2 window (s .args .windows .now)))
+    (ap (λ (w : Window). w .start) (c .before .before .window-at .ensures))
+
+window-at-requires : tie.Need-window-at-requires Inv-loop μ-loop
+window-at-requires c κs = search needs
 
 loop-holds : tie.Need-loop-holds Inv-loop μ-loop
-loop-holds c = (omega arith, sym (outage-none _), sym (longest-none _))
+loop-holds c =
+    let s = c .before .before in
+    passed-first _ _ (s .pre .windows) (windowOf (c .window-at .result))
+    (omega (arith, s .pre .even, s .pre .some, pieces-length Window 2 window (s .args .windows .now))) (c .window-at .ensures)
 
-cast-is-on : tie.Need-cast-is-on Inv-loop μ-loop
-cast-is-on c = search needs
+window-at-requires-2 : tie.Need-window-at-requires-2 Inv-loop μ-loop
+window-at-requires-2 c κs = search needs
 
-is-on-requires : tie.Need-is-on-requires Inv-loop μ-loop
-is-on-requires c κs = search needs
-
-outage-on-requires : tie.Need-outage-on-requires Inv-loop μ-loop
-outage-on-requires c κs =
-    let a = c .before .before .before .before .args in
-    let l = c .before .before .loop in
-    omega (arith, l .inv .1, outage-le (suppliedBy (boardOf (a .board)) (a .windows .now)) (l .k))
+sub-gap : tie.Need-sub-gap Inv-loop μ-loop
+sub-gap c = turn c .0
 
 larger-requires : tie.Need-larger-requires Inv-loop μ-loop
 larger-requires c κs = search needs
 
-add-k : tie.Need-add-k Inv-loop μ-loop
-add-k c = search needs
+add-i : tie.Need-add-i Inv-loop μ-loop
+add-i c = search needs
 
 loop-less : tie.Need-loop-less Inv-loop μ-loop
 loop-less c = search needs
 
 loop-again : tie.Need-loop-again Inv-loop μ-loop
-loop-again c =
-    let a = c .before .before .before .before .before .before .args in
-    let l = c .before .before .before .before .loop in
-    let σ = suppliedBy (boardOf (a .board)) (a .windows .now) in
-    let r : c .before .outage-on .result ≡ outageBefore σ (l .k + 1) =
-    c .before .outage-on .ensures
-    ∙ ap₂ (λ (on : Bool) (n : ℕ). cond on 0 (n + 1)) (c .before .before .is-on .ensures) (l .inv .1)
-    ∙ sym (outage-more σ (l .k)) in
-    (omega arith, r, c .larger .ensures ∙ ap₂ max (l .inv .2) r ∙ sym (greatest-more (outageBefore σ) (l .k + 1)))
+loop-again c = rw (c .larger .ensures) (turn (c .before) .1)
+
+joined-requires : tie.Need-joined-requires Inv-loop μ-loop
+joined-requires c κs = let r = round c in (r .0, r .1, c .before .before .before .before .pre .frame-most)
+
+larger-requires-2 : tie.Need-larger-requires-2 Inv-loop μ-loop
+larger-requires-2 c κs = search needs
 
 returns : tie.Need-returns Inv-loop μ-loop
-unfolding outage
-returns c =
-    let a = c .before .before .before .args in
-    let l = c .before .loop in
-    let e : l .k ≡ a .board .frame = omega arith in
-    l .inv .2 ∙ ap (λ (k : ℕ). greatest (outageBefore (suppliedBy (boardOf (a .board)) (a .windows .now))) (k + 1)) e
+returns c = c .larger2 .ensures ∙ ap (max (c .before .before .before .loop .most)) (c .before .joined .ensures) ∙ round (c .before .before) .2
 
 pub outage-of-spec : {M : Type 1} → statement M
 outage-of-spec =
@@ -74,12 +91,14 @@ outage-of-spec =
     (tie.spec
     Inv-loop
     μ-loop
+    window-at-requires
     loop-holds
-    cast-is-on
-    is-on-requires
-    outage-on-requires
+    window-at-requires-2
+    sub-gap
     larger-requires
-    add-k
+    add-i
     loop-less
     loop-again
+    joined-requires
+    larger-requires-2
     returns)
