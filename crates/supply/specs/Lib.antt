@@ -1,2 +1,3 @@
 pub mod Slid
 pub mod Refused
+pub mod Outage

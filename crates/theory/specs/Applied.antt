@@ -1,5 +1,6 @@
 -- The theorems at marked examples: their premises are the rows of the table of examples, so none of them is empty
 use mathlib.Core.Path.{_≡_, refl, ap, _∙_}
+use mathlib.Core.Bool.{true}
 use mathlib.Core.Option.{some}
 use mathlib.Core.List.{List, [], _∷_, _++_}
 use Prim.Native.Nat.{ℕ, zero, suc, _-_, _*_, _≤_, _<_}
@@ -19,14 +20,15 @@ use Rattle.scope.specs.Plan.{Plan, planOf, planAnswer, numberBytesWithin, numbe
 use Rattle.scope.specs.Line.{lineAnswer, lineOut}
 use Rattle.scope.specs.Run.{Outcome.met, outcome, countOf, counts}
 use Rattle.scope.specs.Answers.{Answer.given, Answer.refused, windowListFault, taskListFault, verdictAnswer, boundAnswer, runAnswer, runOut, criticalAnswer}
-use Rattle.scope.specs.Answers.{criticalOut}
-use Rattle.scope.specs.Demands.{LeastMiss, Way, givenTo, Served}
-use Rattle.scope.specs.Examples.{Reply.windows, Reply.bytesIn, Reply.aVerdict, Reply.bounds, Reply.aRun, X, on, reply, table, examples, row}
+use Rattle.scope.specs.Answers.{criticalOf, criticalOut, leastSupplyAnswer, outageAnswer}
+use Rattle.scope.specs.Demands.{Silent, LeastMiss, Way, givenTo, Served}
+use Rattle.scope.specs.Examples.{Reply.amounts, Reply.windows, Reply.bytesIn, Reply.aVerdict, Reply.bounds, Reply.aRun, X, on, reply, table, examples, row}
 use Rattle.scope.specs.Computing.{everything}
 use Rattle.theory.specs.Numbers.{by-lexically}
 use Rattle.theory.specs.Answers.{run-given}
 use Rattle.theory.specs.Exact.{exact-meets, exact-miss}
 use Rattle.theory.specs.Bound.{exact-bound}
+use Rattle.theory.specs.Outage.{outage-run, outage-no-longer, outage-supply, outage-greatest-length, outage-zero, outage-critical, outage-asked}
 use Rattle.theory.specs.Machine.{machine-under}
 use Rattle.theory.specs.Edf.{edf-meets, edf-every}
 use Rattle.theory.specs.Starved.{starved}
@@ -83,6 +85,48 @@ w6-exact = exact-miss (on 8) X w6 (miss 6 2 3 2) w6-misses 6 2 3 2 .0 refl
 
 w11-exact : (u : ℕ) → 1 ≤ u → u < 7 → asked (tasksOf w11) 1 u ≤ leastSupply (suppliedBy (on 8) X) 8 u → ⊥
 w11-exact = exact-bound (on 8) X w11 1 (bound 7) w11-bounds 7 .0 refl .3
+
+-- ---- the outage that runs over midnight: the lab's table is silent for 6 ticks from tick 5 on, X for 3
+
+abbrev lab : List ℕ
+lab = 3 ∷ 5 ∷ []
+
+lab-outage : outageAnswer (on 8) lab ≡ given 6
+unfolding reply table
+lab-outage = let e : amounts (outageAnswer (on 8) lab ∷ []) ≡ amounts (given 6 ∷ []) = row table examples "outage over midnight" in cc
+
+x-outage : outageAnswer (on 8) X ≡ given 3
+unfolding reply table
+x-outage = let e : amounts (outageAnswer (on 8) X ∷ []) ≡ amounts (given 3 ∷ []) = row table examples "outage of X" in cc
+
+full-outage : outageAnswer (on 8) (0 ∷ 8 ∷ []) ≡ given 0
+unfolding reply table
+full-outage = let e : amounts (outageAnswer (on 8) (0 ∷ 8 ∷ []) ∷ []) ≡ amounts (given 0 ∷ []) = row table examples "no outage" in cc
+
+-- 6 silent ticks in a row; 7, in the thousandth frame say, are nowhere
+lab-run : (s : ℕ) × (s < 8) × Silent (suppliedBy (on 8) lab) s 6
+lab-run = outage-run (on 8) lab 6 lab-outage
+
+lab-no-seven : Silent (suppliedBy (on 8) lab) 8005 7 → ⊥
+lab-no-seven h = omega (arith, outage-no-longer (on 8) lab 6 lab-outage 8005 7 h)
+
+lab-least : (leastSupplyAnswer (on 8) lab 6 ≡ given 0) × (p : ℕ) × (leastSupplyAnswer (on 8) lab 7 ≡ given p) × (0 < p)
+lab-least = outage-supply (on 8) lab 6 lab-outage
+
+full-supplied : (k : ℕ) → suppliedBy (on 8) (0 ∷ 8 ∷ []) k ≡ true
+full-supplied = outage-zero (on 8) (0 ∷ 8 ∷ []) 0 full-outage .0 refl
+
+lab-greatest : (t : ℕ) → leastSupply (suppliedBy (on 8) lab) 8 t ≡ 0 → t ≤ 6
+lab-greatest = outage-greatest-length (on 8) lab 6 lab-outage
+
+-- W2's first critical window starts at 3
+x-critical : (rest : List ℕ) × (criticalOf (on 8) X ≡ 3 ∷ rest)
+x-critical = outage-critical (on 8) X 3 x-outage
+
+-- asked as one tick of work each frame, due in 6
+lab-asked : (s : ℕ) × (verdictAnswer (on 8) lab (1 ∷ 8 ∷ 6 ∷ []) ≡ given (miss 6 s 1 0)) × Silent (suppliedBy (on 8) lab) s 6
+    × ((r : ℕ) → r < s → Silent (suppliedBy (on 8) lab) r 6 → ⊥)
+lab-asked = outage-asked (on 8) lab 6 lab-outage (omega arith)
 
 -- ---- demand 3
 

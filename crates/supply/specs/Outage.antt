@@ -1,0 +1,33 @@
+-- Request 1, of what the entries answer: the outage is the greatest length whose least supply is 0, and the first number that `critical` writes
+use mathlib.Core.Path.{_≡_, sym, _∙_}
+use mathlib.Core.List.{List}
+use Prim.Native.Nat.{ℕ, _+_, _<_}
+use lib.ListN.{length, getD}
+use Rattle.scope.specs.Numbers.{written}
+use Rattle.scope.specs.Answers.{leastSupplyAnswer, criticalFault, criticalAnswer, criticalOut, outageAnswer}
+use Rattle.theory.specs.Outage.{outage-supply, outage-critical}
+use Rattle.theory.specs.Answers.{unless-given}
+use Rattle.tables.specs.declared.board.Board.{Board}
+use Rattle.tables.specs.declared.answer.Amount.{Amount}
+use Rattle.tables.specs.declared.answer.Amount.the-variants.{Of}
+use Rattle.tables.specs.Told.{boardOf, toldAmount}
+use Rattle.tables.specs.Determined.{amount-determined}
+
+module _ (b : Board) (ws : List ℕ) (n : ℕ) (told : toldAmount (Of n) ≡ outageAnswer (boardOf b) ws) where
+  -- what `least_supply` answers at the outage, and at one tick more
+  pub no-supply : (r : Amount) → toldAmount r ≡ leastSupplyAnswer (boardOf b) ws n → r ≡ Of 0
+  no-supply r e = amount-determined r (Of 0) (e ∙ outage-supply (boardOf b) ws n (sym told) .0)
+
+  pub some-supply : (r : Amount) → toldAmount r ≡ leastSupplyAnswer (boardOf b) ws (n + 1) → (p : ℕ) × (r ≡ Of p) × (0 < p)
+  some-supply r e =
+      let s = outage-supply (boardOf b) ws n (sym told) in
+      (s .1, amount-determined r (Of (s .1)) (e ∙ s .2), s .3)
+
+  -- what `critical` leaves in a buffer that is long enough
+  pub starts-partition : (out left : List ℕ) (k : ℕ) → toldAmount (Of k) ≡ criticalAnswer (boardOf b) ws (length out) →
+      left ≡ criticalOut (boardOf b) ws out → getD left 0 0 ≡ n
+  unfolding criticalAnswer criticalOut written
+  starts-partition out left k e wrote =
+      let fine-at = unless-given (criticalFault (boardOf b) ws (length out)) _ k (sym e) .0 in
+      let c = outage-critical (boardOf b) ws n (sym told) in
+      rw (wrote, fine-at, c .1)
