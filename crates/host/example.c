@@ -12,6 +12,7 @@
 /* the table X: a frame of 8 ticks, supplied in 0, 1, 5 and 6 */
 #define FRAME 8
 static const uint32_t X[] = {0, 2, 5, 7};
+static const uint32_t LAB[] = {3, 5};
 
 static const uint32_t W4[] = {1, 4, 4};
 static const uint32_t W5[] = {1, 4, 3};
@@ -125,6 +126,7 @@ static void examples(void)
     critical(5); /* W2 */
     line("", palikudyom_delay(FRAME, LIST(X))); /* W3 */
     line("OUTAGE ", palikudyom_outage(FRAME, LIST(X)));
+    line("OUTAGE ", palikudyom_outage(FRAME, LIST(LAB))); /* over the end of the frame */
     verdict(LIST(W4));
     verdict(LIST(W5));
     verdict(LIST(W6));

@@ -71,7 +71,7 @@ struct palikudyom_answer palikudyom_critical(uint32_t frame, const uint32_t *win
 /* DELAY; 1 2 3 */
 struct palikudyom_answer palikudyom_delay(uint32_t frame, const uint32_t *windows, size_t windows_len);
 
-/* The longest outage inside one frame. AMOUNT; 1 2 3 */
+/* The longest outage, over endless frames: the end of one joins the start of the next. AMOUNT; 1 2 3 */
 struct palikudyom_answer palikudyom_outage(uint32_t frame, const uint32_t *windows, size_t windows_len);
 
 /* The demand of the group at `length`. AMOUNT; 4 5 7 */

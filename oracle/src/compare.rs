@@ -35,7 +35,7 @@ pub fn random(seed: u64, count: u64, command: &[&str]) -> io::Result<bool> {
     comparison.summary()
 }
 
-/// Compares every small verdict; true where there is no difference.
+/// Compares every small outage and verdict; true where there is no difference.
 pub fn enumeration(command: &[&str]) -> io::Result<bool> {
     let mut comparison = Comparison::new(command);
     for bytes in enumerate::streams() {

@@ -1,4 +1,4 @@
-//! Every small table and every small group on it.
+//! Every small table, and every small group on the smaller ones.
 
 use crate::numbers::encode;
 use crate::query::Query;
@@ -6,18 +6,14 @@ use crate::stream::MOST_BYTES;
 use crate::table::TableNumbers;
 use crate::tasks::TaskNumbers;
 
+/// Outages take no group, so larger frames are still few queries.
+const MOST_FRAME_OF_OUTAGES: u64 = 12;
 const MOST_FRAME: u64 = 7;
 const MOST_PERIOD: u64 = 6;
 
-/// Streams of the verdicts of every table with P up to 7 and every group of up to two tasks with
-/// T up to 6, D up to T and C up to T + 1.
+/// Streams of every small outage and then of every small verdict.
 pub fn streams() -> impl Iterator<Item = Vec<u8>> {
-    let groups = groups();
-    let queries = tables(MOST_FRAME).into_iter().flat_map(move |table| {
-        let verdict =
-            |group: &Vec<u64>| Query::Verdict(table.clone(), TaskNumbers::Triples(group.clone()));
-        groups.iter().map(verdict).collect::<Vec<Query>>()
-    });
+    let queries = outages().chain(verdicts());
     let mut encoded = queries.map(|query| encode(&query.numbers())).peekable();
     std::iter::from_fn(move || {
         encoded.peek()?;
@@ -26,6 +22,22 @@ pub fn streams() -> impl Iterator<Item = Vec<u8>> {
             stream.extend(query);
         }
         Some(stream)
+    })
+}
+
+/// The outage of every table with P up to 12.
+fn outages() -> impl Iterator<Item = Query> {
+    tables(MOST_FRAME_OF_OUTAGES).into_iter().map(Query::Outage)
+}
+
+/// The verdicts of every table with P up to 7 and every group of up to two tasks with T up to 6,
+/// D up to T and C up to T + 1.
+fn verdicts() -> impl Iterator<Item = Query> {
+    let groups = groups();
+    tables(MOST_FRAME).into_iter().flat_map(move |table| {
+        let verdict =
+            |group: &Vec<u64>| Query::Verdict(table.clone(), TaskNumbers::Triples(group.clone()));
+        groups.iter().map(verdict).collect::<Vec<Query>>()
     })
 }
 
@@ -85,5 +97,9 @@ mod tests {
         assert_eq!(tables(MOST_FRAME).len(), 254 - 7);
         assert_eq!(groups().len(), 1 + 112 + 112 * 112);
         assert!(tables(MOST_FRAME).iter().all(|table| table.check().is_ok()));
+        // Sets of 1 to 12 ticks: 2^13 - 2 with the 12 empty ones.
+        assert_eq!(outages().count(), 8_190 - 12);
+        let is_outage = |query: Query| query.line().starts_with("OUTAGE ");
+        assert!(outages().all(is_outage));
     }
 }

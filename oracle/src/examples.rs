@@ -1,4 +1,5 @@
-//! Document 01's marked examples, limits, four errors and plan, copied by hand.
+//! Document 01's marked examples, limits, four errors and plan, copied by hand, and outages by
+//! document 02's request 1, worked out by hand.
 
 use crate::answer::Answer;
 use crate::plan::plan;
@@ -23,6 +24,10 @@ fn triples(group: &[[u64; 3]]) -> TaskNumbers {
 
 fn records(group: &[[u64; 3]]) -> TaskNumbers {
     TaskNumbers::Records(group.to_vec())
+}
+
+fn outage(frame: u64, windows: &[u64]) -> String {
+    Query::Outage(table(frame, windows)).line()
 }
 
 /// The verdict on X, the same in triples, in records and from a plan file.
@@ -86,11 +91,69 @@ fn w3_delay() {
     assert_eq!(Query::Delay(x()).line(), "DELAY 12 of 4");
 }
 
+/// "The example now reads 6, and X still reads 3."
 #[test]
-fn outage_inside_one_frame() {
+fn outage_over_endless_frames() {
+    // Ticks 2 to 4. Tick 7 is silent too, but the next frame begins with supply.
     assert_eq!(Query::Outage(x()).line(), "OUTAGE 3");
-    assert_eq!(Query::Outage(table(8, &[3, 5])).line(), "OUTAGE 3");
-    assert_eq!(Query::Outage(table(8, &[0, 8])).line(), "OUTAGE 0");
+    // Ticks 5 to 7, then 0 to 2 of the next frame.
+    assert_eq!(outage(8, &[3, 5]), "OUTAGE 6");
+    // "0 if every tick is supplied."
+    assert_eq!(outage(8, &[0, 8]), "OUTAGE 0");
+    // Ticks 10 and 11 and then 0 are 3, but ticks 3 to 7 inside the frame are 5.
+    assert_eq!(outage(12, &[1, 3, 8, 10]), "OUTAGE 5");
+}
+
+/// Ticks 4 to 7 inside the frame are 4; tick 10 to the end joins ticks 0 and 1.
+#[test]
+fn outage_joined_shorter_equal_and_longer() {
+    let windows = [2, 4, 8, 10];
+    assert_eq!(outage(11, &windows), "OUTAGE 4", "1 and 2 join");
+    assert_eq!(outage(12, &windows), "OUTAGE 4", "2 and 2 join");
+    assert_eq!(outage(13, &windows), "OUTAGE 5", "3 and 2 join");
+}
+
+#[test]
+fn outage_with_a_window_at_an_end() {
+    // A window that ends at P: nothing is silent there to join ticks 0 and on.
+    assert_eq!(outage(8, &[5, 8]), "OUTAGE 5", "0 to 4");
+    assert_eq!(outage(8, &[4, 5, 7, 8]), "OUTAGE 4", "0 to 3, then 5 and 6");
+    assert_eq!(outage(8, &[2, 3, 6, 8]), "OUTAGE 3", "0 and 1, then 3 to 5");
+    // One that starts at 0: nothing is silent there to join the end.
+    assert_eq!(outage(8, &[0, 3]), "OUTAGE 5", "3 to 7");
+    assert_eq!(outage(8, &[0, 1, 3, 4]), "OUTAGE 4", "1 and 2, then 4 to 7");
+    assert_eq!(outage(8, &[0, 2, 5, 6]), "OUTAGE 3", "2 to 4, then 6 and 7");
+    // Both.
+    assert_eq!(outage(8, &[0, 1, 7, 8]), "OUTAGE 6", "1 to 6");
+}
+
+#[test]
+fn outage_at_the_limits() {
+    // A frame of one tick can only be full; in one of two, every other tick is silent.
+    assert_eq!(outage(1, &[0, 1]), "OUTAGE 0");
+    assert_eq!(outage(2, &[0, 1]), "OUTAGE 1");
+    assert_eq!(outage(2, &[1, 2]), "OUTAGE 1");
+    // The longest frame: all ticks but one are silent, wherever that one is.
+    assert_eq!(outage(65_536, &[0, 1]), "OUTAGE 65535");
+    assert_eq!(outage(65_536, &[30_000, 30_001]), "OUTAGE 65535");
+    assert_eq!(outage(65_536, &[65_535, 65_536]), "OUTAGE 65535");
+    // Only its last tick and tick 0 are silent; then none is.
+    assert_eq!(outage(65_536, &[1, 65_535]), "OUTAGE 2");
+    assert_eq!(outage(65_536, &[0, 65_536]), "OUTAGE 0");
+    // 64 windows: ticks 1, 3 and on to 127. Tick 128, if there is one, joins tick 0.
+    let odd: Vec<u64> = (0..64).flat_map(|i| [2 * i + 1, 2 * i + 2]).collect();
+    assert_eq!(outage(128, &odd), "OUTAGE 1");
+    assert_eq!(outage(129, &odd), "OUTAGE 2");
+}
+
+/// Frames join, but a window may still not run from one frame into the next.
+#[test]
+fn outage_refused_as_before() {
+    assert_eq!(outage(8, &[3]), "REFUSED 1 at 0");
+    assert_eq!(outage(0, &[3, 5]), "REFUSED 2 at 0");
+    assert_eq!(outage(65_537, &[3, 5]), "REFUSED 2 at 0");
+    assert_eq!(outage(8, &[6, 9]), "REFUSED 3 at 0");
+    assert_eq!(outage(8, &[3, 4, 6, 2]), "REFUSED 3 at 1");
 }
 
 #[test]
@@ -190,8 +253,7 @@ fn illegal_job_lists() {
 
 #[test]
 fn at_the_limits() {
-    let touching = table(8, &[0, 2, 2, 4]);
-    assert_eq!(Query::Outage(touching).line(), "REFUSED 3 at 1");
+    assert_eq!(outage(8, &[0, 2, 2, 4]), "REFUSED 3 at 1");
     assert_eq!(verdict(&[[1, 1_000_000, 1_000_000]]), "MEETS cycle 1000000");
     assert_eq!(verdict(&[[1, 999_999, 999_999]]), "REFUSED 6 at 0");
 }
@@ -260,17 +322,16 @@ fn refusals_in_order() {
     let over = triples(&[[1, 999_999, 4]]);
     assert_eq!(asked(8, &[0, 8], &over), "REFUSED 7 at 0");
     assert_eq!(Query::Bound(x(), over, 0).line(), "BOUND 4");
-    // A window that ends at P beside one that starts at 0.
-    assert_eq!(Query::Outage(table(8, &[0, 1, 7, 8])).line(), "OUTAGE 6");
+    // A window that ends at P beside one that starts at 0 touches none.
+    assert_eq!(outage(8, &[0, 1, 7, 8]), "OUTAGE 6");
     // 64 windows and 65, 32 tasks and 33.
     let ticks = |count| {
         (0..count)
             .flat_map(|i| [2 * i, 2 * i + 1])
             .collect::<Vec<u64>>()
     };
-    assert_eq!(Query::Outage(table(200, &ticks(64))).line(), "OUTAGE 73");
-    let line = Query::Outage(table(200, &ticks(65))).line();
-    assert_eq!(line, "REFUSED 1 at 0");
+    assert_eq!(outage(200, &ticks(64)), "OUTAGE 73");
+    assert_eq!(outage(200, &ticks(65)), "REFUSED 1 at 0");
     let line = |count| Query::Demand(triples(&vec![[1, 1, 1]; count]), 1).line();
     assert_eq!(line(32), "DEMAND 32");
     assert_eq!(line(33), "REFUSED 4 at 0");

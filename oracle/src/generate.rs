@@ -5,6 +5,7 @@ use std::collections::BTreeSet;
 
 use crate::answer::Answer;
 use crate::machine::{Job, MOST_RUN};
+use crate::outages;
 use crate::plan;
 use crate::query::{Query, RunNumbers};
 use crate::random::Random;
@@ -36,7 +37,7 @@ pub fn query(r: &mut Random) -> Query {
 fn any_query(r: &mut Random) -> Query {
     // One query in ten has faults in half of its arguments, so that their order counts.
     let faults = if r.once_in(10) { 2 } else { 25 };
-    match r.below(20) {
+    match r.below(24) {
         0 => least_supply_query(r, faults),
         1 | 2 => critical_partition_query(r, faults),
         3 => Query::Delay(narrow_table(r, faults)),
@@ -46,7 +47,8 @@ fn any_query(r: &mut Random) -> Query {
         8..=11 => verdict_query(r, faults),
         12 | 13 => bound_query(r, faults),
         14..=17 => run_query(r, faults),
-        _ => Query::Plan(plan_bytes(r, faults)),
+        18 | 19 => Query::Plan(plan_bytes(r, faults)),
+        _ => outage_query(r, faults),
     }
 }
 
@@ -104,6 +106,12 @@ fn critical_partition_query(r: &mut Random, faults: u64) -> Query {
     });
     let room = room(r, known);
     Query::CriticalPartition(table, room)
+}
+
+/// An outage at an edge of document 02's request 1, refused as often as others.
+fn outage_query(r: &mut Random, faults: u64) -> Query {
+    let table = outages::table_at_an_edge(r);
+    Query::Outage(lent_table(r, faults, table))
 }
 
 fn demand_query(r: &mut Random, faults: u64) -> Query {

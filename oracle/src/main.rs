@@ -1,10 +1,12 @@
-//! The independent second program of Palikudyom: document 01 read from scratch, by brute force.
+//! The independent second program of Palikudyom: document 01 and request 1 of document 02, read
+//! from scratch, by brute force.
 //!
 //! To believe its answers, read `numbers`, `answer`, `table`, `tasks`, `verdict`, `bound`,
-//! `machine` and `plan`, in this order, and `examples`, which are document 01's own; then `query`
-//! and `stream`, which are docs/ASK.md's. The other files make streams (`generate`, `spoil`, `batch`,
-//! `enumerate`, `random`, `text`) and compare (`compare`): a fault there can hide a difference in
-//! the first program but can't change an answer.
+//! `machine` and `plan`, in this order, and `examples`, which are the documents' own and some
+//! worked out by hand; then `query` and `stream`, which are docs/ASK.md's. The other files make
+//! streams (`generate`, `outages`, `spoil`, `batch`, `enumerate`, `random`, `text`) and compare
+//! (`compare`): a fault there can hide a difference in the first program but can't change an
+//! answer.
 
 mod answer;
 mod batch;
@@ -16,6 +18,7 @@ mod examples;
 mod generate;
 mod machine;
 mod numbers;
+mod outages;
 mod plan;
 mod query;
 mod random;
@@ -38,7 +41,7 @@ usage: oracle answer < stream       answer a query stream, a line each
        oracle compare SEED COUNT [COMMAND ...]
                                     compare with a command's answers to random streams
        oracle enumerate [COMMAND ...]
-                                    compare with its verdicts of every small input
+                                    compare with its outages and verdicts of every small input
 COMMAND is `tools/run-program palikudyom --ask` unless it is given.
 ";
 

@@ -1,5 +1,5 @@
 //! The window table and what follows from it alone (document 01, "Tables and sizes" and
-//! "Supply and demand").
+//! "Supply and demand"; document 02, request 1).
 
 use crate::answer::{Answer, Reason, Refusal};
 
@@ -128,11 +128,16 @@ impl Table {
         greatest
     }
 
-    /// The longest run of unsupplied ticks inside one frame, ticks 0 to P-1.
+    /// "The longest outage is the longest run of unsupplied ticks over endless frames, 0 if every
+    /// tick is supplied." (Document 02, request 1.)
+    ///
+    /// Two frames are enough: a legal table supplies a tick of every frame, so a run has fewer
+    /// than P ticks. Every frame is alike, so it may be moved by whole frames to begin in the
+    /// first one, and then it ends in the second at the latest.
     pub fn longest_outage(&self) -> u64 {
         let (mut longest, mut run) = (0, 0);
-        for &supplied in &self.supplied {
-            run = if supplied { 0 } else { run + 1 };
+        for tick in 0..2 * self.frame() {
+            run = if self.is_supplied(tick) { 0 } else { run + 1 };
             longest = longest.max(run);
         }
         longest
@@ -223,6 +228,34 @@ mod tests {
                 let start = (0..frame).find(|&s| counted(&table, s, length) == least);
                 assert_eq!(table.least_start(length), start.unwrap());
             }
+        }
+    }
+
+    /// "It must also be the greatest length whose least supply is 0." That is where the first
+    /// critical window starts. On every table with P up to 8, with lengths up to 3P.
+    #[test]
+    fn outage_is_the_greatest_length_without_supply() {
+        for lent in crate::enumerate::tables(8) {
+            let table = lent.check().unwrap();
+            let outage = table.longest_outage();
+            let lengths = 0..=3 * table.frame();
+            let without = lengths.filter(|&length| table.least_supply(length) == 0);
+            assert_eq!(Some(outage), without.max(), "{lent:?}");
+            assert_eq!(outage, table.critical_windows()[0].0, "{lent:?}");
+        }
+    }
+
+    /// Two frames hold as long a run as six do, on every table with P up to 8.
+    #[test]
+    fn outage_of_two_frames_is_that_of_more() {
+        for lent in crate::enumerate::tables(8) {
+            let table = lent.check().unwrap();
+            let is_silent = |start, length| counted(&table, start, length) == 0;
+            let within = 6 * table.frame();
+            let silent =
+                |length: &u64| (0..=within - length).any(|start| is_silent(start, *length));
+            let longest = (0..=within).filter(silent).max();
+            assert_eq!(Some(table.longest_outage()), longest, "{lent:?}");
         }
     }
 

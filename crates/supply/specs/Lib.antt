@@ -1,3 +1,4 @@
 pub mod Slid
 pub mod Refused
 pub mod Outage
+pub mod Applied

@@ -88,14 +88,14 @@ w11-exact = exact-bound (on 8) X w11 1 (bound 7) w11-bounds 7 .0 refl .3
 
 -- ---- the outage that runs over midnight: the lab's table is silent for 6 ticks from tick 5 on, X for 3
 
-abbrev lab : List ℕ
+abbrev pub lab : List ℕ
 lab = 3 ∷ 5 ∷ []
 
-lab-outage : outageAnswer (on 8) lab ≡ given 6
+pub lab-outage : outageAnswer (on 8) lab ≡ given 6
 unfolding reply table
 lab-outage = let e : amounts (outageAnswer (on 8) lab ∷ []) ≡ amounts (given 6 ∷ []) = row table examples "outage over midnight" in cc
 
-x-outage : outageAnswer (on 8) X ≡ given 3
+pub x-outage : outageAnswer (on 8) X ≡ given 3
 unfolding reply table
 x-outage = let e : amounts (outageAnswer (on 8) X ∷ []) ≡ amounts (given 3 ∷ []) = row table examples "outage of X" in cc
 
