@@ -51,6 +51,11 @@ typedef struct palikudyom_answer ask(const struct input *x, uint32_t *buffer);
         (void)buffer;                                                                                                   \
         return side##_delay(x->frame, x->windows, x->windows_len);                                                      \
     }                                                                                                                   \
+    static struct palikudyom_answer side##_asked_for_outage(const struct input *x, uint32_t *buffer)                   \
+    {                                                                                                                   \
+        (void)buffer;                                                                                                   \
+        return side##_outage(x->frame, x->windows, x->windows_len);                                                     \
+    }                                                                                                                   \
     static struct palikudyom_answer side##_asked_for_verdict(const struct input *x, uint32_t *buffer)                  \
     {                                                                                                                   \
         (void)buffer;                                                                                                   \
@@ -84,6 +89,7 @@ struct entry {
 static const struct entry LEAST_SUPPLY = {"least supply", palikudyom_asked_for_least_supply, plain_asked_for_least_supply};
 static const struct entry CRITICAL = {"critical partition", palikudyom_asked_for_critical, plain_asked_for_critical};
 static const struct entry DELAY = {"delay", palikudyom_asked_for_delay, plain_asked_for_delay};
+static const struct entry OUTAGE = {"outage", palikudyom_asked_for_outage, plain_asked_for_outage};
 static const struct entry VERDICT = {"verdict", palikudyom_asked_for_verdict, plain_asked_for_verdict};
 static const struct entry BOUND = {"bound", palikudyom_asked_for_bound, plain_asked_for_bound};
 static const struct entry RUN = {"run", palikudyom_asked_for_run, plain_asked_for_run};
@@ -475,6 +481,9 @@ static const struct one_case CASES[] = {
     {&DELAY, "small: P 8, 2 windows", PALIKUDYOM_DELAY, small_table},
     {&DELAY, "typical: P 1,000, 8 windows", PALIKUDYOM_DELAY, typical_table},
     {&DELAY, "heavy: P 768, 64 windows", PALIKUDYOM_DELAY, heavy_delay},
+    {&OUTAGE, "small: P 8, 2 windows", PALIKUDYOM_AMOUNT, small_table},
+    {&OUTAGE, "typical: P 1,000, 8 windows", PALIKUDYOM_AMOUNT, typical_table},
+    {&OUTAGE, "worst: P 65,536, 64 windows", PALIKUDYOM_AMOUNT, worst_least_supply},
     {&VERDICT, "small: P 8, 2 windows, 2 tasks, meets, H 8", PALIKUDYOM_MEETS, small_verdict},
     {&VERDICT, "typical: P 1,000, 8 windows, 8 tasks, meets, H 10,000", PALIKUDYOM_MEETS, typical_verdict},
     {&VERDICT, "heavy: P 160, 64 windows, 32 tasks, meets, H 1,000,000", PALIKUDYOM_MEETS, heavy_verdict},
@@ -505,12 +514,14 @@ static const struct growth GROWTHS[] = {
     {&LEAST_SUPPLY, "P", "8 windows, length P − 1", PALIKUDYOM_AMOUNT, least_supply_by_frame, {1024, 2048, 4096, 8192}},
     {&CRITICAL, "P", "8 windows", PALIKUDYOM_AMOUNT, table_by_frame, {128, 256, 512, 1024}},
     {&DELAY, "P", "8 windows", PALIKUDYOM_DELAY, table_by_frame, {256, 512, 1024, 2048}},
+    {&OUTAGE, "P", "8 windows", PALIKUDYOM_AMOUNT, table_by_frame, {256, 512, 1024, 2048}},
     {&VERDICT, "P", "8 windows, 3 tasks, H 65,536", PALIKUDYOM_MEETS, verdict_by_frame, {1024, 2048, 4096, 8192}},
     {&BOUND, "P", "8 windows, 2 tasks, D 500, no bound", PALIKUDYOM_NO_BOUND, bound_by_frame, {1024, 2048, 4096, 8192}},
     {&RUN, "P", "8 windows, 1 task, 50,000 ticks", PALIKUDYOM_MET, run_by_frame, {1024, 2048, 4096, 8192}},
     {&LEAST_SUPPLY, "windows", "P 4,096, length 4,095", PALIKUDYOM_AMOUNT, least_supply_by_windows, {1, 8, 64}},
     {&CRITICAL, "windows", "P 256", PALIKUDYOM_AMOUNT, table_by_windows, {1, 8, 64}},
     {&DELAY, "windows", "P 256", PALIKUDYOM_DELAY, table_by_windows, {1, 8, 64}},
+    {&OUTAGE, "windows", "P 256", PALIKUDYOM_AMOUNT, table_by_windows, {1, 8, 64}},
     {&VERDICT, "windows", "P 1,024, 3 tasks, H 65,536", PALIKUDYOM_MEETS, verdict_by_windows, {1, 8, 64}},
     {&BOUND, "windows", "P 1,024, 2 tasks, D 500, no bound", PALIKUDYOM_NO_BOUND, bound_by_windows, {1, 8, 64}},
     {&RUN, "windows", "P 4,096, 1 task, 50,000 ticks", PALIKUDYOM_MET, run_by_windows, {1, 8, 64}},

@@ -249,7 +249,7 @@ struct palikudyom_answer plain_least_supply(uint32_t frame, const uint32_t *at, 
     return one(PALIKUDYOM_AMOUNT, least_of(frame, windows, length));
 }
 
-/* Critical partition and delay: partition.rt */
+/* Critical partition, delay and outage: partition.rt */
 
 static bool is_critical(uint32_t frame, struct list windows, uint32_t k)
 {
@@ -323,6 +323,28 @@ struct palikudyom_answer plain_delay(uint32_t frame, const uint32_t *at, size_t 
         return refused(table);
     uint32_t per_frame = supply_from(frame, windows, 0, frame);
     return two(PALIKUDYOM_DELAY, delay_of(frame, windows, per_frame), per_frame);
+}
+
+static uint32_t larger(uint32_t a, uint32_t b)
+{
+    return a < b ? b : a;
+}
+
+static uint32_t outage_of(uint32_t frame, struct list windows)
+{
+    uint32_t most = 0;
+    for (size_t i = 1; i < windows.len / 2; i++)
+        most = larger(most, windows.at[2 * i] - windows.at[2 * i - 1]);
+    return larger(most, frame - windows.at[windows.len - 1] + windows.at[0]);
+}
+
+struct palikudyom_answer plain_outage(uint32_t frame, const uint32_t *at, size_t len)
+{
+    struct list windows = {at, len};
+    struct checked table = check_table(frame, windows);
+    if (is_bad(table))
+        return refused(table);
+    return one(PALIKUDYOM_AMOUNT, outage_of(frame, windows));
 }
 
 /* The verdict: demand.rt, cycle.rt, verdict.rt */

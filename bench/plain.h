@@ -9,6 +9,7 @@ struct palikudyom_answer plain_least_supply(uint32_t frame, const uint32_t *wind
 struct palikudyom_answer plain_critical(uint32_t frame, const uint32_t *windows, size_t windows_len, uint32_t *out, size_t out_len);
 
 struct palikudyom_answer plain_delay(uint32_t frame, const uint32_t *windows, size_t windows_len);
+struct palikudyom_answer plain_outage(uint32_t frame, const uint32_t *windows, size_t windows_len);
 
 struct palikudyom_answer plain_verdict(uint32_t frame, const uint32_t *windows, size_t windows_len, const uint32_t *tasks, size_t tasks_len);
 

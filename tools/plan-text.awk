@@ -1,4 +1,4 @@
-# A plan as text, on standard input, to the bytes of a plan file as escapes for printf. The file's name for messages is in the environment's NAME.
+# A plan as text, on standard input, to the numbers of a plan file. The file's name for messages is in the environment's NAME.
 # It judges the form only: what the numbers mean is for the proved program.
 
 function bad(message) {
@@ -17,18 +17,9 @@ function numbers(count, form,   i, text) {
         sub(/^0+/, "", $i)
         if (length($i) > 10 || $i + 0 > 4294967295)
             bad("`" $i "` is over 4294967295")
-        text = text seven($i + 0)
+        text = text " " ($i == "" ? 0 : $i)
     }
     return text
-}
-
-# groups of seven bits, low group first, top bit set on every byte but the last
-function seven(n,   text) {
-    while (n >= 128) {
-        text = text sprintf("\\%03o", 128 + n % 128)
-        n = int(n / 128)
-    }
-    return text sprintf("\\%03o", n)
 }
 
 { sub(/\r$/, ""); sub(/#.*/, "") }
@@ -48,5 +39,5 @@ END {
         exit 1
     if (frame == "")
         bad("no frame: write `frame TICKS`")
-    print frame seven(windowCount + 0) windows seven(taskCount + 0) tasks
+    print frame " " (windowCount + 0) windows " " (taskCount + 0) tasks
 }
