@@ -49,7 +49,8 @@ fn clear(counts: &mut [u32], m: usize)
     }
 }
 
-// The run of legal lists under a rule `before`, which is tied to the machine's once: the buffer is cleared, the state is advanced to the run's end, and a job that is late there is the miss.
+// The run of legal lists under a rule `before`, which is tied to the machine's once: the buffer is cleared, the state is advanced to the run's end,
+// and a job that is late there is the miss.
 fn run_legal(
     board: Board,
     windows: &[u32],

@@ -39,8 +39,9 @@ returns : tie.Need-returns
 returns c =
     let a = c .before .before .before .before .before .before in
     let z = a .before .before .before .before .before in
-    run-ends _ _ _ (z .before .before .before .before .before .before .args .jobs .now) _ _ _ (replicate allPlaces 0)
-    (z .before .before .before .before .before .before .pre) (z .clear .ensures) refl _ _ _ (a .advance .ensures) _ (c .before .late .ensures) .1 (c .if1 .taken)
+    let s = z .before .before .before .before .before .before in
+    run-ends _ _ _ (s .args .jobs .now) _ _ _ (replicate allPlaces 0)
+    (s .pre) (z .clear .ensures) refl _ _ _ (a .advance .ensures) _ (c .before .late .ensures) .1 (c .if1 .taken)
 
 same-length-2 : tie.Need-same-length-2
 same-length-2 c = search needs
@@ -49,8 +50,9 @@ returns-2 : tie.Need-returns-2
 returns-2 c =
     let a = c .before .before .before .before .before .before in
     let z = a .before .before .before .before .before in
-    run-ends _ _ _ (z .before .before .before .before .before .before .args .jobs .now) _ _ _ (replicate allPlaces 0)
-    (z .before .before .before .before .before .before .pre) (z .clear .ensures) refl _ _ _ (a .advance .ensures) _ (c .before .late .ensures) .0 (c .if1 .left)
+    let s = z .before .before .before .before .before .before in
+    run-ends _ _ _ (s .args .jobs .now) _ _ _ (replicate allPlaces 0)
+    (s .pre) (z .clear .ensures) refl _ _ _ (a .advance .ensures) _ (c .before .late .ensures) .0 (c .if1 .left)
 
 pub run-legal-spec : {M : Type 1} → statement M
 run-legal-spec =

@@ -43,7 +43,8 @@ serve-requires c κs =
     (c .before .before .before .before .before .before .before .before .release .ensures) .0
 
 -- what is known once the tick is given out
-abbrev given-out : (c : tie.After-serve) → let a = c .before .before .before .before .before .before .before .before .before .before .before .before .before .before .before .before .args in
+abbrev given-out : (c : tie.After-serve) →
+    let a = c .before .before .before .before .before .before .before .before .before .before .before .before .before .before .before .before .args in
     GivenOut (suppliedBy (boardOf (a .board)) (a .windows .now)) (rule (tasksOf (a .tasks .now)) (jobsOf (a .jobs .now)))
     (tasksOf (a .tasks .now)) (jobsOf (a .jobs .now)) (a .s) (a .places .now) (a .counts .now)
 given-out c =
@@ -79,7 +80,9 @@ tested-requires : tie.Need-tested-requires
 tested-requires c κs = all-served _ _ _ _ _ _ _ (given-out (c .before .before .before .before .before .before .before .before))
 
 same-length : tie.Need-same-length
-same-length c = let x = given-out (c .before .before .before .before .before .before .before .before .before) in all-served _ _ _ _ _ _ _ x ∙ sym (x .ready .at .holds .size)
+same-length c =
+    let x = given-out (c .before .before .before .before .before .before .before .before .before) in
+    all-served _ _ _ _ _ _ _ x ∙ sym (x .ready .at .holds .size)
 
 same-length-2 : tie.Need-same-length-2
 same-length-2 c = search needs
