@@ -15,6 +15,7 @@ pub mod Answers
 pub mod Exact
 pub mod Bound
 pub mod Outage
+pub mod LongestGap
 pub mod Spaced
 pub mod Jobs
 pub mod Reached

@@ -1,10 +1,9 @@
-use mathlib.Core.Path.{_≡_, sym, ap, ap₂, _∙_}
-use Prim.Native.Nat.{ℕ, _+_, _-_, _≤_, _<_, max}
-use lib.ListN.{length}
+use mathlib.Core.Path.{_≡_, ap, _∙_}
+use Prim.Native.Nat.{_+_, _-_, _≤_, max}
 use Rattle.scope.specs.Windows.{Window, window, windowsOf, suppliedBy}
 use Rattle.scope.specs.Partition.{outage}
 use Rattle.theory.specs.Lists.{pieces-length}
-use Rattle.theory.specs.Outage.{Passed, passed-first, passed-next, passed-last}
+use Rattle.theory.specs.LongestGap.{Passed, passed-first, passed-next, passed-last}
 use Rattle.tables.specs.Told.{boardOf, windowOf}
 use native.Mathlib.Omega.{arith}
 use borrow.Author.Needs.{needs}
