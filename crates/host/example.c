@@ -12,7 +12,7 @@
 /* the table X: a frame of 8 ticks, supplied in 0, 1, 5 and 6 */
 #define FRAME 8
 static const uint32_t X[] = {0, 2, 5, 7};
-static const uint32_t LAB[] = {3, 5};
+static const uint32_t LAB[] = {3, 5}; /* document 02, request 1 */
 
 static const uint32_t W4[] = {1, 4, 4};
 static const uint32_t W5[] = {1, 4, 3};

@@ -1,5 +1,5 @@
--- The words of the three demands that document 01's amounts do not have: 001's finer starts and greatest demand, the miss that is shown,
--- every run under earliest deadline first, and every way of giving out supplied ticks.
+-- The words of the three demands, and of document 02's requests, that document 01's amounts do not have: 001's finer starts and greatest demand,
+-- unsupplied ticks in a row, the miss that is shown, every run under earliest deadline first, and every way of giving out supplied ticks.
 use Prim.Native.Nat.{ℕ, zero, suc, _+_, _-_, _*_, _%_, _≤_, _<_}
 use mathlib.Core.Path.{_≡_}
 use mathlib.Core.Bool.{Bool, true, false, cond, _&&_}
@@ -38,7 +38,7 @@ unfoldable pub fullJobs : List Task → ℕ → ℕ → List Job
 fullJobs ts s zero = []
 fullJobs ts s (suc t) = fullJobs ts s t ++ fullJobsIn ts s t (length ts)
 
--- ---- the longest outage
+-- ---- request 1
 
 -- the n ticks from s on are unsupplied, in whatever frames they are
 abbrev pub Silent : (ℕ → Bool) → ℕ → ℕ → Type 0

@@ -1,4 +1,5 @@
--- Document 01, "Marked examples": W1 to W13, and after them what it says of limits, refusals and errors; one table under one statement, by computation.
+-- Document 01, "Marked examples": W1 to W13, and after them document 02's examples and what 01 says of limits, refusals and errors; one table under one
+-- statement, by computation.
 use Prim.Native.Nat.{ℕ}
 use Prim.Native.Char.{code}
 use Prim.Native.String.{String, [] as ε, _∷_ as _◂_}
@@ -99,6 +100,10 @@ n asks q gives r = record { name = n; question = q; expected = r }
 abbrev pub X : List ℕ
 X = 0 ∷ 2 ∷ 5 ∷ 7 ∷ []
 
+-- the window of a school's lab, document 02, request 1, whose frame is 8 too
+abbrev pub lab : List ℕ
+lab = 3 ∷ 5 ∷ []
+
 unfoldable pub table : List Example
 table =
     ("W1" asks leastSupplies 8 X (0 ∷ 1 ∷ 2 ∷ 3 ∷ 4 ∷ 5 ∷ 6 ∷ 7 ∷ 8 ∷ [])
@@ -123,12 +128,14 @@ table =
     -- W13: W7's tasks, both released in full at tick 2
     ∷ ("W13" asks runOf 8 X (1 ∷ 4 ∷ 4 ∷ 2 ∷ 8 ∷ 7 ∷ []) 10 (2 ∷ 0 ∷ 1 ∷ 2 ∷ 1 ∷ 2 ∷ []) (9 ∷ 9 ∷ 9 ∷ [])
     gives aRun (given (record { outcome = met; backlog = 2 })) (4 ∷ 7 ∷ 9 ∷ []))
-    -- the longest outage: between windows, over the end of a frame, after the windows, and none; one tick more than it holds has a supplied one
+    -- request 1: X still reads 3, the lab's table 6. Its 6 ticks hold nothing and 7 do; asked as one tick of work, due in 6, they start at tick 5
     ∷ ("outage of X" asks outageOf 8 X gives amounts (given 3 ∷ []))
-    ∷ ("outage over midnight" asks outageOf 8 (3 ∷ 5 ∷ []) gives amounts (given 6 ∷ []))
-    ∷ ("supply of that outage" asks leastSupplies 8 (3 ∷ 5 ∷ []) (6 ∷ 7 ∷ []) gives amounts (given 0 ∷ given 1 ∷ []))
-    ∷ ("where it starts" asks verdictOf 8 (3 ∷ 5 ∷ []) (1 ∷ 8 ∷ 6 ∷ []) gives aVerdict (given (miss 6 5 1 0)))
+    ∷ ("outage over midnight" asks outageOf 8 lab gives amounts (given 6 ∷ []))
+    ∷ ("supply of that outage" asks leastSupplies 8 lab (6 ∷ 7 ∷ []) gives amounts (given 0 ∷ given 1 ∷ []))
+    ∷ ("where it starts" asks verdictOf 8 lab (1 ∷ 8 ∷ 6 ∷ []) gives aVerdict (given (miss 6 5 1 0)))
+    -- an outage of most of a frame, of its last tick, and none
     ∷ ("outage after the windows" asks outageOf 8 (0 ∷ 2 ∷ []) gives amounts (given 6 ∷ []))
+    ∷ ("outage of the last tick" asks outageOf 8 (0 ∷ 7 ∷ []) gives amounts (given 1 ∷ []))
     ∷ ("no outage" asks outageOf 8 (0 ∷ 8 ∷ []) gives amounts (given 0 ∷ []))
     -- of the four errors, W5 and W9 show two: here supply counted from tick 0 passes the first, and starts at window ends miss the second's least start
     ∷ ("supply from tick 0" asks verdictOf 8 X (2 ∷ 8 ∷ 3 ∷ []) gives aVerdict (given (miss 3 2 2 0)))
@@ -207,7 +214,7 @@ Hold (e ∷ rows) = (reply (e .question) ≡ e .expected) × Hold rows
 pub examples : Hold table
 unfolding everything reply table
 examples =
-    (refl, (refl, (refl, (refl, (refl, (refl, (refl, (refl, (refl, (refl, (refl, (refl, (refl, (refl, (refl, (refl, (refl, (refl, (refl, (refl, (refl, (refl, (refl, (refl, (refl, (refl, (refl, (refl, (refl, (refl, (refl, (refl, (refl, (refl, (refl, (refl, (refl, (refl, (refl, (refl, (refl, (refl, (refl, (refl, (refl, (refl, (refl, (refl, (refl, (refl, (refl, (refl, (refl, (refl, (refl, (refl, (refl, (refl, (refl, (refl, (refl, (refl, (refl, (refl, (refl, (refl, (refl, (refl, (refl, (refl, (refl, (refl, (refl, (refl, (refl, tt)))))))))))))))))))))))))))))))))))))))))))))))))))))))))))))))))))))))))))
+    (refl, (refl, (refl, (refl, (refl, (refl, (refl, (refl, (refl, (refl, (refl, (refl, (refl, (refl, (refl, (refl, (refl, (refl, (refl, (refl, (refl, (refl, (refl, (refl, (refl, (refl, (refl, (refl, (refl, (refl, (refl, (refl, (refl, (refl, (refl, (refl, (refl, (refl, (refl, (refl, (refl, (refl, (refl, (refl, (refl, (refl, (refl, (refl, (refl, (refl, (refl, (refl, (refl, (refl, (refl, (refl, (refl, (refl, (refl, (refl, (refl, (refl, (refl, (refl, (refl, (refl, (refl, (refl, (refl, (refl, (refl, (refl, (refl, (refl, (refl, (refl, tt))))))))))))))))))))))))))))))))))))))))))))))))))))))))))))))))))))))))))))
 
 -- ---- a row by its name
 

@@ -1,4 +1,4 @@
--- Document 01, "Supply and demand": the critical partition, the delay and the longest outage, over any pattern σ.
+-- Document 01, "Supply and demand": the critical partition and the delay; document 02, request 1: the longest outage. Over any pattern σ.
 use Prim.Native.Nat.{ℕ, zero, suc, _+_, _-_, _*_}
 use mathlib.Core.Bool.{Bool, not, cond, _&&_}
 use mathlib.Core.List.{List}
@@ -39,7 +39,7 @@ unfoldable pub outageFrom : (ℕ → Bool) → ℕ → ℕ → ℕ
 outageFrom σ s zero = 0
 outageFrom σ s (suc n) = cond (σ s) 0 (outageFrom σ (s + 1) n + 1)
 
--- document 02, request 1: the longest run of unsupplied ticks over endless frames, 0 if every tick is supplied. A run starts at some tick of a
--- frame, and goes on over its end; where σ repeats with P, the P ticks from its start show where it ends
+-- the longest run of unsupplied ticks over endless frames, 0 if every tick is supplied: a run starts at some tick of a frame and goes on over its
+-- end. Where σ repeats with P and supplies a tick, P ticks show the end of any run: `outage-there` and `outage-longest` (theory/Outage) are that law
 unfoldable pub outage : (ℕ → Bool) → ℕ → ℕ
 outage σ P = greatest (λ s. outageFrom σ s P) P

@@ -1,17 +1,16 @@
 -- Request 1's theorems at its two examples, of what `outage`, `least_supply` and `critical` answer on them
 use mathlib.Core.Path.{_≡_, sym, _∙_}
 use mathlib.Core.List.{List, [], _∷_}
-use Prim.Native.Nat.{ℕ, _<_}
-use lib.ListN.{getD}
+use Prim.Native.Nat.{ℕ, _≤_, _<_}
 use Rattle.scope.specs.Answers.{Answer.given, leastSupplyAnswer, criticalAnswer, criticalOut, outageAnswer}
-use Rattle.scope.specs.Examples.{Reply.windows, X, reply, table, examples, row}
-use Rattle.theory.specs.Applied.{lab, lab-outage, x-outage}
+use Rattle.scope.specs.Examples.{Reply.windows, X, lab, reply, table, examples, row}
+use Rattle.theory.specs.Applied.{lab-outage, x-outage}
 use Rattle.tables.specs.declared.board.Board.{Board}
 use Rattle.tables.specs.declared.answer.Amount.{Amount}
 use Rattle.tables.specs.declared.answer.Amount.the-variants.{Of}
 use Rattle.tables.specs.Told.{boardOf, toldAmount}
 use Rattle.tables.specs.Determined.{amount-determined}
-use Rattle.supply.specs.Outage.{some-supply, starts-partition}
+use Rattle.supply.specs.Outage.{no-supply, some-supply, no-greater, starts-partition}
 
 abbrev board : Board
 board = record { frame = 8 }
@@ -23,12 +22,18 @@ lab-told r e = amount-determined r (Of 6) (e ∙ lab-outage)
 x-told : (r : Amount) → toldAmount r ≡ outageAnswer (boardOf board) X → r ≡ Of 3
 x-told r e = amount-determined r (Of 3) (e ∙ x-outage)
 
--- 7 ticks of the lab's table hold a supplied one
+-- 6 ticks of the lab's table may hold none, 7 hold one
+lab-six : (r : Amount) → toldAmount r ≡ leastSupplyAnswer (boardOf board) lab 6 → r ≡ Of 0
+lab-six = no-supply board lab 6 (sym lab-outage)
+
 lab-seven : (r : Amount) → toldAmount r ≡ leastSupplyAnswer (boardOf board) lab 7 → (p : ℕ) × (r ≡ Of p) × (0 < p)
 lab-seven = some-supply board lab 6 (sym lab-outage)
 
+lab-no-greater : (t : ℕ) → toldAmount (Of 0) ≡ leastSupplyAnswer (boardOf board) lab t → t ≤ 6
+lab-no-greater = no-greater board lab 6 (sym lab-outage)
+
 -- W2's buffer begins with X's outage
-x-starts : (left : List ℕ) → left ≡ criticalOut (boardOf board) X (9 ∷ 9 ∷ 9 ∷ 9 ∷ 9 ∷ []) → getD left 0 0 ≡ 3
+x-starts : (left : List ℕ) → left ≡ criticalOut (boardOf board) X (9 ∷ 9 ∷ 9 ∷ 9 ∷ 9 ∷ []) → (rest : List ℕ) × (left ≡ 3 ∷ rest)
 unfolding reply table
 x-starts left wrote =
     let e : windows (criticalAnswer (boardOf board) X 5) (criticalOut (boardOf board) X (9 ∷ 9 ∷ 9 ∷ 9 ∷ 9 ∷ []))

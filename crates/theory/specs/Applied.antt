@@ -21,8 +21,8 @@ use Rattle.scope.specs.Line.{lineAnswer, lineOut}
 use Rattle.scope.specs.Run.{Outcome.met, outcome, countOf, counts}
 use Rattle.scope.specs.Answers.{Answer.given, Answer.refused, windowListFault, taskListFault, verdictAnswer, boundAnswer, runAnswer, runOut, criticalAnswer}
 use Rattle.scope.specs.Answers.{criticalOf, criticalOut, leastSupplyAnswer, outageAnswer}
-use Rattle.scope.specs.Demands.{Silent, LeastMiss, Way, givenTo, Served}
-use Rattle.scope.specs.Examples.{Reply.amounts, Reply.windows, Reply.bytesIn, Reply.aVerdict, Reply.bounds, Reply.aRun, X, on, reply, table, examples, row}
+use Rattle.scope.specs.Demands.{Silent, LeastMiss, Way, Served}
+use Rattle.scope.specs.Examples.{Reply.amounts, Reply.windows, Reply.bytesIn, Reply.aVerdict, Reply.bounds, Reply.aRun, X, lab, on, reply, table, examples, row}
 use Rattle.scope.specs.Computing.{everything}
 use Rattle.theory.specs.Numbers.{by-lexically}
 use Rattle.theory.specs.Answers.{run-given}
@@ -88,9 +88,6 @@ w11-exact = exact-bound (on 8) X w11 1 (bound 7) w11-bounds 7 .0 refl .3
 
 -- ---- the outage that runs over midnight: the lab's table is silent for 6 ticks from tick 5 on, X for 3
 
-abbrev pub lab : List ℕ
-lab = 3 ∷ 5 ∷ []
-
 pub lab-outage : outageAnswer (on 8) lab ≡ given 6
 unfolding reply table
 lab-outage = let e : amounts (outageAnswer (on 8) lab ∷ []) ≡ amounts (given 6 ∷ []) = row table examples "outage over midnight" in cc
@@ -103,7 +100,7 @@ full-outage : outageAnswer (on 8) (0 ∷ 8 ∷ []) ≡ given 0
 unfolding reply table
 full-outage = let e : amounts (outageAnswer (on 8) (0 ∷ 8 ∷ []) ∷ []) ≡ amounts (given 0 ∷ []) = row table examples "no outage" in cc
 
--- 6 silent ticks in a row; 7, in the thousandth frame say, are nowhere
+-- 6 silent ticks in a row; 7, from tick 8,005 on say, are nowhere
 lab-run : (s : ℕ) × (s < 8) × Silent (suppliedBy (on 8) lab) s 6
 lab-run = outage-run (on 8) lab 6 lab-outage
 

@@ -84,13 +84,13 @@ module _ (b : Board) (ws : List Window) (legal : badWindow b ws ≡ none) where
       ]
 
   -- past the end of window i no window up to it gives a tick, and before the start of window i none from it on
-  passed : (i k : ℕ) → i < length ws → endOf i ≤ k → (j : ℕ) → j ≤ i → gives b (windowAt ws j) k ≡ false
-  passed i k h l j m =
+  none-up-to : (i k : ℕ) → i < length ws → endOf i ≤ k → (j : ℕ) → j ≤ i → gives b (windowAt ws j) k ≡ false
+  none-up-to i k h l j m =
       gives-after b (windowAt ws j) k
       (elim (ℕ-discrete j i) [ yes e ↦ rw e l | no u ↦ omega (arith, before j i (omega arith) h, fits i h .0) ])
 
-  ahead : (i k : ℕ) → i < length ws → k < startOf i → (j : ℕ) → i ≤ j → j < length ws → gives b (windowAt ws j) k ≡ false
-  ahead i k h l j m u =
+  none-from : (i k : ℕ) → i < length ws → k < startOf i → (j : ℕ) → i ≤ j → j < length ws → gives b (windowAt ws j) k ≡ false
+  none-from i k h l j m u =
       gives-before b (windowAt ws j) k
       (elim (ℕ-discrete i j) [ yes e ↦ rw (← e) l | no v ↦ omega (arith, before i j (omega arith) u, fits i h .0) ])
 
@@ -105,15 +105,15 @@ module _ (b : Board) (ws : List Window) (legal : badWindow b ws ≡ none) where
 
   -- those before the first, between two, and after the last are not
   off-head : (k : ℕ) → 0 < length ws → k < startOf 0 → σ k ≡ false
-  off-head k some h = here k (omega (arith, fits 0 some)) ∙ covers-no b k ws (λ j u. ahead 0 k some h j (omega arith) u)
+  off-head k some h = here k (omega (arith, fits 0 some)) ∙ covers-no b k ws (λ j u. none-from 0 k some h j (omega arith) u)
 
   pub off-gap : (i k : ℕ) → i < length ws → endOf (i - 1) ≤ k → k < startOf i → σ k ≡ false
   off-gap i k h l m =
       here k (omega (arith, fits i h)) ∙ covers-no b k ws
-      (λ j u. elim (decLt j i) [ yes v ↦ passed (i - 1) k (omega arith) l j (omega arith) | no v ↦ ahead i k h m j (omega arith) u ])
+      (λ j u. elim (decLt j i) [ yes v ↦ none-up-to (i - 1) k (omega arith) l j (omega arith) | no v ↦ none-from i k h m j (omega arith) u ])
 
   off-tail : (k : ℕ) → endOf (length ws - 1) ≤ k → k < b .frame → σ k ≡ false
-  off-tail k l m = here k m ∙ covers-no b k ws (λ j u. passed (length ws - 1) k (omega arith) l j (omega arith))
+  off-tail k l m = here k m ∙ covers-no b k ws (λ j u. none-up-to (length ws - 1) k (omega arith) l j (omega arith))
 
   module _ (some : 0 < length ws) where
     pub table-periodic : Periodic σ (b .frame)

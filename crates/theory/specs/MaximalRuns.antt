@@ -234,6 +234,6 @@ module _ (p : ℕ → Bool) (n : ℕ) where
   unfolding maximalRuns
   maximal-first c l e h =
       let q : ℕ → Bool = within p n in
-      let none : (j : ℕ) → j < c → q j ≡ false = λ j m. within-in p n j (omega arith) ∙ h j m in
-      keep-first (edge q) c (n + 1) (omega arith) (edge-is q c true false (within-in p n c l ∙ e) (before-none q c none))
-      (λ j m. edge-is q j false false (none j m) (before-none q j (λ i u. none i (omega arith))))
+      let not-yet : (j : ℕ) → j < c → q j ≡ false = λ j m. within-in p n j (omega arith) ∙ h j m in
+      keep-first (edge q) c (n + 1) (omega arith) (edge-is q c true false (within-in p n c l ∙ e) (before-none q c not-yet))
+      (λ j m. edge-is q j false false (not-yet j m) (before-none q j (λ i u. not-yet i (omega arith))))

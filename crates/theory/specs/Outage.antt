@@ -29,7 +29,8 @@ use Rattle.theory.specs.MaximalRuns.{maximal-first}
 use Rattle.theory.specs.Cycle.{lcm-least}
 use Rattle.theory.specs.Answers.{LegalTable, table-legal, unless-given}
 use Rattle.theory.specs.Exact.{exact-miss}
-use Rattle.theory.specs.Gaps.{on-first, table-periodic}
+use Rattle.theory.specs.Windows.{supplied-periodic}
+use Rattle.theory.specs.Gaps.{on-first}
 
 -- ---- unsupplied ticks, and the supply of that length
 
@@ -186,7 +187,7 @@ module _ (b : Board) (ws : List ℕ) (n : ℕ) (answered : outageAnswer b ws ≡
   some = omega (arith, pieces-length Window 2 window ws, table .even, table .some)
 
   per : Periodic τ P
-  per = table-periodic b (windowsOf ws) (table .windows) some
+  per = supplied-periodic b (windowsOf ws) (table .frame)
 
   abbrev first : ℕ
   first = (windowAt (windowsOf ws) 0) .start
@@ -201,7 +202,7 @@ module _ (b : Board) (ws : List ℕ) (n : ℕ) (answered : outageAnswer b ws ≡
   pub outage-no-longer : (s m : ℕ) → Silent τ s m → m ≤ n
   outage-no-longer s m h = omega (arith, is, outage-longest τ P per first on s m h)
 
-  -- (ii) its least supply is 0 and that of one tick more is not; no length without limit that is greater has least supply 0
+  -- (ii) its least supply is 0 and that of one tick more is not; and no greater length, however long, has least supply 0
   least-given : (t : ℕ) → t ≤ P → leastSupplyAnswer b ws t ≡ given (leastSupply τ P t)
   unfolding leastSupplyAnswer lengthFault
   least-given t h = rw (fine-table, le-ltb mostLength t (omega (arith, table .frame-most)))
@@ -266,19 +267,19 @@ module _ (b : Board) (ws : List ℕ) (n : ℕ) (answered : outageAnswer b ws ≡
     outage-asked =
         let H : ℕ = cycle P (one ∷ []) in
         let s = least-start τ P per n in
-        let none : leastSupply τ P n ≡ 0 = rw is at (outage-least τ P per) in
+        let nothing : leastSupply τ P n ≡ 0 = rw is at (outage-least τ P per) in
         let v = exact-miss b ws (1 ∷ P ∷ n ∷ []) (verdict τ P (one ∷ []) H) asked n (leastStart τ P n) 1 0 .1
         (record {
           demanded = sym one-due;
-          supplied = sym none;
+          supplied = sym nothing;
           above = omega arith;
           leastLength = λ u l. omega (arith, one-demand u l);
-          holds = s .1 ∙ none;
-          leastStart = λ r l. omega (arith, s .2 r l, none);
+          holds = s .1 ∙ nothing;
+          leastStart = λ r l. omega (arith, s .2 r l, nothing);
         }) in (
           leastStart τ P n,
           asked ∙ ap given v,
-          supply-silent τ (leastStart τ P n) n (s .1 ∙ none),
+          supply-silent τ (leastStart τ P n) n (s .1 ∙ nothing),
           λ r l h. omega (arith, s .2 r l, silent-supply τ r n h),
         )
       where
