@@ -313,10 +313,15 @@ static void typical_run(struct input *x)
     release_all(x, 10000);
 }
 
+static void worst_table(struct input *x)
+{
+    early_windows(x, 65536, 64);
+}
+
 /* the whole frames cost nothing, so 14 frames and 65,535 ticks are as bad as any length */
 static void worst_least_supply(struct input *x)
 {
-    early_windows(x, 65536, 64);
+    worst_table(x);
     x->asked = 983039;
 }
 
@@ -483,7 +488,7 @@ static const struct one_case CASES[] = {
     {&DELAY, "heavy: P 768, 64 windows", PALIKUDYOM_DELAY, heavy_delay},
     {&OUTAGE, "small: P 8, 2 windows", PALIKUDYOM_AMOUNT, small_table},
     {&OUTAGE, "typical: P 1,000, 8 windows", PALIKUDYOM_AMOUNT, typical_table},
-    {&OUTAGE, "worst: P 65,536, 64 windows", PALIKUDYOM_AMOUNT, worst_least_supply},
+    {&OUTAGE, "worst: P 65,536, 64 windows", PALIKUDYOM_AMOUNT, worst_table},
     {&VERDICT, "small: P 8, 2 windows, 2 tasks, meets, H 8", PALIKUDYOM_MEETS, small_verdict},
     {&VERDICT, "typical: P 1,000, 8 windows, 8 tasks, meets, H 10,000", PALIKUDYOM_MEETS, typical_verdict},
     {&VERDICT, "heavy: P 160, 64 windows, 32 tasks, meets, H 1,000,000", PALIKUDYOM_MEETS, heavy_verdict},

@@ -195,6 +195,11 @@ module _ (b : Board) (ws : List ℕ) (n : ℕ) (answered : outageAnswer b ws ≡
   on : τ first ≡ true
   on = on-first b (windowsOf ws) (table .windows) some
 
+  -- the least supply of a length of at most a frame is answered
+  least-given : (t : ℕ) → t ≤ P → leastSupplyAnswer b ws t ≡ given (leastSupply τ P t)
+  unfolding leastSupplyAnswer lengthFault
+  least-given t h = rw (fine-table, le-ltb mostLength t (omega (arith, table .frame-most)))
+
   -- (i) so many unsupplied ticks in a row there are, and no run anywhere, in any frame, has more
   pub outage-run : (s : ℕ) × (s < P) × Silent τ s n
   outage-run = rw (← is) (outage-there τ P per)
@@ -203,10 +208,6 @@ module _ (b : Board) (ws : List ℕ) (n : ℕ) (answered : outageAnswer b ws ≡
   outage-no-longer s m h = omega (arith, is, outage-longest τ P per first on s m h)
 
   -- (ii) its least supply is 0 and that of one tick more is not; and no greater length, however long, has least supply 0
-  least-given : (t : ℕ) → t ≤ P → leastSupplyAnswer b ws t ≡ given (leastSupply τ P t)
-  unfolding leastSupplyAnswer lengthFault
-  least-given t h = rw (fine-table, le-ltb mostLength t (omega (arith, table .frame-most)))
-
   pub outage-supply : (leastSupplyAnswer b ws n ≡ given 0) × (p : ℕ) × (leastSupplyAnswer b ws (n + 1) ≡ given p) × (0 < p)
   outage-supply =
       let below = outage-below τ P per first on in (
@@ -227,7 +228,8 @@ module _ (b : Board) (ws : List ℕ) (n : ℕ) (answered : outageAnswer b ws ≡
   pub outage-critical : (rest : List ℕ) × (criticalOf b ws ≡ n ∷ rest)
   outage-critical = let c = outage-first τ P per first on in (c .0, rw is at (c .1))
 
-  -- where it starts is found by asking for one tick of work each frame, due in n: the miss shows the least of all starts of n unsupplied ticks
+  -- ---- where it starts is found by asking for one tick of work each frame, due in n
+
   abbrev one : Task
   one = task 1 P n
 
@@ -262,6 +264,7 @@ module _ (b : Board) (ws : List ℕ) (n : ℕ) (answered : outageAnswer b ws ≡
         let z : n - n ≡ 0 = omega arith in
         rw (le-ltb n n (omega arith), z, zero-div P) (omega arith)
 
+    -- the miss shows the least of all starts of n unsupplied ticks
     pub outage-asked : (s : ℕ) × (verdictAnswer b ws (1 ∷ P ∷ n ∷ []) ≡ given (miss n s 1 0)) × Silent τ s n × ((r : ℕ) → r < s → Silent τ r n → ⊥)
     unfolding verdictAnswer piecesFrom pieces
     outage-asked =
