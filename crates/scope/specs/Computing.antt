@@ -18,6 +18,10 @@ use Rattle.scope.specs.Answers.{marginAnswer, verdictAnswer, boundAnswer
 use Rattle.scope.specs.Plan.{groups, wellFormed, readNumber, readNumbers, restFault, countedFrom, listsFrom, planFrom, planOf, planAnswer}
 use Rattle.scope.specs.Plan.{numberBytesWithin, numberBytes, numbersBytes, planBytes, writeFault, writeAnswer, writeOut}
 use Rattle.scope.specs.Line.{decimalWithin, decimal, line, lineAnswer, lineOut}
+use Rattle.scope.specs.Trace.{readRecord, recordsWithin, traceOf, elapsed, timedFrom, lastInstant, releases, completions, recordLegal, badRecord}
+use Rattle.scope.specs.Trace.{recordBytes, traceBytes}
+use Rattle.scope.specs.Replay.{ends, endedIn, endedFrom, releasedAt, recordedTo, firstDifference, replayed, extentFault, recordFault, replayFault}
+use Rattle.scope.specs.Replay.{recordsAnswer, replayAnswer}
 use Rattle.scope.specs.Demands.{dueWithin, fullJobsIn, fullJobs, givenTo}
 
 unfoldable pub numbers·compute : Unit {0}
@@ -68,6 +72,14 @@ unfoldable pub writing·compute : Unit {0}
 unfolding numberBytesWithin numberBytes numbersBytes planBytes writeFault writeAnswer writeOut decimalWithin decimal line lineAnswer lineOut
 writing·compute = tt
 
+unfoldable pub traces·compute : Unit {0}
+unfolding readRecord recordsWithin traceOf elapsed timedFrom lastInstant releases completions recordLegal badRecord recordBytes traceBytes
+traces·compute = tt
+
+unfoldable pub replays·compute : Unit {0}
+unfolding ends endedIn endedFrom releasedAt recordedTo firstDifference replayed extentFault recordFault replayFault recordsAnswer replayAnswer
+replays·compute = tt
+
 unfoldable pub demands·compute : Unit {0}
 unfolding dueWithin fullJobsIn fullJobs givenTo
 demands·compute = tt
@@ -81,5 +93,5 @@ unfolding tableFaults·compute groupFaults·compute constructors·compute tableA
 answers·compute = tt
 
 unfoldable pub everything : Unit {0}
-unfolding amounts·compute answers·compute reading·compute writing·compute demands·compute
+unfolding amounts·compute answers·compute reading·compute writing·compute traces·compute replays·compute demands·compute
 everything = tt

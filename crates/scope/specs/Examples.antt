@@ -5,6 +5,7 @@ use Prim.Native.Char.{code}
 use Prim.Native.String.{String, [] as ε, _∷_ as _◂_}
 use mathlib.Core.Path.{_≡_, refl}
 use mathlib.Core.Bool.{Bool, true, false, _&&_}
+use mathlib.Core.Option.{none, some}
 use mathlib.Core.List.{List, [], _∷_, map}
 use lib.Dec.{eqb}
 use lib.IntN.{ℤ, ℤ.negsuc}
@@ -19,6 +20,9 @@ use Rattle.scope.specs.Answers.{lengthAnswer, runTicksAnswer, windowList
 use Rattle.scope.specs.Answers.{criticalOut, delayAnswer, outageAnswer, demandAnswer, marginAnswer, verdictAnswer, boundAnswer, runAnswer, runOut}
 use Rattle.scope.specs.Plan.{planAnswer, Plan, writeAnswer, writeOut}
 use Rattle.scope.specs.Line.{bytes, line, lineAnswer, lineOut}
+use Rattle.scope.specs.Trace.{completion}
+use Rattle.scope.specs.Replay as Replays
+use Rattle.scope.specs.Replay.{Replayed, replayAnswer}
 use Rattle.scope.specs.Computing.{everything}
 
 -- ---- what is asked of an entry, and what it answers; of a lent buffer, what it holds before and after
@@ -43,6 +47,7 @@ pub data Question : Type 0 where
   taskAlone : (c t d : ℕ) → Question
   listsOf : (windows tasks jobs : ℕ) → Question
   cycleOf : (frame : ℕ) (tasks : List ℕ) → Question
+  replayOf : (frame : ℕ) (windows tasks trace : List ℕ) → Question
 
 pub data Reply : Type 0 where
   amounts : List (Answer ℕ) → Reply
@@ -58,6 +63,7 @@ pub data Reply : Type 0 where
   aWindow : Answer Window → Reply
   aTask : Answer Task → Reply
   faults : List Fault → Reply
+  aReplay : Answer Replayed → Reply
 
 -- a board with frame P
 abbrev pub on : ℕ → Board
@@ -84,6 +90,7 @@ reply (taskAlone c t d) = aTask (taskAnswer (task c t d))
 -- lists of so many numbers, whatever they are
 reply (listsOf w t j) = faults (windowListFault (replicate w 0) ∷ taskListFault (replicate t 0) ∷ jobListFault 0 (replicate j 0) ∷ [])
 reply (cycleOf P ts) = faults (cycleFault (on P) (tasksOf ts) ∷ [])
+reply (replayOf P ws ts trace) = aReplay (replayAnswer (on P) ws ts trace)
 
 -- ---- the table
 
@@ -137,6 +144,65 @@ table =
     ∷ ("outage after the windows" asks outageOf 8 (0 ∷ 2 ∷ []) gives amounts (given 6 ∷ []))
     ∷ ("outage of the last tick" asks outageOf 8 (0 ∷ 7 ∷ []) gives amounts (given 1 ∷ []))
     ∷ ("no outage" asks outageOf 8 (0 ∷ 8 ∷ []) gives amounts (given 0 ∷ []))
+    -- request 2: W7's tasks, released in full at the first record, whose stamp is 100; the same by a counter that goes past its top
+    ∷ ("a trace" asks replayOf 8 X (1 ∷ 4 ∷ 4 ∷ 2 ∷ 8 ∷ 7 ∷ []) (0 ∷ 0 ∷ 1 ∷ 100 ∷ 0 ∷ 1 ∷ 2 ∷ 100 ∷ 1 ∷ 0 ∷ 101 ∷ 1 ∷ 1 ∷ 106 ∷ [])
+    gives aReplay (given Replays.same))
+    ∷ ("a trace past the counter's top" asks replayOf 8 X (1 ∷ 4 ∷ 4 ∷ 2 ∷ 8 ∷ 7 ∷ []) (0 ∷ 0 ∷ 1 ∷ 254 ∷ 255 ∷ 255 ∷ 255 ∷ 15 ∷ 0 ∷ 1 ∷ 2 ∷ 254 ∷ 255 ∷ 255 ∷ 255 ∷ 15 ∷ 1 ∷ 0 ∷ 255 ∷ 255 ∷ 255 ∷ 255 ∷ 15 ∷ 1 ∷ 1 ∷ 4 ∷ [])
+    gives aReplay (given Replays.same))
+    ∷ ("a late completion" asks replayOf 8 X (1 ∷ 4 ∷ 4 ∷ 2 ∷ 8 ∷ 7 ∷ []) (0 ∷ 0 ∷ 1 ∷ 100 ∷ 0 ∷ 1 ∷ 2 ∷ 100 ∷ 1 ∷ 0 ∷ 101 ∷ 1 ∷ 1 ∷ 107 ∷ [])
+    gives aReplay (given (Replays.differs (some (completion 7 1)) (some (completion 6 1)))))
+    ∷ ("another task's completion" asks replayOf 8 X (1 ∷ 4 ∷ 4 ∷ 2 ∷ 8 ∷ 7 ∷ []) (0 ∷ 0 ∷ 1 ∷ 100 ∷ 0 ∷ 1 ∷ 2 ∷ 100 ∷ 1 ∷ 9 ∷ 101 ∷ 1 ∷ 1 ∷ 106 ∷ [])
+    gives aReplay (given (Replays.differs (some (completion 1 9)) (some (completion 1 0)))))
+    ∷ ("the trace has ended" asks replayOf 8 X (1 ∷ 4 ∷ 4 ∷ 2 ∷ 8 ∷ 7 ∷ []) (0 ∷ 0 ∷ 1 ∷ 100 ∷ 0 ∷ 1 ∷ 2 ∷ 100 ∷ 1 ∷ 0 ∷ 101 ∷ 0 ∷ 0 ∷ 1 ∷ 106 ∷ [])
+    gives aReplay (given (Replays.differs none (some (completion 6 1)))))
+    ∷ ("the machine has ended" asks replayOf 8 X (1 ∷ 4 ∷ 4 ∷ 2 ∷ 8 ∷ 7 ∷ []) (0 ∷ 0 ∷ 1 ∷ 100 ∷ 0 ∷ 1 ∷ 2 ∷ 100 ∷ 1 ∷ 0 ∷ 101 ∷ 1 ∷ 1 ∷ 106 ∷ 1 ∷ 0 ∷ 107 ∷ [])
+    gives aReplay (given (Replays.differs (some (completion 7 0)) none)))
+    ∷ ("a completion at once" asks replayOf 8 X (1 ∷ 4 ∷ 4 ∷ 2 ∷ 8 ∷ 7 ∷ []) (1 ∷ 0 ∷ 100 ∷ [])
+    gives aReplay (given (Replays.differs (some (completion 0 0)) none)))
+    ∷ ("completions of the last instant only" asks replayOf 8 X (1 ∷ 4 ∷ 4 ∷ 2 ∷ 8 ∷ 7 ∷ []) (0 ∷ 0 ∷ 1 ∷ 100 ∷ 0 ∷ 1 ∷ 2 ∷ 100 ∷ 1 ∷ 0 ∷ 101 ∷ [])
+    gives aReplay (given Replays.same))
+    ∷ ("an empty trace" asks replayOf 8 X (1 ∷ 4 ∷ 4 ∷ 2 ∷ 8 ∷ 7 ∷ []) []
+    gives aReplay (given Replays.same))
+    -- a miss at instant 5, and a difference after it, with it, before it
+    ∷ ("a miss, then a difference" asks replayOf 8 X (1 ∷ 4 ∷ 4 ∷ 2 ∷ 8 ∷ 5 ∷ []) (0 ∷ 0 ∷ 1 ∷ 100 ∷ 0 ∷ 1 ∷ 2 ∷ 100 ∷ 1 ∷ 0 ∷ 101 ∷ 1 ∷ 1 ∷ 106 ∷ [])
+    gives aReplay (given (Replays.missed 5 1)))
+    ∷ ("a miss with a difference" asks replayOf 8 X (1 ∷ 4 ∷ 4 ∷ 2 ∷ 8 ∷ 5 ∷ []) (0 ∷ 0 ∷ 1 ∷ 100 ∷ 0 ∷ 1 ∷ 2 ∷ 100 ∷ 1 ∷ 0 ∷ 101 ∷ 1 ∷ 1 ∷ 105 ∷ [])
+    gives aReplay (given (Replays.missed 5 1)))
+    ∷ ("a difference before a miss" asks replayOf 8 X (1 ∷ 4 ∷ 4 ∷ 2 ∷ 8 ∷ 5 ∷ []) (0 ∷ 0 ∷ 1 ∷ 100 ∷ 0 ∷ 1 ∷ 2 ∷ 100 ∷ 1 ∷ 0 ∷ 101 ∷ 1 ∷ 1 ∷ 104 ∷ 1 ∷ 9 ∷ 105 ∷ [])
+    gives aReplay (given (Replays.differs (some (completion 4 1)) none)))
+    ∷ ("a miss after the last record" asks replayOf 8 X (1 ∷ 4 ∷ 4 ∷ 2 ∷ 8 ∷ 5 ∷ []) (0 ∷ 0 ∷ 1 ∷ 100 ∷ 0 ∷ 1 ∷ 2 ∷ 100 ∷ 1 ∷ 0 ∷ 101 ∷ 0 ∷ 0 ∷ 1 ∷ 104 ∷ [])
+    gives aReplay (given Replays.same))
+    -- and its refusals
+    ∷ ("another kind" asks replayOf 8 X (1 ∷ 4 ∷ 4 ∷ 2 ∷ 8 ∷ 7 ∷ []) (0 ∷ 0 ∷ 1 ∷ 100 ∷ 2 ∷ 0 ∷ 101 ∷ [])
+    gives aReplay (refused 9 4))
+    ∷ ("a kind of two bytes" asks replayOf 8 X (1 ∷ 4 ∷ 4 ∷ 2 ∷ 8 ∷ 7 ∷ []) (129 ∷ 1 ∷ [])
+    gives aReplay (refused 9 0))
+    ∷ ("a record cut short" asks replayOf 8 X (1 ∷ 4 ∷ 4 ∷ 2 ∷ 8 ∷ 7 ∷ []) (0 ∷ 0 ∷ 1 ∷ [])
+    gives aReplay (refused 9 3))
+    ∷ ("9 before 1" asks replayOf 0 [] [] (1 ∷ 0 ∷ 228 ∷ [])
+    gives aReplay (refused 9 2))
+    ∷ ("1 for an empty trace" asks replayOf 8 [] (1 ∷ 4 ∷ 4 ∷ 2 ∷ 8 ∷ 7 ∷ []) []
+    gives aReplay (refused 1 0))
+    ∷ ("5 before the trace's 10" asks replayOf 8 X (0 ∷ 4 ∷ 4 ∷ []) (0 ∷ 0 ∷ 1 ∷ 0 ∷ 1 ∷ 0 ∷ 224 ∷ 145 ∷ 67 ∷ [])
+    gives aReplay (refused 5 0))
+    ∷ ("a trace one tick too long" asks replayOf 8 X (1 ∷ 4 ∷ 4 ∷ 2 ∷ 8 ∷ 7 ∷ []) (0 ∷ 0 ∷ 1 ∷ 0 ∷ 1 ∷ 0 ∷ 224 ∷ 145 ∷ 67 ∷ [])
+    gives aReplay (refused 10 0))
+    ∷ ("a trace past 32 bits" asks replayOf 8 X (1 ∷ 4 ∷ 4 ∷ 2 ∷ 8 ∷ 7 ∷ []) (1 ∷ 0 ∷ 1 ∷ 1 ∷ 0 ∷ 0 ∷ 1 ∷ 0 ∷ 255 ∷ 255 ∷ 255 ∷ 255 ∷ 15 ∷ [])
+    gives aReplay (refused 10 0))
+    ∷ ("the trace's 10 before 11" asks replayOf 8 X (1 ∷ 4 ∷ 4 ∷ 2 ∷ 8 ∷ 7 ∷ []) (0 ∷ 9 ∷ 1 ∷ 0 ∷ 1 ∷ 0 ∷ 224 ∷ 145 ∷ 67 ∷ [])
+    gives aReplay (refused 10 0))
+    ∷ ("a release before a completion" asks replayOf 8 X (1 ∷ 4 ∷ 4 ∷ 2 ∷ 8 ∷ 7 ∷ []) (0 ∷ 0 ∷ 1 ∷ 100 ∷ 1 ∷ 0 ∷ 100 ∷ [])
+    gives aReplay (refused 11 1))
+    ∷ ("completions out of order" asks replayOf 8 X (1 ∷ 4 ∷ 4 ∷ 2 ∷ 8 ∷ 7 ∷ []) (0 ∷ 0 ∷ 1 ∷ 100 ∷ 0 ∷ 1 ∷ 2 ∷ 100 ∷ 1 ∷ 1 ∷ 101 ∷ 1 ∷ 0 ∷ 101 ∷ [])
+    gives aReplay (refused 11 3))
+    ∷ ("releases out of order" asks replayOf 8 X (1 ∷ 4 ∷ 4 ∷ 2 ∷ 8 ∷ 7 ∷ []) (0 ∷ 1 ∷ 2 ∷ 100 ∷ 0 ∷ 0 ∷ 1 ∷ 100 ∷ [])
+    gives aReplay (refused 11 1))
+    ∷ ("an illegal release" asks replayOf 8 X (1 ∷ 4 ∷ 4 ∷ 2 ∷ 8 ∷ 7 ∷ []) (0 ∷ 0 ∷ 1 ∷ 100 ∷ 0 ∷ 1 ∷ 2 ∷ 100 ∷ 1 ∷ 0 ∷ 101 ∷ 0 ∷ 0 ∷ 2 ∷ 104 ∷ 1 ∷ 1 ∷ 106 ∷ [])
+    gives aReplay (refused 11 3))
+    ∷ ("a release too soon" asks replayOf 8 X (1 ∷ 4 ∷ 4 ∷ 2 ∷ 8 ∷ 7 ∷ []) (0 ∷ 0 ∷ 1 ∷ 100 ∷ 0 ∷ 1 ∷ 2 ∷ 100 ∷ 1 ∷ 0 ∷ 101 ∷ 0 ∷ 0 ∷ 1 ∷ 103 ∷ [])
+    gives aReplay (refused 11 3))
+    ∷ ("a release of no task" asks replayOf 8 X (1 ∷ 4 ∷ 4 ∷ 2 ∷ 8 ∷ 7 ∷ []) (0 ∷ 2 ∷ 1 ∷ 100 ∷ [])
+    gives aReplay (refused 11 0))
     -- of the four errors, W5 and W9 show two: here supply counted from tick 0 passes the first, and starts at window ends miss the second's least start
     ∷ ("supply from tick 0" asks verdictOf 8 X (2 ∷ 8 ∷ 3 ∷ []) gives aVerdict (given (miss 3 2 2 0)))
     ∷ ("starts at window ends" asks verdictOf 8 X (2 ∷ 4 ∷ 4 ∷ []) gives aVerdict (given (miss 4 1 2 1)))
@@ -214,7 +280,7 @@ Hold (e ∷ rows) = (reply (e .question) ≡ e .expected) × Hold rows
 pub examples : Hold table
 unfolding everything reply table
 examples =
-    (refl, (refl, (refl, (refl, (refl, (refl, (refl, (refl, (refl, (refl, (refl, (refl, (refl, (refl, (refl, (refl, (refl, (refl, (refl, (refl, (refl, (refl, (refl, (refl, (refl, (refl, (refl, (refl, (refl, (refl, (refl, (refl, (refl, (refl, (refl, (refl, (refl, (refl, (refl, (refl, (refl, (refl, (refl, (refl, (refl, (refl, (refl, (refl, (refl, (refl, (refl, (refl, (refl, (refl, (refl, (refl, (refl, (refl, (refl, (refl, (refl, (refl, (refl, (refl, (refl, (refl, (refl, (refl, (refl, (refl, (refl, (refl, (refl, (refl, (refl, (refl, tt))))))))))))))))))))))))))))))))))))))))))))))))))))))))))))))))))))))))))))
+    (refl, (refl, (refl, (refl, (refl, (refl, (refl, (refl, (refl, (refl, (refl, (refl, (refl, (refl, (refl, (refl, (refl, (refl, (refl, (refl, (refl, (refl, (refl, (refl, (refl, (refl, (refl, (refl, (refl, (refl, (refl, (refl, (refl, (refl, (refl, (refl, (refl, (refl, (refl, (refl, (refl, (refl, (refl, (refl, (refl, (refl, (refl, (refl, (refl, (refl, (refl, (refl, (refl, (refl, (refl, (refl, (refl, (refl, (refl, (refl, (refl, (refl, (refl, (refl, (refl, (refl, (refl, (refl, (refl, (refl, (refl, (refl, (refl, (refl, (refl, (refl, (refl, (refl, (refl, (refl, (refl, (refl, (refl, (refl, (refl, (refl, (refl, (refl, (refl, (refl, (refl, (refl, (refl, (refl, (refl, (refl, (refl, (refl, (refl, (refl, (refl, (refl, (refl, (refl, tt))))))))))))))))))))))))))))))))))))))))))))))))))))))))))))))))))))))))))))))))))))))))))))))))))))))))
 
 -- ---- a row by its name
 

@@ -13,6 +13,8 @@ pub mod Run
 pub mod Answers
 pub mod Plan
 pub mod Line
+pub mod Trace
+pub mod Replay
 pub mod Demands
 pub mod Computing
 pub mod Examples
