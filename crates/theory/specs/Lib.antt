@@ -22,6 +22,7 @@ pub mod Reached
 pub mod Quiet
 pub mod Machine
 pub mod Run
+pub mod Ended
 pub mod Edf
 pub mod Starved
 pub mod Writing
