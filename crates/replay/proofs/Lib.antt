@@ -1,0 +1,4 @@
+pub mod ReadLaws
+pub mod Forward
+pub mod SurveyLaws
+pub mod Ahead
