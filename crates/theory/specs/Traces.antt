@@ -16,7 +16,7 @@ use Rattle.scope.specs.Plan.{Read, Read.read, Read.bad, andRead, readNumber, nu
 use Rattle.scope.specs.Trace.{Stamped, readKind, readWork, readRecord, recordsWithin, traceOf, elapsed, Record, timedFrom, firstStamp, timed, lastInstant}
 use Rattle.scope.specs.Trace.{ticksOf, recordAt, recordBytes, traceBytes, stampedFrom, shifted}
 use Rattle.scope.specs.Replay.{replayAnswer}
-use Rattle.theory.specs.Every.{Every, EveryTwo, every-at, every-imp, every-map}
+use Rattle.theory.specs.Every.{Every, EveryTwo, every-at, every-imp}
 use Rattle.theory.specs.Seven.{bad-not-read, number-most, written-number, written-groups}
 use Rattle.theory.specs.Reading.{groups-size}
 use Rattle.theory.specs.Series.{drop-past}
@@ -92,7 +92,8 @@ unfolding timedFrom
 from-start k s [] = tt
 from-start k s (r ∷ rs) =
     let i : ℕ = k + elapsed s (r .stamp) in
-    (omega arith, every-imp (λ (q : Record). i ≤ q .instant) (λ q. k ≤ q .instant) (λ q h. omega arith) (timedFrom i (r .stamp) rs) (from-start i (r .stamp) rs))
+    let later = from-start i (r .stamp) rs in
+    (omega arith, every-imp (λ (q : Record). i ≤ q .instant) (λ q. k ≤ q .instant) (λ q h. omega arith) (timedFrom i (r .stamp) rs) later)
 
 -- none is before another that stands before it
 abbrev pub NeverFalls : List Record → Type 0
@@ -304,9 +305,10 @@ trace-round-trip rs w =
 -- ---- a trace whose stamps are all later by c
 
 shifted-recordable : (c : ℕ) (rs : List Stamped) → Every Recordable rs → Every Recordable (shifted c rs)
-shifted-recordable c rs w =
-    every-map _ Recordable rs (every-imp Recordable (λ r. Recordable (record { kind = r .kind; task = r .task; work = r .work; stamp = (r .stamp + c) % 2 ^ 32 }))
-    (λ r h. record { kind = h .kind; task = h .task; work = h .work; stamp = omega arith; workless = h .workless }) rs w)
+shifted-recordable c [] w = tt
+shifted-recordable c (r ∷ rs) w =
+    let h = w .0 in
+    (record { kind = h .kind; task = h .task; work = h .work; stamp = omega arith; workless = h .workless }, shifted-recordable c rs (w .1))
 
 module _ (bytes : List ℕ) (rs : List Stamped) (end : ℕ) (reads : traceOf bytes ≡ read rs end) (c : ℕ) where
   -- there are bytes that read to it
