@@ -32,6 +32,7 @@ pub mod Series
 pub mod Traces
 pub mod Plan
 pub mod PlanBytes
+pub mod Ended
 pub mod Replays
 pub mod Refused
 pub mod Applied

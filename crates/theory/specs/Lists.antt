@@ -169,10 +169,21 @@ module _ (p : ℕ → Bool) where
   unfolding keep
   keep-miss n e = rw e (append-nil (keep p n))
 
-  keep-none : (n : ℕ) → ((j : ℕ) → j < n → p j ≡ false) → keep p n ≡ []
+  pub keep-none : (n : ℕ) → ((j : ℕ) → j < n → p j ≡ false) → keep p n ≡ []
   unfolding keep
   keep-none zero h = refl
   keep-none (suc n) h = keep-miss n (h n (omega arith)) ∙ keep-none n (λ j l. h j (omega arith))
+
+  -- the only one that passes is kept alone
+  pub keep-alone : (c n : ℕ) → c < n → p c ≡ true → ((j : ℕ) → p j ≡ true → j ≡ c) → keep p n ≡ c ∷ []
+  unfolding keep
+  keep-alone c zero l e h = absurd (omega arith)
+  keep-alone c (suc n) l e h =
+      let others : (j : ℕ) → (j ≡ c → ⊥) → p j ≡ false = λ j u. elim (bool-cases (p j)) [ inl q ↦ absurd (u (h j q)) | inr q ↦ q ] in
+      elim (ℕ-discrete n c) [
+        | yes z ↦ rw (z, e, keep-none c (λ j k. others j (λ q. omega arith)))
+        | no z ↦ keep-miss n (others n z) ∙ keep-alone c n (omega arith) e h
+      ]
 
   -- the first that passes is the first that is kept
   pub keep-first : (c n : ℕ) → c < n → p c ≡ true → ((j : ℕ) → j < c → p j ≡ false) → (rest : List ℕ) × (keep p n ≡ c ∷ rest)

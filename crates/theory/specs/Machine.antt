@@ -26,7 +26,7 @@ length-worked true (some c) l = length-set l c (getD l c 0 - 1)
 length-worked false o l = refl
 
 -- a job that is not chosen keeps its work
-worked-other : (t : Bool) (o : Option ℕ) (l : List ℕ) (j : ℕ) → (t ≡ true → o ≡ some j → ⊥) → getD (cond t (worked o l) l) j 0 ≡ getD l j 0
+pub worked-other : (t : Bool) (o : Option ℕ) (l : List ℕ) (j : ℕ) → (t ≡ true → o ≡ some j → ⊥) → getD (cond t (worked o l) l) j 0 ≡ getD l j 0
 worked-other true none l j u = refl
 worked-other true (some c) l j u = getD-set-other l c j (getD l c 0 - 1) 0 (λ e. u refl (ap some (sym e)))
 worked-other false o l j u = refl
