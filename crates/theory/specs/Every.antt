@@ -1,9 +1,12 @@
 -- What holds of every element of a list, and of every two of them in their order
 use mathlib.Core.Path.{_≡_, refl}
+use mathlib.Core.Bool.{Bool, true, false, cond}
 use mathlib.Core.List.{List, [], _∷_, _++_, map}
 use Prim.Native.Nat.{ℕ, zero, suc, _<_}
 use native.Mathlib.Omega.{arith}
 use lib.ListN.{length, getD}
+use Rattle.scope.specs.Numbers.{keep}
+use Rattle.theory.specs.Lists.{keep-rising}
 
 abbrev pub Every : {A : Type 0} → (A → Type 0) → List A → Type 0
 Every P [] = Unit {0}
@@ -76,3 +79,23 @@ module _ {A B : Type 0} (f : A → B) where
   pub twos-map : (R : B → B → Type 0) (l : List A) → EveryTwo (λ a b. R (f a) (f b)) l → EveryTwo R (map f l)
   twos-map R [] h = tt
   twos-map R (a ∷ l) h = (every-map (R (f a)) l (h .0), twos-map R l (h .1))
+
+-- ---- the numbers below n that pass a test
+
+module _ (p : ℕ → Bool) where
+  pub kept-every : (Q : ℕ → Type 0) (n : ℕ) → ((j : ℕ) → j < n → p j ≡ true → Q j) → Every Q (keep p n)
+  unfolding keep
+  kept-every Q zero h = tt
+  kept-every Q (suc n) h = every-append Q (keep p n) (cond (p n) (n ∷ []) []) (kept-every Q n (λ j l. h j (omega arith))) (last (p n) refl)
+    where
+      last : (t : Bool) → p n ≡ t → Every Q (cond t (n ∷ []) [])
+      last true e = (h n (omega arith) e, tt)
+      last false e = tt
+
+  pub kept-twos : (R : ℕ → ℕ → Type 0) (n : ℕ) → ((i j : ℕ) → i < j → j < n → p i ≡ true → p j ≡ true → R i j) → EveryTwo R (keep p n)
+  kept-twos R n h =
+      let l = keep p n in
+      let passes : Every (λ j. p j ≡ true) l = kept-every (λ j. p j ≡ true) n (λ j k e. e) in
+      let each : (i : ℕ) → i < length l → p (getD l i 0) ≡ true = every-at (λ j. p j ≡ true) l passes 0 in
+      let up = keep-rising p n in
+      at-twos R l 0 (λ i j k m. h _ _ (up .up i j k m) (up .below j m) (each i (omega arith)) (each j m))

@@ -34,6 +34,7 @@ pub mod Plan
 pub mod PlanBytes
 pub mod Ended
 pub mod Replays
+pub mod Recorded
 pub mod Refused
 pub mod Applied
 pub mod Sharp
