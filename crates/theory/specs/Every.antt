@@ -17,12 +17,6 @@ EveryTwo R [] = Unit {0}
 EveryTwo R (a ∷ l) = Every (R a) l × EveryTwo R l
 
 module _ {A : Type 0} where
-  pub every-head : (P : A → Type 0) (a : A) (l : List A) → Every P (a ∷ l) → P a
-  every-head P a l h = h .0
-
-  pub every-tail : (P : A → Type 0) (a : A) (l : List A) → Every P (a ∷ l) → Every P l
-  every-tail P a l h = h .1
-
   pub every-at : (P : A → Type 0) (l : List A) → Every P l → (d : A) (i : ℕ) → i < length l → P (getD l i d)
   every-at P [] h d i k = absurd (omega arith)
   every-at P (a ∷ l) h d zero k = h .0
