@@ -22,7 +22,7 @@ use Rattle.scope.specs.Run.{Outcome.met, outcome, countOf, counts}
 use Rattle.scope.specs.Answers.{Answer.given, Answer.refused, windowListFault, taskListFault, verdictAnswer, boundAnswer, runAnswer, runOut, criticalAnswer}
 use Rattle.scope.specs.Answers.{criticalOf, criticalOut, leastSupplyAnswer, outageAnswer}
 use Rattle.scope.specs.Trace.{Stamped, traceOf, Record, timed, ticksOf, releases, completion, completions, traceBytes, stampedFrom}
-use Rattle.scope.specs.Replay.{endedFrom, recorded, Replayed.same, Replayed.missed, replayAnswer}
+use Rattle.scope.specs.Replay.{endedFrom, recorded, Replayed.same, Replayed.differs, Replayed.missed, replayAnswer}
 use Rattle.scope.specs.Demands.{Silent, LeastMiss, Way, Served}
 use Rattle.scope.specs.Examples.{Reply.amounts, Reply.windows, Reply.bytesIn, Reply.aVerdict, Reply.bounds, Reply.aRun, X, lab, on, reply, table, examples, row}
 use Rattle.scope.specs.Examples.{Reply.aReplay}
@@ -40,7 +40,7 @@ use Rattle.theory.specs.Writing.{number-one, number-more}
 use Rattle.theory.specs.Seven.{UpTo, up-to-greatest}
 use Rattle.theory.specs.Plan.{mostPlanBytes, first-answer, longest-plan}
 use Rattle.theory.specs.Traces.{shift-answer}
-use Rattle.theory.specs.Replays.{replay-given, same-completions, FirstPair, difference-is, meets-no-miss}
+use Rattle.theory.specs.Replays.{replay-given, same-completions, FirstPair, machineEnded, replayed-differs, meets-no-miss}
 use Rattle.theory.specs.Recorded.{recorded-same, recorded-missed}
 use Rattle.theory.specs.PlanBytes.{Writable, plan-length, round-trip, left-over, only-bytes}
 
@@ -364,11 +364,26 @@ trace-machine :
     completions rs ≡ endedFrom (suppliedBy (on 8) X) (edf (tasksOf w7) js) js 0 (ticksOf rs - 1)
 trace-machine = same-completions (on 8) X w7 trace (replay-given (on 8) X w7 trace same trace-same) .0
 
--- a completion one tick late is the pair that differs, after the one that both have
-late-pair : FirstPair (completion 1 0 ∷ completion 7 1 ∷ []) (completion 1 0 ∷ completion 6 1 ∷ [])
+-- a completion one tick late is the first pair that differs
+abbrev late : List ℕ
+late = 0 ∷ 0 ∷ 1 ∷ 100 ∷ 0 ∷ 1 ∷ 2 ∷ 100 ∷ 1 ∷ 0 ∷ 101 ∷ 1 ∷ 1 ∷ 107 ∷ []
+
+late-differs : replayAnswer (on 8) X w7 late ≡ given (differs (some (completion 7 1)) (some (completion 6 1)))
+unfolding reply table
+late-differs =
+    let e : aReplay (replayAnswer (on 8) X w7 late) ≡ aReplay (given (differs (some (completion 7 1)) (some (completion 6 1)))) =
+    row table examples "a late completion" in
+    cc
+
+late-pair :
+    let rs = timed (replay-given (on 8) X w7 late _ late-differs .stamped) in
+    let before = edf (tasksOf w7) (releases rs) in
+    FirstPair (completions rs) (machineEnded (suppliedBy (on 8) X) before (tasksOf w7) rs)
     (record { trace = some (completion 7 1); machine = some (completion 6 1) })
-unfolding everything
-late-pair = difference-is (completion 1 0 ∷ completion 7 1 ∷ []) (completion 1 0 ∷ completion 6 1 ∷ []) _ refl
+late-pair =
+    let r = replay-given (on 8) X w7 late _ late-differs in
+    let rs = timed (r .stamped) in
+    replayed-differs (suppliedBy (on 8) X) (edf (tasksOf w7) (releases rs)) (tasksOf w7) rs _ _ (r .is) .0
 
 -- W7 meets, so no trace of its tasks shows a miss of the machine
 w7-no-miss : (bytes : List ℕ) (k j : ℕ) → replayAnswer (on 8) X w7 bytes ≡ given (missed k j) → ⊥

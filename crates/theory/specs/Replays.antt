@@ -9,7 +9,7 @@ use native.Mathlib.Omega.{arith}
 use lib.Dec.{leb, ltb, eqb}
 use lib.ListN.{length, take, drop, length-append}
 use lib.Seq.{split-at, getD-append-seam}
-use borrow.Author.Tests.{eqb-true, eq-eqb, ltb-false, not-false, le-ltb}
+use borrow.Author.Tests.{eqb-true, eq-eqb, leb-true, leb-false, ltb-false, not-false, le-ltb}
 use Rattle.scope.specs.Limits.{mostTicks, mostJobs}
 use Rattle.scope.specs.Windows.{Board, suppliedBy}
 use Rattle.scope.specs.Tasks.{Task, tasksOf}
@@ -182,15 +182,79 @@ named-same (Runs.missed k j) (some d) e = go (leb k (lesser (d .trace) (d .machi
     go true q = let z : _≡_ {A = ℕ} 0 1 = cc in absurd (omega arith)
     go false q = let z : _≡_ {A = ℕ} 0 1 = cc in absurd (omega arith)
 
-named-missed : (o : Outcome) (d : Option Difference) (k j : ℕ) → named o d ≡ missed k j → o ≡ Runs.missed k j
-named-missed Runs.met none k j e = let z : _≡_ {A = ℕ} 0 1 = cc in absurd (omega arith)
-named-missed Runs.met (some d) k j e = let z : _≡_ {A = ℕ} 0 1 = cc in absurd (omega arith)
-named-missed (Runs.missed n i) none k j e = let z : n ≡ k = cc in let y : i ≡ j = cc in rw (z, y)
-named-missed (Runs.missed n i) (some d) k j e = go (leb n (lesser (d .trace) (d .machine))) e
-  where
-    go : (t : Bool) → cond t (missed n i) (differs (d .trace) (d .machine)) ≡ missed k j → Runs.missed n i ≡ Runs.missed k j
-    go true q = let z : n ≡ k = cc in let y : i ≡ j = cc in rw (z, y)
-    go false q = let z : _≡_ {A = ℕ} 0 1 = cc in absurd (omega arith)
+module _ (k j : ℕ) where
+  named-missed : (o : Outcome) (d : Option Difference) → named o d ≡ missed k j →
+      (o ≡ Runs.missed k j) × ((f : Difference) → d ≡ some f → k ≤ lesser (f .trace) (f .machine))
+  named-missed Runs.met none e = let z : _≡_ {A = ℕ} 0 1 = cc in absurd (omega arith)
+  named-missed Runs.met (some d) e = let z : _≡_ {A = ℕ} 0 1 = cc in absurd (omega arith)
+  named-missed (Runs.missed n i) none e =
+      let z : n ≡ k = cc in
+      let y : i ≡ j = cc in
+      (rw (z, y), λ f q. let x : _≡_ {A = ℕ} 0 1 = cc in absurd (omega arith))
+  named-missed (Runs.missed n i) (some d) e = go (leb n (lesser (d .trace) (d .machine))) refl e
+    where
+      go : (t : Bool) → leb n (lesser (d .trace) (d .machine)) ≡ t → cond t (missed n i) (differs (d .trace) (d .machine)) ≡ missed k j →
+          (Runs.missed n i ≡ Runs.missed k j) × ((f : Difference) → some d ≡ some f → k ≤ lesser (f .trace) (f .machine))
+      go true l q =
+          let z : n ≡ k = cc in
+          let y : i ≡ j = cc in
+          (rw (z, y), λ f h. let x : d ≡ f = cc in rw (← x) (omega (arith, leb-true n (lesser (d .trace) (d .machine)) l)))
+      go false l q = let z : _≡_ {A = ℕ} 0 1 = cc in absurd (omega arith)
+
+module _ (c m : Option Completion) where
+  named-differs : (o : Outcome) (d : Option Difference) → named o d ≡ differs c m →
+      (d ≡ some (record { trace = c; machine = m })) × ((k j : ℕ) → o ≡ Runs.missed k j → lesser c m < k)
+  named-differs Runs.met none e = let z : _≡_ {A = ℕ} 0 1 = cc in absurd (omega arith)
+  named-differs Runs.met (some d) e =
+      let z : d .trace ≡ c = cc in
+      let y : d .machine ≡ m = cc in
+      (rw (← z, ← y), λ k j q. let x : _≡_ {A = ℕ} 0 1 = cc in absurd (omega arith))
+  named-differs (Runs.missed n i) none e = let z : _≡_ {A = ℕ} 0 1 = cc in absurd (omega arith)
+  named-differs (Runs.missed n i) (some d) e = go (leb n (lesser (d .trace) (d .machine))) refl e
+    where
+      go : (t : Bool) → leb n (lesser (d .trace) (d .machine)) ≡ t → cond t (missed n i) (differs (d .trace) (d .machine)) ≡ differs c m →
+          (some d ≡ some (record { trace = c; machine = m })) × ((k j : ℕ) → Runs.missed n i ≡ Runs.missed k j → lesser c m < k)
+      go true l q = let z : _≡_ {A = ℕ} 0 1 = cc in absurd (omega arith)
+      go false l q =
+          let z : d .trace ≡ c = cc in
+          let y : d .machine ≡ m = cc in
+          (rw (← z, ← y), λ k j h. let x : n ≡ k = cc in rw (← z, ← y) (omega (arith, leb-false n (lesser (d .trace) (d .machine)) l)))
+
+-- ---- records held against the machine, over any pattern σ and any rule
+
+module _ (σ : ℕ → Bool) (before : ℕ → ℕ → Bool) (ts : List Task) (rs : List Record) where
+  -- the instant of the last record, the machine's outcome there, and its completions up to there or to its miss
+  abbrev pub last : ℕ
+  last = ticksOf rs - 1
+
+  abbrev pub ranTo : Outcome
+  ranTo = outcome σ before ts (releases rs) last
+
+  abbrev pub machineEnded : List Completion
+  machineEnded = endedFrom σ before (releases rs) 0 (ticksDone ranTo last)
+
+  -- "with neither, the answer is same": the completions are the machine's, and it misses no deadline
+  pub replayed-same : replayed σ before ts rs ≡ same → (completions rs ≡ endedFrom σ before (releases rs) 0 last) × (ranTo ≡ Runs.met)
+  unfolding replayed
+  replayed-same e =
+      let n = named-same ranTo (firstDifference (completions rs) machineEnded) e in
+      let z : completions rs ≡ machineEnded = no-difference (completions rs) machineEnded (n .1) in
+      (z ∙ ap (λ (o : Outcome). endedFrom σ before (releases rs) 0 (ticksDone o last)) (n .0), n .0)
+
+  -- the first pair that differs is named, and any miss is later than the lesser of its instants
+  pub replayed-differs : (c m : Option Completion) → replayed σ before ts rs ≡ differs c m →
+      FirstPair (completions rs) machineEnded (record { trace = c; machine = m }) × ((k j : ℕ) → ranTo ≡ Runs.missed k j → lesser c m < k)
+  unfolding replayed
+  replayed-differs c m e =
+      let n = named-differs c m ranTo (firstDifference (completions rs) machineEnded) e in
+      (difference-is (completions rs) machineEnded _ (n .0), n .1)
+
+  -- "a machine miss up to that instant, and no later than the lesser instant of any difference, is named instead"
+  pub replayed-missed : (k j : ℕ) → replayed σ before ts rs ≡ missed k j →
+      (ranTo ≡ Runs.missed k j)
+      × ((d : Difference) → firstDifference (completions rs) machineEnded ≡ some d → k ≤ lesser (d .trace) (d .machine))
+  unfolding replayed
+  replayed-missed k j e = named-missed k j ranTo (firstDifference (completions rs) machineEnded) e
 
 -- "same": the trace's completions are the machine's up to the last record's instant, and the machine misses no deadline up to it
 pub same-completions : (b : Board) (ws ts bytes : List ℕ) (r : Replaying b ws ts bytes same) →
@@ -198,17 +262,9 @@ pub same-completions : (b : Board) (ws ts bytes : List ℕ) (r : Replaying b ws 
     let js = releases rs in
     (completions rs ≡ endedFrom (suppliedBy b ws) (edf (tasksOf ts) js) js 0 (ticksOf rs - 1))
     × (outcome (suppliedBy b ws) (edf (tasksOf ts) js) (tasksOf ts) js (ticksOf rs - 1) ≡ Runs.met)
-unfolding replayed
 same-completions b ws ts bytes r =
-    let rs : List Record = timed (r .stamped) in
-    let js : List Job = releases rs in
-    let σ = suppliedBy b ws in
-    let last : ℕ = ticksOf rs - 1 in
-    let ended : ℕ → List Completion = endedFrom σ (edf (tasksOf ts) js) js 0 in
-    let o : Outcome = outcome σ (edf (tasksOf ts) js) (tasksOf ts) js last in
-    let n = named-same o (firstDifference (completions rs) (ended (ticksDone o last))) (r .is) in
-    let e : completions rs ≡ ended (ticksDone o last) = no-difference (completions rs) (ended (ticksDone o last)) (n .1) in
-    (e ∙ ap (λ (p : Outcome). ended (ticksDone p last)) (n .0), n .0)
+    let rs = timed (r .stamped) in
+    replayed-same (suppliedBy b ws) (edf (tasksOf ts) (releases rs)) (tasksOf ts) rs (r .is)
 
 -- ---- releases
 
@@ -281,16 +337,14 @@ jobs-legal ts rs e = none-first (λ j. not (jobLegal ts (ticksOf rs) (releases r
 -- no trace that keeps the rules shows a miss of the machine
 pub meets-no-miss : (b : Board) (ws ts bytes : List ℕ) (H k j : ℕ) →
     verdictAnswer b ws ts ≡ given (meets H) → replayAnswer b ws ts bytes ≡ given (missed k j) → ⊥
-unfolding replayed
 meets-no-miss b ws ts bytes H k j met given-miss =
     let r = replay-given b ws ts bytes (missed k j) given-miss in
     let rs : List Record = timed (r .stamped) in
     let js : List Job = releases rs in
     let σ = suppliedBy b ws in
-    let last : ℕ = ticksOf rs - 1 in
+    let before = edf (tasksOf ts) js in
     let m = edf-meets b ws ts H met (ticksOf rs) js (jobs-legal (tasksOf ts) rs (r .legal)) .0 in
-    let o : outcome σ (edf (tasksOf ts) js) (tasksOf ts) js last ≡ Runs.met =
-    met-before σ (edf (tasksOf ts) js) js (tasksOf ts) last (ticksOf rs) (omega arith) m in
-    let q : outcome σ (edf (tasksOf ts) js) (tasksOf ts) js last ≡ Runs.missed k j = named-missed _ _ k j (r .is) in
-    let z : _≡_ {A = ℕ} 0 1 = let y : Runs.met ≡ Runs.missed k j = sym o ∙ q in cc in
+    let o = met-before σ before js (tasksOf ts) (ticksOf rs - 1) (ticksOf rs) (omega arith) m in
+    let q : Runs.met ≡ Runs.missed k j = sym o ∙ replayed-missed σ before (tasksOf ts) rs k j (r .is) .0 in
+    let z : _≡_ {A = ℕ} 0 1 = cc in
     omega arith
