@@ -13,16 +13,19 @@ use Rattle.scope.specs.Windows.{suppliedBy}
 use Rattle.scope.specs.Tasks.{tasksOf, demand}
 use Rattle.scope.specs.Verdict.{Verdict.meets, Verdict.miss}
 use Rattle.scope.specs.Bound.{Bound.bound, asked}
-use Rattle.scope.specs.Jobs.{jobsOf, taskOf, deadline}
+use Rattle.scope.specs.Jobs.{Job, job, jobsOf, taskOf, deadline}
 use Rattle.scope.specs.Machine.{edf, workLeft}
 use Rattle.scope.specs.Limits.{mostWindows, mostTasks, mostNumber}
-use Rattle.scope.specs.Plan.{Plan, planOf, planAnswer, numberBytesWithin, numberBytes, numbersBytes, planBytes, writeAnswer, writeOut}
+use Rattle.scope.specs.Plan.{Read.read, Plan, planOf, planAnswer, numberBytesWithin, numberBytes, numbersBytes, planBytes, writeAnswer, writeOut}
 use Rattle.scope.specs.Line.{lineAnswer, lineOut}
 use Rattle.scope.specs.Run.{Outcome.met, outcome, countOf, counts}
 use Rattle.scope.specs.Answers.{Answer.given, Answer.refused, windowListFault, taskListFault, verdictAnswer, boundAnswer, runAnswer, runOut, criticalAnswer}
 use Rattle.scope.specs.Answers.{criticalOf, criticalOut, leastSupplyAnswer, outageAnswer}
+use Rattle.scope.specs.Trace.{Stamped, traceOf, Record, timed, ticksOf, releases, completion, completions, traceBytes, stampedFrom}
+use Rattle.scope.specs.Replay.{endedFrom, recorded, Replayed.same, Replayed.differs, Replayed.missed, replayAnswer}
 use Rattle.scope.specs.Demands.{Silent, LeastMiss, Way, Served}
 use Rattle.scope.specs.Examples.{Reply.amounts, Reply.windows, Reply.bytesIn, Reply.aVerdict, Reply.bounds, Reply.aRun, X, lab, on, reply, table, examples, row}
+use Rattle.scope.specs.Examples.{Reply.aReplay}
 use Rattle.scope.specs.Computing.{everything}
 use Rattle.theory.specs.Numbers.{by-lexically}
 use Rattle.theory.specs.Answers.{run-given}
@@ -36,6 +39,9 @@ use Rattle.theory.specs.Refused.{critical-kept, run-kept, write-kept, li
 use Rattle.theory.specs.Writing.{number-one, number-more}
 use Rattle.theory.specs.Seven.{UpTo, up-to-greatest}
 use Rattle.theory.specs.Plan.{mostPlanBytes, first-answer, longest-plan}
+use Rattle.theory.specs.Traces.{shift-answer}
+use Rattle.theory.specs.Replays.{replay-given, same-completions, FirstPair, machineEnded, replayed-differs, meets-no-miss}
+use Rattle.theory.specs.Recorded.{recorded-same, recorded-missed}
 use Rattle.theory.specs.PlanBytes.{Writable, plan-length, round-trip, left-over, only-bytes}
 
 abbrev pub w6 : List ℕ
@@ -308,3 +314,114 @@ longest-writable =
 
 longest-most : length (planBytes longest) ≤ mostPlanBytes
 longest-most = longest-plan (planBytes longest) longest (round-trip longest longest-writable)
+
+-- ---- a board's trace
+
+abbrev stamped : ℕ → ℕ → ℕ → ℕ → Stamped
+stamped kind task work stamp = record { kind = kind; task = task; work = work; stamp = stamp }
+
+-- W7's tasks, both released in full at tick 0, where the counter shows 100
+abbrev trace : List ℕ
+trace = 0 ∷ 0 ∷ 1 ∷ 100 ∷ 0 ∷ 1 ∷ 2 ∷ 100 ∷ 1 ∷ 0 ∷ 101 ∷ 1 ∷ 1 ∷ 106 ∷ []
+
+abbrev trace-stamps : List Stamped
+trace-stamps = stamped 0 0 1 100 ∷ stamped 0 1 2 100 ∷ stamped 1 0 0 101 ∷ stamped 1 1 0 106 ∷ []
+
+trace-reads : traceOf trace ≡ read trace-stamps 14
+unfolding everything
+trace-reads = refl
+
+trace-same : replayAnswer (on 8) X w7 trace ≡ given same
+unfolding reply table
+trace-same = let e : aReplay (replayAnswer (on 8) X w7 trace) ≡ aReplay (given same) = row table examples "a trace" in cc
+
+-- where it shows 2 ^ 32 − 2, and goes past its top
+abbrev wrapped : List ℕ
+wrapped =
+    0 ∷ 0 ∷ 1 ∷ 254 ∷ 255 ∷ 255 ∷ 255 ∷ 15 ∷ 0 ∷ 1 ∷ 2 ∷ 254 ∷ 255 ∷ 255 ∷ 255 ∷ 15
+    ∷ 1 ∷ 0 ∷ 255 ∷ 255 ∷ 255 ∷ 255 ∷ 15 ∷ 1 ∷ 1 ∷ 4 ∷ []
+
+abbrev wrapped-stamps : List Stamped
+wrapped-stamps = stamped 0 0 1 4294967294 ∷ stamped 0 1 2 4294967294 ∷ stamped 1 0 0 4294967295 ∷ stamped 1 1 0 4 ∷ []
+
+wrapped-reads : traceOf wrapped ≡ read wrapped-stamps 26
+unfolding everything
+wrapped-reads = refl
+
+-- it is the first trace with each stamp later by 2 ^ 32 − 102, so it answers as that does
+wrapped-same : replayAnswer (on 8) X w7 wrapped ≡ given same
+wrapped-same = shift-answer trace trace-stamps 14 trace-reads 4294967194 wrapped 26 wrapped-reads (on 8) X w7 ∙ trace-same
+
+-- its completions, of task 0 at instant 1 and of task 1 at 6, are the machine's
+trace-completions : completions (timed trace-stamps) ≡ completion 1 0 ∷ completion 6 1 ∷ []
+unfolding everything
+trace-completions = refl
+
+trace-machine :
+    let r = replay-given (on 8) X w7 trace same trace-same in
+    let rs = timed (r .stamped) in
+    let js = releases rs in
+    completions rs ≡ endedFrom (suppliedBy (on 8) X) (edf (tasksOf w7) js) js 0 (ticksOf rs - 1)
+trace-machine = same-completions (on 8) X w7 trace (replay-given (on 8) X w7 trace same trace-same) .0
+
+-- a completion one tick late is the first pair that differs
+abbrev late : List ℕ
+late = 0 ∷ 0 ∷ 1 ∷ 100 ∷ 0 ∷ 1 ∷ 2 ∷ 100 ∷ 1 ∷ 0 ∷ 101 ∷ 1 ∷ 1 ∷ 107 ∷ []
+
+late-differs : replayAnswer (on 8) X w7 late ≡ given (differs (some (completion 7 1)) (some (completion 6 1)))
+unfolding reply table
+late-differs =
+    let e : aReplay (replayAnswer (on 8) X w7 late) ≡ aReplay (given (differs (some (completion 7 1)) (some (completion 6 1)))) =
+    row table examples "a late completion" in
+    cc
+
+late-pair :
+    let rs = timed (replay-given (on 8) X w7 late _ late-differs .stamped) in
+    let before = edf (tasksOf w7) (releases rs) in
+    FirstPair (completions rs) (machineEnded (suppliedBy (on 8) X) before (tasksOf w7) rs)
+    (record { trace = some (completion 7 1); machine = some (completion 6 1) })
+late-pair =
+    let r = replay-given (on 8) X w7 late _ late-differs in
+    let rs = timed (r .stamped) in
+    replayed-differs (suppliedBy (on 8) X) (edf (tasksOf w7) (releases rs)) (tasksOf w7) rs _ _ (r .is) .0
+
+-- W7 meets, so no trace of its tasks shows a miss of the machine
+w7-no-miss : (bytes : List ℕ) (k j : ℕ) → replayAnswer (on 8) X w7 bytes ≡ given (missed k j) → ⊥
+w7-no-miss bytes k j = meets-no-miss (on 8) X w7 bytes 8 k j w7-meets
+
+-- these two traces are what the machine records of a run of 10 ticks
+abbrev full-jobs : List Job
+full-jobs = job 0 0 1 ∷ job 0 1 2 ∷ []
+
+abbrev full : List Record
+full = recorded (suppliedBy (on 8) X) (edf (tasksOf w7) full-jobs) (tasksOf w7) full-jobs 10
+
+full-bytes : traceBytes (stampedFrom 100 full) ≡ trace
+unfolding everything
+full-bytes = refl
+
+full-stamps : stampedFrom 4294967294 full ≡ wrapped-stamps
+unfolding everything
+full-stamps = refl
+
+full-same : replayAnswer (on 8) X w7 (traceBytes (stampedFrom 4294967294 full)) ≡ given same
+unfolding everything
+full-same = recorded-same (on 8) X w7 refl refl full-jobs 10 refl (omega arith) (omega arith) refl (omega arith) 4294967294 refl
+
+-- with D of task 1 at 5 its job is late at instant 5; a release at 8 is recorded after that
+abbrev late-tasks : List ℕ
+late-tasks = 1 ∷ 4 ∷ 4 ∷ 2 ∷ 8 ∷ 5 ∷ []
+
+abbrev late-jobs : List Job
+late-jobs = job 0 0 1 ∷ job 0 1 2 ∷ job 8 0 1 ∷ []
+
+abbrev late-records : List Record
+late-records = recorded (suppliedBy (on 8) X) (edf (tasksOf late-tasks) late-jobs) (tasksOf late-tasks) late-jobs 10
+
+late-bytes : traceBytes (stampedFrom 100 late-records) ≡ 0 ∷ 0 ∷ 1 ∷ 100 ∷ 0 ∷ 1 ∷ 2 ∷ 100 ∷ 1 ∷ 0 ∷ 101 ∷ 0 ∷ 0 ∷ 1 ∷ 108 ∷ []
+unfolding everything
+late-bytes = refl
+
+late-missed : replayAnswer (on 8) X late-tasks (traceBytes (stampedFrom 100 late-records)) ≡ given (missed 5 1)
+unfolding everything
+late-missed = recorded-missed (on 8) X late-tasks refl refl late-jobs 10 refl (omega arith) (omega arith) refl (omega arith) 100 5 1 refl

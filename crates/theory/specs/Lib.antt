@@ -1,5 +1,6 @@
 pub mod Numbers
 pub mod Lists
+pub mod Every
 pub mod Buffers
 pub mod Ticks
 pub mod Windows
@@ -29,8 +30,11 @@ pub mod Writing
 pub mod Reading
 pub mod Seven
 pub mod Series
+pub mod Traces
 pub mod Plan
 pub mod PlanBytes
+pub mod Replays
+pub mod Recorded
 pub mod Refused
 pub mod Applied
 pub mod Sharp

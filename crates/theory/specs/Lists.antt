@@ -174,6 +174,17 @@ module _ (p : ℕ → Bool) where
   keep-none zero h = refl
   keep-none (suc n) h = keep-miss n (h n (omega arith)) ∙ keep-none n (λ j l. h j (omega arith))
 
+  -- the only one that passes is kept alone
+  pub keep-alone : (c n : ℕ) → c < n → p c ≡ true → ((j : ℕ) → p j ≡ true → j ≡ c) → keep p n ≡ c ∷ []
+  unfolding keep
+  keep-alone c zero l e h = absurd (omega arith)
+  keep-alone c (suc n) l e h =
+      let others : (j : ℕ) → (j ≡ c → ⊥) → p j ≡ false = λ j u. elim (bool-cases (p j)) [ inl q ↦ absurd (u (h j q)) | inr q ↦ q ] in
+      elim (ℕ-discrete n c) [
+        | yes z ↦ rw (z, e, keep-none c (λ j k. others j (λ q. omega arith)))
+        | no z ↦ keep-miss n (others n z) ∙ keep-alone c n (omega arith) e h
+      ]
+
   -- the first that passes is the first that is kept
   pub keep-first : (c n : ℕ) → c < n → p c ≡ true → ((j : ℕ) → j < c → p j ≡ false) → (rest : List ℕ) × (keep p n ≡ c ∷ rest)
   unfolding keep
@@ -185,16 +196,6 @@ module _ (p : ℕ → Bool) where
             let f = keep-first c n (omega arith) e h in
             let more : List ℕ = cond (p n) (n ∷ []) [] in
             (f .0 ++ more, ap (λ (l : List ℕ). l ++ more) (f .1))
-      ]
-
-  -- one that passes alone is all that is kept
-  pub keep-alone : (c n : ℕ) → c < n → p c ≡ true → ((j : ℕ) → p j ≡ true → j ≡ c) → keep p n ≡ c ∷ []
-  unfolding keep
-  keep-alone c zero l e h = absurd (omega arith)
-  keep-alone c (suc n) l e h =
-      elim (ℕ-discrete n c) [
-        | yes z ↦ rw (z, e, keep-none c (λ j k. elim (bool-cases (p j)) [ inl q ↦ absurd (omega (arith, h j q)) | inr q ↦ q ]))
-        | no z ↦ keep-miss n (elim (bool-cases (p n)) [ inl q ↦ absurd (z (h n q)) | inr q ↦ q ]) ∙ keep-alone c n (omega arith) e h
       ]
 
 -- ---- they rise, and all are below n

@@ -267,9 +267,19 @@ first-passes p before n c e = go (firstBy before p n) (first-is p before (λ i. 
     go (some d) f q = let g : d ≡ c = cc in (omega (arith, f .0), rw (← g) (f .1))
 
 -- an order by m and then by the rest goes first by m
-lexically-true : (x y : ℕ) (rest : Bool) → lexically x y rest ≡ true → x ≤ y
+pub lexically-true : (x y : ℕ) (rest : Bool) → lexically x y rest ≡ true → x ≤ y
 lexically-true x y rest e =
     elim (decLe x y) [ yes h ↦ h | no h ↦ absurd (false≢true (rw (le-ltb x y (omega arith), ne-eqb x y (omega arith)) at e)) ]
+
+-- and where m decides nothing, by the rest
+pub lexically-tied : (x y : ℕ) (rest : Bool) → lexically x y rest ≡ true → x ≡ y → rest ≡ true
+lexically-tied x y rest e z = rw (le-ltb x y (omega arith), eq-eqb x y z) at e
+
+pub less-lexically : (x y : ℕ) (rest : Bool) → x < y → lexically x y rest ≡ true
+less-lexically x y rest h = rw (lt-ltb x y h)
+
+pub tied-lexically : (x y : ℕ) (rest : Bool) → x ≡ y → rest ≡ true → lexically x y rest ≡ true
+tied-lexically x y rest z e = rw (le-ltb x y (omega arith), eq-eqb x y z, e)
 
 lexically-false : (x y : ℕ) (rest : Bool) → lexically x y rest ≡ false → y ≤ x
 lexically-false x y rest e = elim (decLe y x) [ yes h ↦ h | no h ↦ absurd (true≢false (rw (lt-ltb x y (omega arith)) at e)) ]

@@ -42,7 +42,7 @@ no-rest bytes end e = ltb-false end (length bytes) (faultIf-fine _ 9 end e)
 refused-not-given : {A : Type 0} {a : A} {n p : ℕ} → refused n p ≡ given a → ⊥
 refused-not-given e = let z : _≡_ {A = ℕ} 0 1 = cc in omega arith
 
-orNine-given : {A B R : Type 0} (x : Read A) (f : A → ℕ → Answer B) (b : B) → orNine x f ≡ given b →
+pub orNine-given : {A B R : Type 0} (x : Read A) (f : A → ℕ → Answer B) (b : B) → orNine x f ≡ given b →
     ((a : A) (next : ℕ) → x ≡ read a next → f a next ≡ given b → R) → R
 orNine-given (read a next) f b e go = go a next refl e
 orNine-given (bad o) f b e go = absurd (refused-not-given e)
