@@ -1,3 +1,4 @@
 pub mod Reading
 pub mod Rebuilt
 pub mod Surveyed
+pub mod Ending

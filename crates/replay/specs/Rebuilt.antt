@@ -1,12 +1,15 @@
 -- The records of a trace that reads, as facts for the functions that go through it again
 use mathlib.Core.Path.{_≡_}
+use mathlib.Core.Bool.{Bool, not, cond, _&&_, _||_}
 use mathlib.Core.List.{List, [], _∷_}
-use Prim.Native.Nat.{ℕ, _≤_}
-use lib.ListN.{length}
+use Prim.Native.Nat.{ℕ, _+_, _*_, _≤_}
+use lib.Dec.{eqb}
+use lib.ListN.{length, set}
 use Rattle.scope.specs.Limits.{mostTicks, mostJobs}
 use Rattle.scope.specs.Jobs.{Job}
 use Rattle.scope.specs.Plan.{Read, Read.read, Read.bad}
-use Rattle.scope.specs.Trace.{Stamped, traceOf, Record, timed, ticksOf, releases}
+use Rattle.scope.specs.Trace.{Stamped, traceOf, Record, timed, ticksOf, isRelease, releases, recordAt, goesBefore, inTurn, releasesBefore}
+use Rattle.replay.specs.declared.read.Reader.{Reader}
 
 abbrev pub timedIn : Read (List Stamped) → List Record
 timedIn (read rs end) = timed rs
@@ -28,3 +31,14 @@ pub record Fits (bytes : List ℕ) : Type 0 where
 unfoldable pub numbersOf : List Job → List ℕ
 numbersOf [] = []
 numbersOf (x ∷ js) = x .release ∷ x .task ∷ x .work ∷ numbersOf js
+
+-- a buffer with the release that a reader has passed as job j
+unfoldable pub jobPut : List ℕ → ℕ → Reader → List ℕ
+jobPut l j r = cond (eqb (r .kind) 0) (set (set (set l (3 * j) (r .instant)) (3 * j + 1) (r .task)) (3 * j + 2) (r .work)) l
+
+-- record i, which is b and comes after a, is against the order, or is release number `illegal`, where j releases come before it
+abbrev pub breaksBy : ℕ → Record → Record → ℕ → ℕ → Bool
+breaksBy i a b j illegal = not (eqb i 0 || goesBefore a b) || (isRelease b && eqb j illegal)
+
+unfoldable pub breaksAt : List Record → ℕ → ℕ → Bool
+breaksAt rs illegal i = not (inTurn rs i) || (isRelease (recordAt rs i) && eqb (releasesBefore rs i) illegal)

@@ -7,6 +7,8 @@ use jobs::check::check_jobs;
 use tables::answer::Checked;
 use tables::answer::Refusal;
 ghost use mathlib.Core.Path.{_≡_};
+ghost use mathlib.Core.Bool.{not, _||_};
+ghost use lib.Dec.{eqb};
 ghost use lib.ListN.{length};
 ghost use Rattle.scope.specs.Numbers.{first};
 ghost use Rattle.scope.specs.Tasks.{tasksOf};
@@ -36,23 +38,33 @@ fn goes_before(a: Reader, b: Reader) -> bool
     a.task < b.task
 }
 
-// Whether record i, which is b and comes after a, is against the order or is release number `bad`, where j releases come before it.
-fn breaks(i: usize, a: Reader, b: Reader, j: usize, bad: usize) -> bool
-    ensures { λ r. ⌜ r ≡ breaksBy i (recordOf a) (recordOf b) j bad ⌝ }
+// Whether record i, which is b and comes after a, is against the order.
+fn out_of_turn(i: usize, a: Reader, b: Reader) -> bool
+    ensures { λ r. ⌜ r ≡ not (eqb i 0 || goesBefore (recordOf a) (recordOf b)) ⌝ }
 {
-    if i != 0 && !goes_before(a, b) {
+    if i == 0 {
+        return false;
+    }
+    !goes_before(a, b)
+}
+
+// Whether it is, or is release number `illegal`, where j releases come before it.
+fn breaks(i: usize, a: Reader, b: Reader, j: usize, illegal: usize) -> bool
+    ensures { λ r. ⌜ r ≡ breaksBy i (recordOf a) (recordOf b) j illegal ⌝ }
+{
+    if out_of_turn(i, a, b) {
         return true;
     }
     if b.kind != 0 {
         return false;
     }
-    j == bad
+    j == illegal
 }
 
-// The first record that is against the order, or release number `bad`, if one of these comes.
-fn first_bad(bytes: &[u8], bad: usize) -> Checked
+// The first record that is against the order, or release number `illegal`, if one of these comes.
+fn first_bad(bytes: &[u8], illegal: usize) -> Checked
     requires { ⌜ Fits (now bytes) ⌝ }
-    ensures { λ r. ⌜ faultOf r ≡ faultAt 11 (first (breaksAt (recordsOf (now (bytes .entry))) bad) (length (recordsOf (now (bytes .entry))))) ⌝ }
+    ensures { λ r. ⌜ faultOf r ≡ faultAt 11 (first (breaksAt (recordsOf (now (bytes .entry))) illegal) (length (recordsOf (now (bytes .entry))))) ⌝ }
 {
     let mut r = start(bytes);
     let mut i = 0;
@@ -60,7 +72,7 @@ fn first_bad(bytes: &[u8], bad: usize) -> Checked
     while r.at < bytes.len() {
         let previous = r;
         r = next(bytes, r);
-        if breaks(i, previous, r, j, bad) {
+        if breaks(i, previous, r, j, illegal) {
             let place = i as u64;
             return Checked::Bad(Refusal::Job(place));
         }
@@ -79,8 +91,8 @@ pub(crate) fn check_records(tasks: &[u32], n: u32, bytes: &[u8], jobs: &[u32]) -
     match check_jobs(tasks, n, jobs) {
         Checked::Fine => first_bad(bytes, jobs.len() / 3),
         Checked::Bad(r) => {
-            let bad = r.place() as usize;
-            first_bad(bytes, bad)
+            let illegal = r.place() as usize;
+            first_bad(bytes, illegal)
         }
     }
 }

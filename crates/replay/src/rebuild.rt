@@ -5,21 +5,29 @@ use crate::read::start;
 use crate::survey::counted;
 ghost use mathlib.Core.Path.{_≡_};
 ghost use Prim.Native.Nat.{_+_, _*_, _≤_, _<_};
-ghost use lib.ListN.{length, take};
+ghost use lib.ListN.{length, take, set};
 ghost use Rattle.scope.specs.Trace.{releases};
 ghost use Rattle.replay.specs.Rebuilt.{recordsOf, Fits, numbersOf, jobPut};
 
-// A release becomes job j: release tick, task index, work.
+// Job j of a list of numbers.
+fn put_job(jobs: &mut [u32], j: usize, release: u32, task: u32, work: u32)
+    requires { ⌜ 3 * j + 2 < length (now jobs) ⌝ }
+    ensures { λ _. ⌜ now (jobs .exit) ≡ set (set (set (now (jobs .entry)) (3 * j) release) (3 * j + 1) task) (3 * j + 2) work ⌝ }
+{
+    let at = 3 * j;
+    jobs[at] = release;
+    jobs[at + 1] = task;
+    jobs[at + 2] = work;
+}
+
+// A release becomes job j.
 fn put(jobs: &mut [u32], j: usize, r: Reader)
-    requires { ⌜ r .kind ≡ 0 → 3 * j + 2 < length (now jobs) ⌝ }
+    requires { ⌜ (r .kind ≡ 0 → 3 * j + 2 < length (now jobs)) ⌝ }
     ensures { λ _. ⌜ now (jobs .exit) ≡ jobPut (now (jobs .entry)) j r ⌝ }
 {
-    if r.kind != 0 {
-        return;
+    if r.kind == 0 {
+        put_job(jobs, j, r.instant, r.task, r.work);
     }
-    jobs[3 * j] = r.instant;
-    jobs[3 * j + 1] = r.task;
-    jobs[3 * j + 2] = r.work;
 }
 
 // The numbers of the job list, at the front of a buffer that has room for them.

@@ -1,0 +1,35 @@
+use native.Mathlib.Omega.{arith}
+use Prim.Native.Nat.{ℕ, _+_, _-_, _*_, _≤_, _<_}
+use lib.ListN.{length}
+use mathlib.Core.Path.{_≡_}
+use borrow.Author.Needs.{needs}
+use Rattle.replay.proofs.ending.completion_after.Statement.{statement}
+use Rattle.replay.proofs.ending.completion_after.Tie as tie
+use Rattle.replay.proofs.ending.completion_after.Reads as reads
+use Rattle.replay.proofs.ending.completion_after.Lts as lts
+use Rattle.jobs.proofs.job.job_at.Reads as job-at-reads
+use Rattle.replay.proofs.ending.next_end.Reads as next-end-reads
+
+-- src/ending.rt:74:9
+next-end-requires : tie.Need-next-end-requires
+next-end-requires c κs = search needs
+
+-- src/ending.rt:76:9
+returns : tie.Need-returns
+returns c = search needs
+
+-- src/ending.rt:78:9
+job-at-requires : tie.Need-job-at-requires
+job-at-requires c κs = search needs
+
+-- src/ending.rt:80:18
+cast-t10 : tie.Need-cast-t10
+cast-t10 c = search needs
+
+-- src/ending.rt:69:1
+returns-2 : tie.Need-returns-2
+returns-2 c = search needs
+
+pub completion-after-spec : {M : Type 1} → statement M
+completion-after-spec =
+    tie.close (tie.spec next-end-requires returns job-at-requires cast-t10 returns-2)

@@ -1,0 +1,28 @@
+use borrow.Author.Needs.{needs}
+use native.Mathlib.Omega.{arith}
+use Prim.Native.Nat.{ℕ, _+_, _-_, _*_, _≤_, _<_}
+use lib.ListN.{length}
+use mathlib.Core.Path.{_≡_}
+use Rattle.replay.proofs.ending.nearer.Statement.{statement}
+use Rattle.replay.proofs.ending.nearer.Tie as tie
+use Rattle.replay.proofs.ending.nearer.Reads as reads
+use Rattle.replay.proofs.ending.nearer.Lts as lts
+
+-- src/ending.rt:33:9
+returns : tie.Need-returns
+returns c = search needs
+
+-- src/ending.rt:36:9
+returns-2 : tie.Need-returns-2
+returns-2 c = search needs
+
+-- src/ending.rt:39:9
+returns-3 : tie.Need-returns-3
+returns-3 c = search needs
+
+-- src/ending.rt:29:1
+returns-4 : tie.Need-returns-4
+returns-4 c = search needs
+
+pub nearer-spec : {M : Type 1} → statement M
+nearer-spec = tie.close (tie.spec returns returns-2 returns-3 returns-4)

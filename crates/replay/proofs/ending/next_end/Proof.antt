@@ -1,0 +1,90 @@
+use borrow.Author.Needs.{needs}
+use native.Mathlib.Omega.{arith}
+use Prim.Native.Nat.{ℕ, _+_, _-_, _*_, _≤_, _<_}
+use lib.ListN.{length}
+use mathlib.Core.Path.{_≡_}
+use Rattle.replay.proofs.ending.next_end.Statement.{statement}
+use Rattle.replay.proofs.ending.next_end.Tie as tie
+use Rattle.replay.proofs.ending.next_end.Reads as reads
+use Rattle.replay.proofs.ending.next_end.Lts as lts
+use Rattle.jobs.proofs.job.job_at.Reads as job-at-reads
+use Rattle.replay.proofs.ending.complete.Reads as complete-reads
+use Rattle.replay.proofs.ending.nearer.Reads as nearer-reads
+
+abbrev Inv-loop : tie.InvT-loop
+Inv-loop jobs counts after last count best₀ j₀ best j = ?
+
+abbrev μ-loop : tie.MeasureT-loop
+μ-loop jobs counts after last count best₀ j₀ best j = ?
+
+-- src/ending.rt:56:16
+add-t12 : tie.Need-add-t12 Inv-loop μ-loop
+add-t12 c = search needs
+
+-- src/ending.rt:59:5
+loop-holds : tie.Need-loop-holds Inv-loop μ-loop
+loop-holds c = search needs
+
+-- src/ending.rt:60:13
+job-at-requires : tie.Need-job-at-requires Inv-loop μ-loop
+job-at-requires c κs = search needs
+
+-- src/ending.rt:61:44
+mul-complete : tie.Need-mul-complete Inv-loop μ-loop
+mul-complete c = search needs
+
+-- src/ending.rt:61:44
+shared-slice-read-complete : tie.Need-shared-slice-read-complete Inv-loop μ-loop
+shared-slice-read-complete c = search needs
+
+-- src/ending.rt:61:13
+complete-requires : tie.Need-complete-requires Inv-loop μ-loop
+complete-requires c κs = search needs
+
+-- src/ending.rt:62:32
+mul-nearer : tie.Need-mul-nearer Inv-loop μ-loop
+mul-nearer c = search needs
+
+-- src/ending.rt:62:32
+shared-slice-read-nearer : tie.Need-shared-slice-read-nearer Inv-loop μ-loop
+shared-slice-read-nearer c = search needs
+
+-- src/ending.rt:62:9
+nearer-requires : tie.Need-nearer-requires Inv-loop μ-loop
+nearer-requires c κs = search needs
+
+-- src/ending.rt:63:9
+add-j : tie.Need-add-j Inv-loop μ-loop
+add-j c = search needs
+
+-- src/ending.rt:59:5
+loop-less : tie.Need-loop-less Inv-loop μ-loop
+loop-less c = search needs
+
+-- src/ending.rt:59:5
+loop-again : tie.Need-loop-again Inv-loop μ-loop
+loop-again c = search needs
+
+-- src/ending.rt:48:1
+returns : tie.Need-returns Inv-loop μ-loop
+returns c = search needs
+
+pub next-end-spec : {M : Type 1} → statement M
+next-end-spec =
+    tie.close
+    (tie.spec
+    Inv-loop
+    μ-loop
+    add-t12
+    loop-holds
+    job-at-requires
+    mul-complete
+    shared-slice-read-complete
+    complete-requires
+    mul-nearer
+    shared-slice-read-nearer
+    nearer-requires
+    add-j
+    loop-less
+    loop-again
+    returns)
