@@ -11,11 +11,8 @@ use lib.ListN.{length, getD}
 use borrow.Author.Tests.{leb-true, ltb-true, ltb-false, lt-leb, le-leb, lt-ltb, le-ltb}
 use Rattle.scope.specs.Numbers.{sooner, firstBy, IsFirst}
 use Rattle.scope.specs.Jobs.{Job, releaseOf, taskOf, workOf}
-use Rattle.scope.specs.Run.{count}
 use Rattle.scope.specs.Trace.{Completion, completion}
-use Rattle.scope.specs.Replay.{ends, endedIn, endedFrom}
 use Rattle.theory.specs.Numbers.{and-both, both-and, By, first-is, first-passes}
-use Rattle.theory.specs.Ended.{ended-none, ended-one, ends-count, count-ends, ended-skip}
 use Rattle.replay.specs.declared.ending.Best.{Best}
 use Rattle.replay.specs.Ending.{finish, endsWithin, nextEnd, bestOf, nearerOf, completionIn}
 
@@ -53,13 +50,8 @@ module _ (js : List Job) (cs : List ℕ) (after last : ℕ) where
   unfolding nextEnd firstBy
   best-first m = let z : last + 1 ≡ suc last = omega arith in ap (λ (u : ℕ). record { job = m; until = u }) z
 
-  record Fits (j : ℕ) : Type 0 where
-    counted : 1 ≤ getD cs j 0
-    later : after < f j
-    early : f j ≤ last
-
-  is-inside : (j : ℕ) → Fits j → inside j ≡ true
-  is-inside j h = rw (le-leb 1 (getD cs j 0) (h .counted), lt-ltb after (f j) (h .later), le-leb (f j) last (h .early))
+  pub is-inside : (j : ℕ) → 1 ≤ getD cs j 0 → after < f j → f j ≤ last → inside j ≡ true
+  is-inside j h k l = rw (le-leb 1 (getD cs j 0) h, lt-ltb after (f j) k, le-leb (f j) last l)
 
   pub inside-is : (j : ℕ) → inside j ≡ true → (1 ≤ getD cs j 0) × (after < f j) × (f j ≤ last)
   inside-is j e =
@@ -87,14 +79,14 @@ module _ (js : List Job) (cs : List ℕ) (after last : ℕ) where
           nearerOf (bestOf js cs last m o) j (getD cs j 0) (f j) after ≡ bestOf js cs last m (cond (inside j) (sooner sooner-one j o) o)
       rest h k none e =
           elim (decLe (f j) last) [
-            | yes l ↦ rw (is-inside j (record { counted = h; later = k; early = l })) (sym (nearer-is _ j (getD cs j 0) (f j) after (λ z. omega arith) k (omega arith)))
+            | yes l ↦ rw (is-inside j h k l) (sym (nearer-is _ j (getD cs j 0) (f j) after (λ z. omega arith) k (omega arith)))
             | no l ↦
                 rw (le-leb 1 (getD cs j 0) h, lt-ltb after (f j) k, lt-leb (f j) last (omega arith))
                 (sym (nearer-late _ j (getD cs j 0) (f j) after (λ z. omega arith) k (omega arith)))
           ]
       rest h k (some b) e =
           elim (decLe (f j) last) [
-            | yes l ↦ rw (is-inside j (record { counted = h; later = k; early = l })) (elim (decLt (f j) (f b)) [
+            | yes l ↦ rw (is-inside j h k l) (elim (decLt (f j) (f b)) [
               | yes s ↦ rw (lt-ltb (f j) (f b) s) (sym (nearer-is _ j (getD cs j 0) (f j) after (λ z. omega arith) k s))
               | no s ↦ rw (le-ltb (f j) (f b) (omega arith)) (sym (nearer-late _ j (getD cs j 0) (f j) after (λ z. omega arith) k (omega arith)))
             ])
@@ -108,6 +100,36 @@ module _ (js : List Job) (cs : List ℕ) (after last : ℕ) where
   by-finish : By sooner-one f
   by-finish = record { ahead = λ a b e. omega (arith, ltb-true (f a) (f b) e); behind = λ a b e. ltb-false (f a) (f b) e }
 
-  found-is : (m : ℕ) → IsFirst inside f m (nextEnd js cs after last m)
+  pub found-is : (m : ℕ) → IsFirst inside f m (nextEnd js cs after last m)
   unfolding nextEnd
   found-is m = first-is inside sooner-one f by-finish m
+
+  -- the loop's step: what was found so far, and the next job as it is read
+  pub best-step : (m j c r g : ℕ) (b : Best) → b ≡ bestOf js cs last m (nextEnd js cs after last j) → c ≡ getD cs j 0 → r ≡ releaseOf js j →
+      g ≡ r + c → nearerOf b j c g after ≡ bestOf js cs last m (nextEnd js cs after last (j + 1))
+  best-step m j c r g b e h k l = let z : j + 1 ≡ suc j = omega arith in rw (e, l, k, h, z) (best-next m j)
+
+  pub best-end : (m j : ℕ) (b : Best) → j ≤ m → m ≤ j → length js ≡ m → b ≡ bestOf js cs last m (nextEnd js cs after last j) →
+      b ≡ bestOf js cs last (length js) (nextEnd js cs after last (length js))
+  best-end m j b h k l e = let z : j ≡ m = omega arith in rw (l, ← z) (e ∙ ap (λ (u : ℕ). bestOf js cs last u (nextEnd js cs after last j)) (sym z))
+
+  -- ---- the completion that is found
+
+  abbrev found : Option ℕ
+  found = nextEnd js cs after last (length js)
+
+  pub seen-none : (b : Best) → b ≡ bestOf js cs last (length js) found → length js ≤ b .job → none ≡ completionIn js cs found
+  seen-none b e h = go found (found-is (length js)) (ap (λ (x : Best). x .job) e)
+    where
+      go : (o : Option ℕ) → IsFirst inside f (length js) o → b .job ≡ (bestOf js cs last (length js) o) .job → none ≡ completionIn js cs o
+      go none i q = refl
+      go (some j) i q = absurd (omega (arith, i .0, q))
+
+  pub seen-some : (b : Best) → b ≡ bestOf js cs last (length js) found → b .job < length js →
+      (b .until ≤ last) × (some (completion (b .until) (taskOf js (b .job))) ≡ completionIn js cs found)
+  seen-some b e h = go found (found-is (length js)) e
+    where
+      go : (o : Option ℕ) → IsFirst inside f (length js) o → b ≡ bestOf js cs last (length js) o →
+          (b .until ≤ last) × (some (completion (b .until) (taskOf js (b .job))) ≡ completionIn js cs o)
+      go none i q = absurd (omega (arith, ap (λ (x : Best). x .job) q))
+      go (some j) i q = (omega (arith, inside-is j (i .1) .2, ap (λ (x : Best). x .until) q), rw q)

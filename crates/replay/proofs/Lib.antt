@@ -5,3 +5,5 @@ pub mod Ahead
 pub mod OrderLaws
 pub mod RebuildLaws
 pub mod EndingLaws
+pub mod EndedLaws
+pub mod CompareLaws

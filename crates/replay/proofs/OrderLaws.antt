@@ -4,24 +4,27 @@ use mathlib.Core.Bool.{Bool, true, false, not, cond, _&&_, _||_, true≢false, f
 use mathlib.Core.Logic.{inl, inr}
 use mathlib.Core.Option.{Option, none, some}
 use mathlib.Core.List.{List, [], _∷_, _++_, append-assoc}
-use Prim.Native.Nat.{ℕ, zero, suc, _+_, _-_, _≤_, _<_}
+use Prim.Native.Nat.{ℕ, zero, suc, _+_, _-_, _*_, _/_, _≤_, _<_}
 use native.Mathlib.Omega.{arith}
 use native.Mathlib.Decide.{ℕ-discrete, decLt}
 use lib.Dec.{ltb, eqb}
 use lib.ListN.{length, getD, take, length-append, length-take}
 use lib.Seq.{getD-at, take-at, getD-take, take-take}
-use borrow.Author.Tests.{lt-ltb, le-ltb, eq-eqb, ne-eqb, eqb-true}
-use Rattle.scope.specs.Numbers.{lexically, first, bit}
-use Rattle.scope.specs.Answers.{faultAt}
-use Rattle.scope.specs.Tasks.{Task}
-use Rattle.scope.specs.Jobs.{job, jobLegal}
+use borrow.Author.Tests.{lt-ltb, le-ltb, eq-eqb, ne-eqb, eqb-true, not-false}
+use Rattle.scope.specs.Numbers.{lexically, first, bit, pieces, piecesFrom}
+use Rattle.scope.specs.Limits.{mostTicks, mostJobs}
+use Rattle.scope.specs.Tasks.{Task, tasksOf}
+use Rattle.scope.specs.Jobs.{Job, job, jobsOf, jobLegal, badJob}
+use Rattle.scope.specs.Answers.{Fault, Fault.fine, Fault.fault, faultAt, _orElse_, groupFault, jobListFault, jobFault}
 use Rattle.scope.specs.Trace.{Record, ticksOf, isRelease, releases, recordAt, inTurn, releasesBefore, recordLegal, badRecord}
 use Rattle.scope.specs.Replay.{recordFault}
 use Rattle.theory.specs.Numbers.{bool-cases, bit-le, first-none, first-some, none-first, some-first}
+use Rattle.theory.specs.Lists.{fine-count}
+use Rattle.theory.specs.Answers.{fault-not-fine, faultAt-fine}
 use Rattle.theory.specs.Replays.{releases-append, release-is, release-of}
 use Rattle.replay.specs.declared.read.Reader.{Reader}
 use Rattle.replay.specs.Reading.{startOf, passed, recordOf}
-use Rattle.replay.specs.Rebuilt.{recordsOf, Fits, breaksBy, breaksAt}
+use Rattle.replay.specs.Rebuilt.{recordsOf, Fits, numbersOf, breaksBy, breaksAt}
 use Rattle.replay.proofs.Ahead.{Ahead, Next, ahead-first, ahead-next, ahead-end}
 
 -- ---- one test
@@ -230,3 +233,66 @@ module _ (ts : List Task) (rs : List Record) (illegal : ℕ)
   pub records-by : recordFault ts rs ≡ faultAt 11 (first (breaksAt rs illegal) (length rs))
   unfolding recordFault badRecord
   records-by = ap (faultAt 11) (first-same (λ i. not (recordLegal ts rs i)) (breaksAt rs illegal) (length rs) breaks-bad bad-breaks)
+
+-- ---- the check of the job list tells the first illegal job
+
+pub numbers-length : (js : List Job) → length (numbersOf js) ≡ 3 * length js
+unfolding numbersOf
+numbers-length [] = refl
+numbers-length (x ∷ js) = omega (arith, numbers-length js)
+
+pub jobs-back : (js : List Job) → jobsOf (numbersOf js) ≡ js
+unfolding numbersOf pieces piecesFrom
+jobs-back [] = refl
+jobs-back (x ∷ js) = ap (λ (l : List Job). x ∷ l) (jobs-back js)
+
+module _ (bytes ts jobs : List ℕ) (n : ℕ) (fits : Fits bytes) (group : groupFault ts ≡ fine) (ticks : n ≡ ticksOf (recordsOf bytes))
+    (numbers : jobs ≡ numbersOf (releases (recordsOf bytes))) where
+  abbrev rs : List Record
+  rs = recordsOf bytes
+
+  pub list-fine : jobListFault n jobs ≡ fine
+  unfolding jobListFault
+  list-fine =
+      let l : length jobs ≡ 3 * length (releases rs) = ap length numbers ∙ numbers-length (releases rs) in
+      rw (fine-count 3 mostJobs jobs (omega arith) (omega (arith, fits .few)), le-ltb mostTicks n (omega (arith, ticks, fits .ticks)))
+
+  -- what the check of the jobs says
+  told : (v : Fault) → v ≡ (groupFault ts orElse jobListFault n jobs orElse jobFault (tasksOf ts) n (jobsOf jobs)) →
+      faultAt 11 (badJob (tasksOf ts) (ticksOf rs) (releases rs)) ≡ v
+  unfolding jobFault
+  told v e =
+      let z : jobsOf jobs ≡ releases rs = ap jobsOf numbers ∙ jobs-back (releases rs) in
+      sym (e ∙ rw (group, list-fine, z, ticks))
+
+  legal-below : (c : ℕ) → badJob (tasksOf ts) (ticksOf rs) (releases rs) ≡ some c → (c < length (releases rs))
+      × (jobLegal (tasksOf ts) (ticksOf rs) (releases rs) c ≡ false)
+      × ((j : ℕ) → j < c → jobLegal (tasksOf ts) (ticksOf rs) (releases rs) j ≡ true)
+  unfolding badJob
+  legal-below c e =
+      let f = first-some (λ j. not (jobLegal (tasksOf ts) (ticksOf rs) (releases rs) j)) (length (releases rs)) c e in
+      (f .0, not-true _ (f .1), λ j l. not-false _ (f .2 j l))
+
+  legal-all : badJob (tasksOf ts) (ticksOf rs) (releases rs) ≡ none → (j : ℕ) → j < length (releases rs) →
+      jobLegal (tasksOf ts) (ticksOf rs) (releases rs) j ≡ true
+  unfolding badJob
+  legal-all e j l = not-false _ (first-none (λ j. not (jobLegal (tasksOf ts) (ticksOf rs) (releases rs) j)) (length (releases rs)) e j l)
+
+  pub records-fine : fine ≡ (groupFault ts orElse jobListFault n jobs orElse jobFault (tasksOf ts) n (jobsOf jobs)) →
+      recordFault (tasksOf ts) rs ≡ faultAt 11 (first (breaksAt rs (length jobs / 3)) (length rs))
+  records-fine e =
+      let b = faultAt-fine 11 (badJob (tasksOf ts) (ticksOf rs) (releases rs)) (told fine e) in
+      let l : length jobs ≡ 3 * length (releases rs) = ap length numbers ∙ numbers-length (releases rs) in
+      records-by (tasksOf ts) rs (length jobs / 3) (λ j h k. legal-all b j k) (λ h. absurd (omega arith))
+
+  pub records-bad : (m p : ℕ) → fault m p ≡ (groupFault ts orElse jobListFault n jobs orElse jobFault (tasksOf ts) n (jobsOf jobs)) →
+      recordFault (tasksOf ts) rs ≡ faultAt 11 (first (breaksAt rs p) (length rs))
+  records-bad m p e = go (badJob (tasksOf ts) (ticksOf rs) (releases rs)) refl (told (fault m p) e)
+    where
+      go : (o : Option ℕ) → badJob (tasksOf ts) (ticksOf rs) (releases rs) ≡ o → faultAt 11 o ≡ fault m p →
+          recordFault (tasksOf ts) rs ≡ faultAt 11 (first (breaksAt rs p) (length rs))
+      go none q f = absurd (fault-not-fine (sym f))
+      go (some c) q f =
+          let z : c ≡ p = cc in
+          let b = legal-below c q in
+          records-by (tasksOf ts) rs p (λ j h k. b .2 j (omega arith)) (λ h. ap (jobLegal (tasksOf ts) (ticksOf rs) (releases rs)) (sym z) ∙ b .1)

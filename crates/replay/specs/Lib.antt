@@ -2,3 +2,4 @@ pub mod Reading
 pub mod Rebuilt
 pub mod Surveyed
 pub mod Ending
+pub mod Compared

@@ -1,3 +1,10 @@
+use Rattle.replay.proofs.EndingLaws.{best-end}
+use Rattle.replay.proofs.EndingLaws.{best-first, best-step}
+use Rattle.replay.specs.Ending.{bestOf, nextEnd}
+use Rattle.theory.specs.Lists.{pieces-length}
+use Rattle.scope.specs.Jobs.{Job, job, jobsOf}
+use lib.ListN.{getD}
+use mathlib.Core.Path.{refl, sym, ap, _∙_}
 use borrow.Author.Needs.{needs}
 use native.Mathlib.Omega.{arith}
 use Prim.Native.Nat.{ℕ, _+_, _-_, _*_, _≤_, _<_}
@@ -12,10 +19,10 @@ use Rattle.replay.proofs.ending.complete.Reads as complete-reads
 use Rattle.replay.proofs.ending.nearer.Reads as nearer-reads
 
 abbrev Inv-loop : tie.InvT-loop
-Inv-loop jobs counts after last count best₀ j₀ best j = ?
+Inv-loop jobs counts after last count best₀ j₀ best j = (j ≤ count) × (best ≡ bestOf (jobsOf jobs) counts last count (nextEnd (jobsOf jobs) counts after last j))
 
 abbrev μ-loop : tie.MeasureT-loop
-μ-loop jobs counts after last count best₀ j₀ best j = ?
+μ-loop jobs counts after last count best₀ j₀ best j = count - j
 
 -- src/ending.rt:56:16
 add-t12 : tie.Need-add-t12 Inv-loop μ-loop
@@ -23,7 +30,7 @@ add-t12 c = search needs
 
 -- src/ending.rt:59:5
 loop-holds : tie.Need-loop-holds Inv-loop μ-loop
-loop-holds c = search needs
+loop-holds c = (omega arith, best-first _ _ _ _ _)
 
 -- src/ending.rt:60:13
 job-at-requires : tie.Need-job-at-requires Inv-loop μ-loop
@@ -35,7 +42,7 @@ mul-complete c = search needs
 
 -- src/ending.rt:61:44
 shared-slice-read-complete : tie.Need-shared-slice-read-complete Inv-loop μ-loop
-shared-slice-read-complete c = search needs
+shared-slice-read-complete c = omega (arith, c .before .before .before .before .before .before .pre, pieces-length _ 3 job (c .before .before .before .before .before .before .args .jobs .now))
 
 -- src/ending.rt:61:13
 complete-requires : tie.Need-complete-requires Inv-loop μ-loop
@@ -47,7 +54,7 @@ mul-nearer c = search needs
 
 -- src/ending.rt:62:32
 shared-slice-read-nearer : tie.Need-shared-slice-read-nearer Inv-loop μ-loop
-shared-slice-read-nearer c = search needs
+shared-slice-read-nearer c = omega (arith, c .before .before .before .before .before .before .before .before .pre, pieces-length _ 3 job (c .before .before .before .before .before .before .before .before .args .jobs .now))
 
 -- src/ending.rt:62:9
 nearer-requires : tie.Need-nearer-requires Inv-loop μ-loop
@@ -63,11 +70,11 @@ loop-less c = search needs
 
 -- src/ending.rt:59:5
 loop-again : tie.Need-loop-again Inv-loop μ-loop
-loop-again c = search needs
+loop-again c = (search needs, c .nearer .ensures ∙ best-step _ _ _ _ _ _ _ _ _ _ (c .before .before .before .before .before .before .loop .inv .1) refl (ap (λ (x : Job). x .release) (c .before .before .before .before .job-at .ensures)) (c .before .before .complete .ensures))
 
 -- src/ending.rt:48:1
 returns : tie.Need-returns Inv-loop μ-loop
-returns c = search needs
+returns c = best-end _ _ _ _ _ _ _ (c .before .loop .inv .0) (c .loop-test .left) (pieces-length _ 3 job _) (c .before .loop .inv .1)
 
 pub next-end-spec : {M : Type 1} → statement M
 next-end-spec =

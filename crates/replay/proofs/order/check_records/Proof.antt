@@ -1,3 +1,6 @@
+use Rattle.replay.proofs.OrderLaws.{records-fine, records-bad}
+use Rattle.tables.specs.Told.{faultOf}
+use mathlib.Core.Path.{sym, ap, _∙_}
 use native.Mathlib.Omega.{arith}
 use Prim.Native.Nat.{ℕ, _+_, _-_, _*_, _≤_, _<_}
 use lib.ListN.{length}
@@ -37,11 +40,11 @@ first-bad-requires-2 c κs = search needs
 
 -- src/order.rt:74:1
 returns : tie.Need-returns
-returns c = search needs
+returns c = c .first-bad .ensures ∙ sym (records-fine _ _ _ _ (c .before .before .before .before .before .before .before .pre .0) (c .before .before .before .before .before .before .before .pre .1) (c .before .before .before .before .before .before .before .pre .2) (c .before .before .before .before .before .before .before .pre .3) (sym (ap faultOf (c .before .enum-told .given .1)) ∙ c .before .before .before .check-jobs .ensures))
 
 -- src/order.rt:74:1
 returns-2 : tie.Need-returns-2
-returns-2 c = search needs
+returns-2 c = c .first-bad2 .ensures ∙ sym (rw (c .before .place .ensures) (records-bad _ _ _ _ (c .before .before .before .before .before .before .before .before .before .pre .0) (c .before .before .before .before .before .before .before .before .before .pre .1) (c .before .before .before .before .before .before .before .before .before .pre .2) (c .before .before .before .before .before .before .before .before .before .pre .3) _ _ (sym (ap faultOf (c .before .before .before .r .given .1)) ∙ c .before .before .before .before .before .check-jobs .ensures)))
 
 pub check-records-spec : {M : Type 1} → statement M
 check-records-spec =
