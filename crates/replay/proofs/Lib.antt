@@ -7,3 +7,4 @@ pub mod RebuildLaws
 pub mod EndingLaws
 pub mod EndedLaws
 pub mod CompareLaws
+pub mod ReplayLaws

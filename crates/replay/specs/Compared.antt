@@ -9,7 +9,7 @@ use Rattle.scope.specs.Jobs.{Job, taskOf}
 use Rattle.scope.specs.Run as Runs
 use Rattle.scope.specs.Answers.{Answer, Answer.given, Answer.refused}
 use Rattle.scope.specs.Trace.{Completion, completion, completions}
-use Rattle.scope.specs.Replay.{Difference, firstDifference, Replayed, named}
+use Rattle.scope.specs.Replay.{Difference, firstDifference, lesser, Replayed, named}
 use Rattle.replay.specs.declared.compare.Compared as compared
 use Rattle.replay.specs.declared.read.Reader.{Reader}
 use Rattle.replay.specs.Rebuilt.{recordsOf}
@@ -61,6 +61,14 @@ isDifference (some d) = true
 abbrev pub orNone : Option Completion → List Completion
 orNone none = []
 orNone (some c) = c ∷ []
+
+-- a miss at this instant is no later than any difference
+abbrev pub isNoLater : ℕ → Option Difference → Bool
+isNoLater k none = true
+isNoLater k (some d) = leb k (lesser (d .trace) (d .machine))
+
+abbrev pub byDifference : Option Difference → Replayed
+byDifference d = named Runs.met d
 
 -- a miss up to the last instant
 abbrev pub upTo : ℕ → Runs.Outcome → Runs.Outcome

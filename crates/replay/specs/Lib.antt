@@ -3,3 +3,4 @@ pub mod Rebuilt
 pub mod Surveyed
 pub mod Ending
 pub mod Compared
+pub mod Told

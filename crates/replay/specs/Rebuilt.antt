@@ -6,9 +6,13 @@ use Prim.Native.Nat.{ℕ, _+_, _*_, _≤_}
 use lib.Dec.{eqb}
 use lib.ListN.{length, set}
 use Rattle.scope.specs.Limits.{mostTicks, mostJobs}
+use Rattle.scope.specs.Windows.{Board}
+use Rattle.scope.specs.Tasks.{tasksOf}
 use Rattle.scope.specs.Jobs.{Job}
+use Rattle.scope.specs.Answers.{Fault.fine, tableFault, groupFault}
 use Rattle.scope.specs.Plan.{Read, Read.read, Read.bad}
 use Rattle.scope.specs.Trace.{Stamped, traceOf, Record, timed, ticksOf, isRelease, releases, recordAt, goesBefore, inTurn, releasesBefore}
+use Rattle.scope.specs.Replay.{recordFault}
 use Rattle.replay.specs.declared.read.Reader.{Reader}
 
 abbrev pub timedIn : Read (List Stamped) → List Record
@@ -31,6 +35,19 @@ pub record Fits (bytes : List ℕ) : Type 0 where
 unfoldable pub numbersOf : List Job → List ℕ
 numbersOf [] = []
 numbersOf (x ∷ js) = x .release ∷ x .task ∷ x .work ∷ numbersOf js
+
+-- of a legal table and group, with the job list in numbers
+pub record Rebuilt (b : Board) (ws ts bytes : List ℕ) (n : ℕ) (jobs : List ℕ) : Type 0 where
+  pub fits : Fits bytes
+  pub table : tableFault b ws ≡ fine
+  pub group : groupFault ts ≡ fine
+  pub ticks : n ≡ ticksOf (recordsOf bytes)
+  pub numbers : jobs ≡ numbersOf (releases (recordsOf bytes))
+
+-- and with records that keep their rules
+pub record Legal (b : Board) (ws ts bytes : List ℕ) (n : ℕ) (jobs : List ℕ) : Type 0 where
+  pub rebuilt : Rebuilt b ws ts bytes n jobs
+  pub legal : recordFault (tasksOf ts) (recordsOf bytes) ≡ fine
 
 -- a buffer with the release that a reader has passed as job j
 unfoldable pub jobPut : List ℕ → ℕ → Reader → List ℕ
