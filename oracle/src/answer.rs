@@ -14,6 +14,7 @@ pub enum Reason {
     Cycle = 6,
     Asked = 7,
     Room = 8,
+    /// A plan's bytes, or a trace's in a replay.
     PlanBytes = 9,
     RunSize = 10,
     Job = 11,
@@ -41,6 +42,13 @@ impl Reason {
             place: place as u64,
         }
     }
+}
+
+/// A completion in a run: "complete at instant k + 1 when its last work is done in tick k".
+#[derive(Clone, Copy, Debug, PartialEq, Eq)]
+pub struct Completion {
+    pub instant: u64,
+    pub task: u64,
 }
 
 #[derive(Clone, Copy, Debug, PartialEq, Eq)]
@@ -72,6 +80,17 @@ pub enum Answer {
         instant: u64,
         job: usize,
         backlog: usize,
+    },
+    Same,
+    /// The first pair of completions that differs; a side that has ended is none.
+    Differs {
+        trace: Option<Completion>,
+        machine: Option<Completion>,
+    },
+    /// A miss that a replay names: a run's, without its backlog.
+    ReplayMissed {
+        instant: u64,
+        job: usize,
     },
     Refused(Refusal),
 }
@@ -110,9 +129,25 @@ impl fmt::Display for Answer {
                 job,
                 backlog,
             } => write!(f, "MISSED instant {instant} job {job} backlog {backlog}"),
+            Answer::Same => write!(f, "SAME"),
+            Answer::Differs { trace, machine } => {
+                let (trace, machine) = (side(trace), side(machine));
+                write!(f, "DIFFERS trace {trace} machine {machine}")
+            }
+            Answer::ReplayMissed { instant, job } => {
+                write!(f, "MISSED instant {instant} job {job}")
+            }
             Answer::Refused(Refusal { reason, place }) => {
                 write!(f, "REFUSED {} at {place}", *reason as u8)
             }
         }
+    }
+}
+
+/// One side of a difference.
+fn side(completion: &Option<Completion>) -> String {
+    match completion {
+        Some(Completion { instant, task }) => format!("instant {instant} task {task}"),
+        None => "none".to_string(),
     }
 }

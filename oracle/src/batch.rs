@@ -45,7 +45,7 @@ fn bad_end(r: &mut Random) -> Vec<u8> {
             cut
         }
         2 => {
-            let code = r.one_of(&[0, 16, 17, 26, 127, 128, 255, 256, GREATEST]);
+            let code = r.one_of(&[0, 16, 18, 26, 127, 128, 255, 256, GREATEST]);
             encode(&[&[code], &numbers[1..]].concat())
         }
         _ => over_a_limit(r),
@@ -56,7 +56,7 @@ fn bad_end(r: &mut Random) -> Vec<u8> {
 fn over_a_limit(r: &mut Random) -> Vec<u8> {
     let table: &[u64] = &[8, 2, 0, 8];
     let jobs: &[u64] = &[10, 3, 2, 0, 1];
-    let (before, limit): (Vec<u64>, u64) = match r.below(12) {
+    let (before, limit): (Vec<u64>, u64) = match r.below(16) {
         0 => (vec![r.between(1, 4), 8], 200),
         1 => (vec![r.between(6, 9), 8], 200),
         2 => (vec![r.between(12, 15), 8], 200),
@@ -68,6 +68,10 @@ fn over_a_limit(r: &mut Random) -> Vec<u8> {
         8 => ([&[9], table, &[3, 1, 4, 4, 10]].concat(), 12_400),
         9 => ([&[9], table, &[3, 1, 4, 4], jobs].concat(), 12_400),
         10 => ([&[15], table, &[1, 1, 4, 4], jobs].concat(), 12_400),
+        11 => (vec![17, 8], 400),
+        12 => ([&[17], table].concat(), 400),
+        13 => ([&[17], table, &[3, 1, 4, 4]].concat(), 20_000),
+        14 => ([&[17], table, &[0, 3, 1, 0]].concat(), 255),
         _ if r.once_in(2) => (vec![10], 4_096),
         _ => (vec![10, 3, 8], 255),
     };

@@ -12,6 +12,8 @@ use crate::random::Random;
 use crate::spoil;
 use crate::table::{TableNumbers, MOST_FRAME, MOST_WINDOWS};
 use crate::tasks::{least_common_multiple, TaskNumbers};
+use crate::trace;
+use crate::traces;
 use crate::verdict::verdict;
 
 /// A query with arguments of every kind that takes the program asked not too many steps: mostly
@@ -26,6 +28,9 @@ pub fn query(r: &mut Random) -> Query {
     if r.once_in(500) {
         return spoil::query_at_a_limit(r);
     }
+    if r.once_in(500) {
+        return traces::query_at_a_limit(r);
+    }
     loop {
         let query = any_query(r);
         if steps(&query) <= allowance {
@@ -37,7 +42,7 @@ pub fn query(r: &mut Random) -> Query {
 fn any_query(r: &mut Random) -> Query {
     // One query in ten has faults in half of its arguments, so that their order counts.
     let faults = if r.once_in(10) { 2 } else { 25 };
-    match r.below(24) {
+    match r.below(32) {
         0 => least_supply_query(r, faults),
         1 | 2 => critical_partition_query(r, faults),
         3 => Query::Delay(narrow_table(r, faults)),
@@ -48,7 +53,8 @@ fn any_query(r: &mut Random) -> Query {
         12 | 13 => bound_query(r, faults),
         14..=17 => run_query(r, faults),
         18 | 19 => Query::Plan(plan_bytes(r, faults)),
-        _ => outage_query(r, faults),
+        20..=23 => outage_query(r, faults),
+        _ => traces::query(r, faults),
     }
 }
 
@@ -61,7 +67,17 @@ fn steps(query: &Query) -> u64 {
         Query::Bound(table, tasks, index) => bound_steps(table, tasks, *index),
         Query::Run(run) if run.ticks <= MOST_RUN => 18 * run.ticks,
         Query::Plan(bytes) => plan::read(bytes).map_or(0, |(t, g)| verdict_steps(&t, &g)),
+        Query::Replay(_, _, trace) => replay_steps(trace),
         Query::Outage(_) | Query::Demand(..) | Query::Run(_) => 0,
+    }
+}
+
+/// As of a run: its ticks are the trace's, unless they are too many.
+fn replay_steps(bytes: &[u8]) -> u64 {
+    let ticks = trace::read(bytes).map_or(0, |records| trace::ticks(&records));
+    match ticks {
+        0..=MOST_RUN => 18 * ticks,
+        _ => 0,
     }
 }
 
@@ -240,7 +256,7 @@ fn any_table(r: &mut Random, faults: u64) -> TableNumbers {
     lent_table(r, faults, table)
 }
 
-fn lent_table(r: &mut Random, faults: u64, mut table: TableNumbers) -> TableNumbers {
+pub fn lent_table(r: &mut Random, faults: u64, mut table: TableNumbers) -> TableNumbers {
     if r.once_in(faults) {
         spoil::table(r, &mut table);
     }
@@ -326,7 +342,7 @@ fn room(r: &mut Random, needed: u64) -> u64 {
 }
 
 /// A legal group of tasks C, T, D; mostly one of its works is at the edge of a miss.
-fn legal_group(r: &mut Random, table: &TableNumbers) -> Vec<[u64; 3]> {
+pub fn legal_group(r: &mut Random, table: &TableNumbers) -> Vec<[u64; 3]> {
     let size = match r.below(40) {
         0 | 1 => 0,
         2..=4 => r.between(5, 10),
@@ -416,7 +432,12 @@ fn lent_tasks(r: &mut Random, faults: u64, group: &[[u64; 3]]) -> TaskNumbers {
     spoil_sometimes(r, faults, group, records)
 }
 
-fn spoil_sometimes(r: &mut Random, faults: u64, group: &[[u64; 3]], records: bool) -> TaskNumbers {
+pub fn spoil_sometimes(
+    r: &mut Random,
+    faults: u64,
+    group: &[[u64; 3]],
+    records: bool,
+) -> TaskNumbers {
     let mut group = group.to_vec();
     let broken = r.once_in(faults);
     if broken {
@@ -434,7 +455,12 @@ fn spoil_sometimes(r: &mut Random, faults: u64, group: &[[u64; 3]], records: boo
 
 /// A legal job list, up to 150 jobs. In half of the lists all tasks release at once, at the start
 /// where the verdict finds a miss or at another one, and then every T ticks.
-fn legal_jobs(r: &mut Random, table: &TableNumbers, group: &[[u64; 3]], ticks: u64) -> Vec<Job> {
+pub fn legal_jobs(
+    r: &mut Random,
+    table: &TableNumbers,
+    group: &[[u64; 3]],
+    ticks: u64,
+) -> Vec<Job> {
     let together = r.once_in(2);
     let first = match verdict(table, &TaskNumbers::Records(group.to_vec())) {
         Ok(Answer::Miss { start, .. }) if !r.once_in(4) => start,

@@ -1,6 +1,6 @@
 //! The tick machine that runs a job list (document 01, "The tick machine").
 
-use crate::answer::{Answer, Reason, Refusal};
+use crate::answer::{Answer, Completion, Reason, Refusal};
 use crate::table::{Table, TableNumbers};
 use crate::tasks::{Group, TaskNumbers};
 
@@ -12,6 +12,24 @@ pub struct Job {
     pub release: u64,
     pub task: u64,
     pub work: u64,
+}
+
+/// "An unfinished job with r + D <= k + 1 is a miss": its instant and its index in the job list.
+#[derive(Clone, Copy, Debug, PartialEq, Eq)]
+pub struct Miss {
+    pub instant: u64,
+    pub job: usize,
+}
+
+/// What a run of a legal job list comes to.
+pub struct Run {
+    /// The miss that ended it, if one did.
+    pub miss: Option<Miss>,
+    pub backlog: usize,
+    /// One count per job, 0 for one unfinished.
+    pub counts: Vec<u64>,
+    /// In the order in which they happened. One tick of work a tick: no two have one instant.
+    pub completions: Vec<Completion>,
 }
 
 /// Runs `ticks` ticks and writes one count per job to the lent buffer. Checks 1 to 5, then 10,
@@ -30,9 +48,23 @@ pub fn run(
     let jobs: Vec<Job> = jobs.chunks(3).map(Job::new).collect();
     check_jobs(&group, ticks, &jobs)?;
     Reason::Room.check(lent.len() < jobs.len(), jobs.len())?;
-    let (answer, counts) = run_legal(&table, &group, ticks, &jobs);
-    lent[..jobs.len()].copy_from_slice(&counts);
-    Ok(answer)
+    let run = run_legal(&table, &group, ticks, &jobs);
+    lent[..jobs.len()].copy_from_slice(&run.counts);
+    Ok(run.answer())
+}
+
+impl Run {
+    fn answer(&self) -> Answer {
+        let backlog = self.backlog;
+        match self.miss {
+            Some(Miss { instant, job }) => Answer::Missed {
+                instant,
+                job,
+                backlog,
+            },
+            None => Answer::Met { backlog },
+        }
+    }
 }
 
 impl Job {
@@ -61,7 +93,7 @@ fn check_jobs(group: &Group, ticks: u64, jobs: &[Job]) -> Result<(), Refusal> {
 
 /// Whether `job` may come next: "rises by tick and, within a tick, strictly by task index; the
 /// task is in the table; work is 1 to C; release < n; jobs of one task are at least T apart."
-fn is_legal_after(group: &Group, ticks: u64, earlier: &[Job], job: &Job) -> bool {
+pub fn is_legal_after(group: &Group, ticks: u64, earlier: &[Job], job: &Job) -> bool {
     let Some(task) = group.tasks.get(job.task as usize) else {
         return false;
     };
@@ -75,40 +107,42 @@ fn is_legal_after(group: &Group, ticks: u64, earlier: &[Job], job: &Job) -> bool
     rises && (1..=task.work).contains(&job.work) && job.release < ticks && apart
 }
 
-/// The run of a legal list: the answer and one count per job, 0 for one unfinished.
-fn run_legal(table: &Table, group: &Group, ticks: u64, jobs: &[Job]) -> (Answer, Vec<u64>) {
-    let mut counts = vec![0; jobs.len()];
+/// The run of a legal list.
+pub fn run_legal(table: &Table, group: &Group, ticks: u64, jobs: &[Job]) -> Run {
+    let mut run = Run {
+        miss: None,
+        backlog: 0,
+        counts: vec![0; jobs.len()],
+        completions: Vec::new(),
+    };
     let mut work_left: Vec<u64> = jobs.iter().map(|job| job.work).collect();
     let mut pending: Vec<usize> = Vec::new();
     let mut released = 0;
-    let mut backlog = 0;
     for tick in 0..ticks {
         while released < jobs.len() && jobs[released].release == tick {
             pending.push(released);
             released += 1;
         }
-        backlog = backlog.max(pending.len());
+        run.backlog = run.backlog.max(pending.len());
+        let instant = tick + 1;
         if table.is_supplied(tick) {
             // The earliest deadline gets the tick, ties to the lower task index.
             let urgency = |&job: &usize| (jobs[job].due(group), jobs[job].task);
             if let Some(job) = pending.iter().copied().min_by_key(urgency) {
                 work_left[job] -= 1;
                 if work_left[job] == 0 {
-                    counts[job] = tick + 1 - jobs[job].release;
+                    run.counts[job] = instant - jobs[job].release;
+                    let task = jobs[job].task;
+                    run.completions.push(Completion { instant, task });
                     pending.retain(|&other| other != job);
                 }
             }
         }
-        let instant = tick + 1;
         let late = |&job: &usize| jobs[job].due(group) <= instant;
         if let Some(job) = pending.iter().copied().filter(late).min() {
-            let missed = Answer::Missed {
-                instant,
-                job,
-                backlog,
-            };
-            return (missed, counts);
+            run.miss = Some(Miss { instant, job });
+            return run;
         }
     }
-    (Answer::Met { backlog }, counts)
+    run
 }

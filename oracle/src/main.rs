@@ -1,12 +1,12 @@
-//! The independent second program of Palikudyom: document 01 and request 1 of document 02, read
-//! from scratch, by brute force.
+//! The independent second program of Palikudyom: document 01 and requests 1 and 2 of document 02,
+//! read from scratch, by brute force.
 //!
 //! To believe its answers, read `numbers`, `answer`, `table`, `tasks`, `verdict`, `bound`,
-//! `machine` and `plan`, in this order, and `examples`, which are the documents' own and some
-//! worked out by hand; then `query` and `stream`, which are docs/ASK.md's. The other files make
-//! streams (`generate`, `outages`, `spoil`, `batch`, `enumerate`, `random`, `text`) and compare
-//! (`compare`): a fault there can hide a difference in the first program but can't change an
-//! answer.
+//! `machine`, `plan`, `trace` and `replay`, in this order, and `examples`, which are the
+//! documents' own and some worked out by hand; then `query` and `stream`, which are docs/ASK.md's.
+//! The other files make streams (`generate`, `outages`, `traces`, `spoil`, `batch`, `enumerate`,
+//! `random`, `text`) and compare (`compare`): a fault there can hide a difference in the first
+//! program but can't change an answer.
 
 mod answer;
 mod batch;
@@ -22,11 +22,14 @@ mod outages;
 mod plan;
 mod query;
 mod random;
+mod replay;
 mod spoil;
 mod stream;
 mod table;
 mod tasks;
 mod text;
+mod trace;
+mod traces;
 mod verdict;
 
 use std::io::{self, Read, Write};
@@ -35,6 +38,8 @@ use std::process::ExitCode;
 const USAGE: &str = "\
 usage: oracle answer < stream       answer a query stream, a line each
        oracle plan < file           print the line of a plan file
+       oracle replay TRACEFILE PLANFILE
+                                    print the line of a trace on a plan's table and group
        oracle encode < text         make a stream of decimal numbers and xHH bytes
        oracle decode < stream       print a stream as such a text
        oracle stream SEED COUNT     make a stream of up to COUNT random queries
@@ -73,6 +78,11 @@ fn run(words: &[&str]) -> Result<ExitCode, String> {
         }
         ["plan"] => {
             let answer = answer::Answer::from(plan::plan(&read_input(u64::MAX)?));
+            write_output(format!("{answer}\n").as_bytes())?;
+        }
+        ["replay", trace, plan] => {
+            let (trace, plan) = (read_file(trace)?, read_file(plan)?);
+            let answer = answer::Answer::from(replay::replay_on_plan(&plan, &trace));
             write_output(format!("{answer}\n").as_bytes())?;
         }
         ["encode"] => {
@@ -122,6 +132,10 @@ fn read_input(most: u64) -> Result<Vec<u8>, String> {
     let read = io::stdin().lock().take(most).read_to_end(&mut bytes);
     read.map_err(|error| format!("oracle: cannot read: {error}\n"))?;
     Ok(bytes)
+}
+
+fn read_file(name: &str) -> Result<Vec<u8>, String> {
+    std::fs::read(name).map_err(|error| format!("oracle: cannot read {name}: {error}\n"))
 }
 
 fn write_output(bytes: &[u8]) -> Result<(), String> {

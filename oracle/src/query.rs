@@ -4,7 +4,7 @@ use crate::answer::Answer;
 use crate::numbers::Cursor;
 use crate::table::{self, TableNumbers};
 use crate::tasks::{self, TaskNumbers};
-use crate::{bound, machine, plan, verdict};
+use crate::{bound, machine, plan, replay, verdict};
 
 pub const MOST_WINDOW_NUMBERS: u64 = 200;
 pub const MOST_TASK_NUMBERS: u64 = 200;
@@ -12,6 +12,9 @@ pub const MOST_JOB_NUMBERS: u64 = 12_400;
 pub const MOST_ROOM: u64 = 12_400;
 pub const MOST_PLAN_BYTES: u64 = 4_096;
 pub const MOST_RECORDS: u64 = 40;
+/// Windows and tasks of the codes that document 02 adds (ASK-02.md).
+pub const MOST_NEW_NUMBERS: u64 = 400;
+pub const MOST_TRACE_BYTES: u64 = 20_000;
 
 /// What every number of a lent buffer is at entry.
 const AT_ENTRY: u64 = 7;
@@ -28,6 +31,8 @@ pub enum Query {
     Bound(TableNumbers, TaskNumbers, u64),
     Run(RunNumbers),
     Plan(Vec<u8>),
+    /// The group in triples; the trace as bytes.
+    Replay(TableNumbers, TaskNumbers, Vec<u8>),
 }
 
 #[derive(Clone, Debug, PartialEq, Eq)]
@@ -63,7 +68,12 @@ impl Query {
                 jobs: read_list(c, MOST_JOB_NUMBERS)?,
                 room: c.number_up_to(MOST_ROOM)?,
             }),
-            10 => Query::Plan(read_plan_bytes(c)?),
+            10 => Query::Plan(read_bytes(c, MOST_PLAN_BYTES)?),
+            17 => Query::Replay(
+                read_table_up_to(c, MOST_NEW_NUMBERS)?,
+                TaskNumbers::Triples(read_list(c, MOST_NEW_NUMBERS)?),
+                read_bytes(c, MOST_TRACE_BYTES)?,
+            ),
             _ => return Err(first),
         })
     }
@@ -80,6 +90,7 @@ impl Query {
             Query::Bound(_, tasks, _) => 8 + records_add(tasks),
             Query::Run(run) => 9 + records_add(&run.tasks),
             Query::Plan(..) => 10,
+            Query::Replay(..) => 17,
         }
     }
 
@@ -112,7 +123,12 @@ impl Query {
                 push_list(&mut n, run.jobs.iter().copied());
                 n.push(run.room);
             }
-            Query::Plan(bytes) => push_list(&mut n, bytes.iter().map(|&b| u64::from(b))),
+            Query::Plan(bytes) => push_bytes(&mut n, bytes),
+            Query::Replay(table, tasks, trace) => {
+                push_table(&mut n, table);
+                push_tasks(&mut n, tasks);
+                push_bytes(&mut n, trace);
+            }
         }
         n
     }
@@ -138,6 +154,7 @@ impl Query {
                 return with_buffer(r.into(), &lent);
             }
             Query::Plan(bytes) => plan::plan(bytes),
+            Query::Replay(table, tasks, trace) => replay::replay(table, tasks, trace),
         };
         Answer::from(result).to_string()
     }
@@ -149,9 +166,13 @@ fn read_list(cursor: &mut Cursor, limit: u64) -> Result<Vec<u64>, usize> {
 }
 
 fn read_table(cursor: &mut Cursor) -> Result<TableNumbers, usize> {
+    read_table_up_to(cursor, MOST_WINDOW_NUMBERS)
+}
+
+fn read_table_up_to(cursor: &mut Cursor, limit: u64) -> Result<TableNumbers, usize> {
     Ok(TableNumbers {
         frame: cursor.number()?,
-        windows: read_list(cursor, MOST_WINDOW_NUMBERS)?,
+        windows: read_list(cursor, limit)?,
     })
 }
 
@@ -166,8 +187,8 @@ fn read_tasks(cursor: &mut Cursor, records: bool) -> Result<TaskNumbers, usize> 
     ))
 }
 
-fn read_plan_bytes(cursor: &mut Cursor) -> Result<Vec<u8>, usize> {
-    let count = cursor.number_up_to(MOST_PLAN_BYTES)?;
+fn read_bytes(cursor: &mut Cursor, limit: u64) -> Result<Vec<u8>, usize> {
+    let count = cursor.number_up_to(limit)?;
     let byte = |_| Ok(cursor.number_up_to(255)? as u8);
     (0..count).map(byte).collect()
 }
@@ -183,6 +204,10 @@ fn records_add(tasks: &TaskNumbers) -> u64 {
 fn push_list(numbers: &mut Vec<u64>, list: impl ExactSizeIterator<Item = u64>) {
     numbers.push(list.len() as u64);
     numbers.extend(list);
+}
+
+fn push_bytes(numbers: &mut Vec<u64>, bytes: &[u8]) {
+    push_list(numbers, bytes.iter().map(|&b| u64::from(b)));
 }
 
 fn push_table(numbers: &mut Vec<u64>, table: &TableNumbers) {

@@ -169,6 +169,29 @@ pub fn plan_bytes(r: &mut Random, mut numbers: Vec<u64>) -> Vec<u8> {
     bytes
 }
 
+/// The bytes of a trace's numbers, one trace in ten damaged: refusal 9, unless it is by chance
+/// another trace.
+pub fn trace_bytes(r: &mut Random, numbers: &[u64]) -> Vec<u8> {
+    let mut bytes = encode(numbers);
+    if bytes.is_empty() {
+        return bytes;
+    }
+    match r.below(50) {
+        0 => {
+            let index = r.index(bytes.len());
+            bytes[index] ^= 1 << r.below(8);
+        }
+        1 => bytes.truncate(r.index(bytes.len())),
+        2 => bytes.push(r.one_of(&[0, 1, 2, 0x7f, 0x80, 0xff]) as u8),
+        3 | 4 => {
+            let index = r.index(numbers.len());
+            bytes = with_bad_number(r, numbers, index);
+        }
+        _ => {}
+    }
+    bytes
+}
+
 /// The numbers with one of them padded, too large, too long or, at the end, unfinished.
 pub fn with_bad_number(r: &mut Random, numbers: &[u64], index: usize) -> Vec<u8> {
     let mut bytes = encode(&numbers[..index]);

@@ -74,7 +74,7 @@ mod tests {
 
     #[test]
     fn unknown_codes() {
-        for code in [0, 16, 17, 127, 128, 4_294_967_295] {
+        for code in [0, 16, 18, 127, 128, 4_294_967_295] {
             assert_eq!(answer(&[code, 0, 0]), ["BAD QUERY at 0"]);
         }
     }
@@ -145,6 +145,32 @@ mod tests {
         assert_eq!(records(33), ["REFUSED 4 at 0"]);
         assert_eq!(records(40), ["REFUSED 4 at 0"]);
         assert_eq!(records(41), ["BAD QUERY at 1"]);
+    }
+
+    /// Code 17 has limits of its own; those of codes 1 to 15 are above.
+    #[test]
+    fn limits_of_a_replay() {
+        let windows = |count| answer(&list(&[17, 8], count, 1, &[0, 0]));
+        assert_eq!(windows(400), ["REFUSED 1 at 0"]);
+        assert_eq!(windows(401), ["BAD QUERY at 2"]);
+        let tasks = |count| answer(&list(&[17, 8, 2, 0, 8], count, 1, &[0]));
+        assert_eq!(tasks(96), ["SAME"]);
+        assert_eq!(tasks(400), ["REFUSED 4 at 0"]);
+        assert_eq!(tasks(401), ["BAD QUERY at 5"]);
+        let trace = |count, byte| answer(&list(&[17, 8, 2, 0, 8, 0], count, byte, &[]));
+        assert_eq!(trace(0, 0), ["SAME"]);
+        assert_eq!(trace(20_000, 2), ["REFUSED 9 at 0"]);
+        // 5,000 releases of task 0, work 0, at tick 0.
+        assert_eq!(trace(20_000, 0), ["REFUSED 10 at 0"]);
+        assert_eq!(trace(20_001, 0), ["BAD QUERY at 6"]);
+        assert_eq!(trace(2, 255), ["REFUSED 9 at 0"]);
+        assert_eq!(trace(2, 256), ["BAD QUERY at 7"]);
+        // No other code is known yet.
+        assert_eq!(
+            answer(&[16, 1, 0, 17, 8, 2, 0, 8, 0, 0]),
+            ["BAD QUERY at 0"]
+        );
+        assert_eq!(answer(&[29, 8, 2, 0, 8, 0, 0]), ["BAD QUERY at 0"]);
     }
 
     #[test]
