@@ -27,6 +27,13 @@ static void number(const char *before, uint64_t n)
     printf("%s%llu", before, (unsigned long long)n);
 }
 
+static void completion(const char *side, uint64_t instant, uint64_t task)
+{
+    printf("%s", side);
+    number(" instant ", instant);
+    number(" task ", task);
+}
+
 /* the line of an answer, where an amount is called `amount` */
 static void answer(const char *amount, struct palikudyom_answer x)
 {
@@ -71,6 +78,24 @@ static void answer(const char *amount, struct palikudyom_answer x)
         number(" job ", x.b);
         number(" backlog ", x.c);
         break;
+    case PALIKUDYOM_SAME:
+        printf("SAME");
+        break;
+    case PALIKUDYOM_DIFFERS:
+        completion("DIFFERS trace", x.a, x.b);
+        completion(" machine", x.c, x.d);
+        break;
+    case PALIKUDYOM_TRACE_ENDED:
+        completion("DIFFERS trace none machine", x.c, x.d);
+        break;
+    case PALIKUDYOM_MACHINE_ENDED:
+        completion("DIFFERS trace", x.a, x.b);
+        printf(" machine none");
+        break;
+    case PALIKUDYOM_TRACE_MISSED:
+        number("MISSED instant ", x.a);
+        number(" job ", x.b);
+        break;
     }
 }
 
@@ -107,6 +132,11 @@ static void run(const uint32_t *tasks, size_t tasks_len, uint32_t ticks, const u
     uint32_t counts[] = {7, 7, 7};
     struct palikudyom_answer x = palikudyom_run(FRAME, LIST(X), tasks, tasks_len, ticks, jobs, jobs_len, counts, room);
     line_and_buffer(x, counts, room);
+}
+
+static void replay(const uint32_t *tasks, size_t tasks_len, const uint8_t *trace, size_t trace_len)
+{
+    line("", palikudyom_replay(FRAME, LIST(X), tasks, tasks_len, trace, trace_len));
 }
 
 /* the line of a plan, as text and by its answer */
@@ -166,6 +196,25 @@ static void refusals(void)
     run(LIST(W7), 10, LIST(two), 1);
 }
 
+/* records of kind, task, work of a release, and stamp */
+static void traces(void)
+{
+    const uint8_t same[] = {0, 0, 1, 100, 0, 1, 2, 100, 1, 0, 101, 1, 1, 106};
+    replay(LIST(W7), LIST(same));
+    const uint8_t late[] = {0, 0, 1, 100, 0, 1, 2, 100, 1, 0, 101, 1, 1, 107};
+    replay(LIST(W7), LIST(late));
+    const uint8_t trace_ended[] = {0, 0, 1, 100, 0, 1, 2, 100, 1, 0, 101, 0, 0, 1, 106};
+    replay(LIST(W7), LIST(trace_ended));
+    const uint8_t machine_ended[] = {0, 0, 1, 100, 0, 1, 2, 100, 1, 0, 101, 1, 1, 106, 1, 0, 107};
+    replay(LIST(W7), LIST(machine_ended));
+    const uint32_t short_deadline[] = {1, 4, 4, 2, 8, 5};
+    replay(LIST(short_deadline), LIST(same));
+    const uint8_t another_kind[] = {0, 0, 1, 100, 2};
+    replay(LIST(W7), LIST(another_kind));
+    const uint8_t against_the_order[] = {0, 1, 2, 100, 0, 0, 1, 100};
+    replay(LIST(W7), LIST(against_the_order));
+}
+
 static void plans(void)
 {
     uint8_t bytes[64];
@@ -183,6 +232,7 @@ int main(void)
 {
     examples();
     refusals();
+    traces();
     plans();
     return 0;
 }

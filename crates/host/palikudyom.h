@@ -32,7 +32,12 @@ enum palikudyom_code {
     PALIKUDYOM_BOUND = 7,    /* a: response bound */
     PALIKUDYOM_NO_BOUND = 8,
     PALIKUDYOM_MET = 9,      /* a: backlog */
-    PALIKUDYOM_MISSED = 10   /* a: instant, b: job, c: backlog */
+    PALIKUDYOM_MISSED = 10,  /* a: instant, b: job, c: backlog */
+    PALIKUDYOM_SAME = 11,
+    PALIKUDYOM_DIFFERS = 12, /* a: the trace's instant, b: its task, c: the machine's instant, d: its task */
+    PALIKUDYOM_TRACE_ENDED = 13,   /* c: the machine's instant, d: its task; the trace has no such completion */
+    PALIKUDYOM_MACHINE_ENDED = 14, /* a: the trace's instant, b: its task; the machine has no such completion */
+    PALIKUDYOM_TRACE_MISSED = 15   /* a: instant, b: job: its index among the trace's releases */
 };
 
 /*
@@ -45,9 +50,10 @@ enum palikudyom_code {
  *   6       the cycle is over 1,000,000
  *   7       the asked length is over 1,000,000, or the asked task is not there
  *   8 at n  the lent buffer is too short: n numbers are needed
- *   9 at o  the plan's bytes are bad at offset o
- *  10       the job list is not in threes or over 4,096 jobs, or the run is over 1,100,000 ticks
- *  11 at j  job j is out of order, of no task, too early after the last of its task, released after the run, or its work is outside 1 to C
+ *   9 at o  the bytes of the plan, or of the trace, are bad at offset o
+ *  10       the job list is not in threes or over 4,096 jobs, or the run is over 1,100,000 ticks; the same of a trace's releases and ticks
+ *  11 at j  job j is out of order, of no task, too early after the last of its task, released after the run, or its work is outside 1 to C; of a trace:
+ *           record j is against the order of records, or such a release
  */
 struct palikudyom_answer {
     uint32_t code;
@@ -89,6 +95,10 @@ struct palikudyom_answer palikudyom_bound(uint32_t frame, const uint32_t *window
 /* Runs a job list for `ticks` ticks, earliest deadline first, with a count for each job in `counts`, whose rest is kept. MET, MISSED; 1 2 3 4 5 10 11 8 */
 struct palikudyom_answer palikudyom_run(uint32_t frame, const uint32_t *windows, size_t windows_len, const uint32_t *tasks, size_t tasks_len, uint32_t ticks,
                                         const uint32_t *jobs, size_t jobs_len, uint32_t *counts, size_t counts_len);
+
+/* A board's trace against that run of its releases. SAME, DIFFERS, TRACE_ENDED, MACHINE_ENDED, TRACE_MISSED; 9 1 2 3 4 5 10 11 */
+struct palikudyom_answer palikudyom_replay(uint32_t frame, const uint32_t *windows, size_t windows_len, const uint32_t *tasks, size_t tasks_len,
+                                           const uint8_t *trace, size_t trace_len);
 
 /* The verdict of a plan file's bytes. MEETS, MISS; 9 (and 1, 4 as soon as a count is read), then as palikudyom_verdict */
 struct palikudyom_answer palikudyom_plan(const uint8_t *bytes, size_t bytes_len);

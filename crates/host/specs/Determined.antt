@@ -1,17 +1,22 @@
 -- Two answers of which a host is told the same are equal, whatever their numbers: what it is told can be undone
 use Prim.Native.Nat.{ℕ, pred}
 use mathlib.Core.Path.{_≡_, refl}
-use mathlib.Core.Bool.{cond}
+use mathlib.Core.Bool.{cond, _||_}
+use mathlib.Core.Option.{Option, none, some}
 use lib.Dec.{eqb}
 use lib.IntN.{ℤ, pos, negsuc}
 use Rattle.scope.specs.Verdict.{Verdict, Verdict.meets, Verdict.miss}
 use Rattle.scope.specs.Bound.{Bound, Bound.bound, Bound.noBound}
-use Rattle.scope.specs.Run.{Outcome, Outcome.met, Outcome.missed, Ran}
+use Rattle.scope.specs.Run as Runs
+use Rattle.scope.specs.Run.{Outcome, Ran}
+use Rattle.scope.specs.Trace.{Completion, completion}
+use Rattle.scope.specs.Replay.{Replayed, Replayed.same, Replayed.differs, Replayed.missed}
 use Rattle.scope.specs.Answers as Answers
 use Rattle.scope.specs.Answers.{Answer.given, Answer.refused, Delay}
 use Rattle.tables.specs.Determined.{undone}
 use Rattle.host.specs.declared.answer.Answer.{Answer}
 use Rattle.host.specs.Told.{told, amount, delay, signed, verdict, response, ended, ran, cAmount, cDelay, cMargin, cVerdict, cBound, cRan}
+use Rattle.host.specs.Told.{difference, replay, cReplay}
 
 -- told by its code: code 0 is a refusal
 abbrev untold : {A : Type 0} → (Answer → A) → Answer → Answers.Answer A
@@ -63,11 +68,35 @@ bounds-determined = told-determined response bounds back
     back noBound = refl
 
 abbrev runs : Answer → Ran
-runs r = cond (eqb (r .code) 9) (record { outcome = met; backlog = r .a }) (record { outcome = missed (r .a) (r .b); backlog = r .c })
+runs r = cond (eqb (r .code) 9) (record { outcome = Runs.met; backlog = r .a }) (record { outcome = Runs.missed (r .a) (r .b); backlog = r .c })
 
 pub runs-determined : (x y : Answers.Answer Ran) → cRan x ≡ cRan y → x ≡ y
 runs-determined = told-determined ran runs (λ r. back (r .outcome) (r .backlog))
   where
     back : (o : Outcome) (n : ℕ) → untold runs (ended o n) ≡ given (record { outcome = o; backlog = n })
-    back met n = refl
-    back (missed k j) n = refl
+    back Runs.met n = refl
+    back (Runs.missed k j) n = refl
+
+-- the trace's side, and the machine's
+abbrev traceOf : Answer → Option Completion
+traceOf r = cond (eqb (r .code) 12 || eqb (r .code) 14) (some (completion (r .a) (r .b))) none
+
+abbrev machineOf : Answer → Option Completion
+machineOf r = cond (eqb (r .code) 12 || eqb (r .code) 13) (some (completion (r .c) (r .d))) none
+
+abbrev replays : Answer → Replayed
+replays r = cond (eqb (r .code) 11) same (cond (eqb (r .code) 15) (missed (r .a) (r .b)) (differs (traceOf r) (machineOf r)))
+
+pub replays-determined : (x y : Answers.Answer Replayed) → cReplay x ≡ cReplay y → x ≡ y
+replays-determined = told-determined replay replays back
+  where
+    sides : (c m : Option Completion) → untold replays (difference c m) ≡ given (differs c m)
+    sides (some c) (some m) = refl
+    sides none (some m) = refl
+    sides (some c) none = refl
+    sides none none = refl
+
+    back : (r : Replayed) → untold replays (replay r) ≡ given r
+    back same = refl
+    back (differs c m) = sides c m
+    back (missed k j) = refl

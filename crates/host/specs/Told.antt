@@ -1,9 +1,13 @@
 -- What a host is told: the code and the numbers of every answer of `scope`. Numbers that a code has no use for are 0
 use Prim.Native.Nat.{ℕ, suc}
+use mathlib.Core.Option.{Option, none, some}
 use lib.IntN.{ℤ, pos, negsuc}
 use Rattle.scope.specs.Verdict.{Verdict, Verdict.meets, Verdict.miss}
 use Rattle.scope.specs.Bound.{Bound, Bound.bound, Bound.noBound}
-use Rattle.scope.specs.Run.{Outcome, Outcome.met, Outcome.missed, Ran}
+use Rattle.scope.specs.Run as Runs
+use Rattle.scope.specs.Run.{Outcome, Ran}
+use Rattle.scope.specs.Trace.{Completion}
+use Rattle.scope.specs.Replay.{Replayed, Replayed.same, Replayed.differs, Replayed.missed}
 use Rattle.scope.specs.Answers as Answers
 use Rattle.scope.specs.Answers.{Answer.given, Answer.refused, Delay}
 use Rattle.host.specs.declared.answer.Answer.{Answer}
@@ -39,11 +43,23 @@ response (bound t) = record { code = 7; a = t; b = 0; c = 0; d = 0 }
 response noBound = record { code = 8; a = 0; b = 0; c = 0; d = 0 }
 
 abbrev pub ended : Outcome → ℕ → Answer
-ended met n = record { code = 9; a = n; b = 0; c = 0; d = 0 }
-ended (missed k j) n = record { code = 10; a = k; b = j; c = n; d = 0 }
+ended Runs.met n = record { code = 9; a = n; b = 0; c = 0; d = 0 }
+ended (Runs.missed k j) n = record { code = 10; a = k; b = j; c = n; d = 0 }
 
 abbrev pub ran : Ran → Answer
 ran r = ended (r .outcome) (r .backlog)
+
+-- a difference, by the sides that have not ended; there is one at least
+abbrev pub difference : Option Completion → Option Completion → Answer
+difference (some c) (some m) = record { code = 12; a = c .instant; b = c .task; c = m .instant; d = m .task }
+difference none (some m) = record { code = 13; a = 0; b = 0; c = m .instant; d = m .task }
+difference (some c) none = record { code = 14; a = c .instant; b = c .task; c = 0; d = 0 }
+difference none none = record { code = 16; a = 0; b = 0; c = 0; d = 0 }
+
+abbrev pub replay : Replayed → Answer
+replay same = record { code = 11; a = 0; b = 0; c = 0; d = 0 }
+replay (differs c m) = difference c m
+replay (missed k j) = record { code = 15; a = k; b = j; c = 0; d = 0 }
 
 -- ---- answers
 
@@ -64,3 +80,6 @@ cBound = told response
 
 abbrev pub cRan : Answers.Answer Ran → Answer
 cRan = told ran
+
+abbrev pub cReplay : Answers.Answer Replayed → Answer
+cReplay = told replay

@@ -37,6 +37,18 @@ impl Answer {
     pub const MET: u32 = 9;
     // a: instant, b: job, c: backlog
     pub const MISSED: u32 = 10;
+
+    pub const SAME: u32 = 11;
+    // a: the trace's instant, b: its task, c: the machine's instant, d: its task
+    pub const DIFFERS: u32 = 12;
+    // c: the machine's instant, d: its task
+    pub const TRACE_ENDED: u32 = 13;
+    // a: the trace's instant, b: its task
+    pub const MACHINE_ENDED: u32 = 14;
+    // a: instant, b: job, its index among the releases
+    pub const TRACE_MISSED: u32 = 15;
+    // Never given: a difference has a side.
+    pub const BOTH_ENDED: u32 = 16;
 }
 
 // Two numbers after a code.

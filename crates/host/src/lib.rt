@@ -7,4 +7,5 @@ pub mod file;
 pub mod least_supply;
 pub mod partition;
 pub mod run;
+pub mod trace;
 pub mod verdict;

@@ -42,6 +42,7 @@ fn query(stream: &[u8], from: Cursor) -> Cursor {
         13 => entries::verdict(stream, after, true),
         14 => entries::bound(stream, after, true),
         15 => entries::run(stream, after, true),
+        17 => entries::replay(stream, after),
         _ => bad(from.at),
     }
 }

@@ -4,8 +4,10 @@ use crate::lines;
 use crate::stream::BYTES;
 use crate::stream::Cursor;
 use crate::stream::JOBS;
+use crate::stream::LATER_NUMBERS;
 use crate::stream::Listed;
 use crate::stream::NUMBERS;
+use crate::stream::TRACE;
 use crate::stream::any;
 use crate::stream::bytes;
 use crate::stream::list;
@@ -50,6 +52,18 @@ fn plan_bytes() -> [u8; BYTES as usize]
     ensures { λ r. do ⌜ (← ⟦BYTES⟧ .entry) ≡ length r ⌝ }
 {
     [0; BYTES as usize]
+}
+
+fn later_numbers() -> [u32; LATER_NUMBERS as usize]
+    ensures { λ r. do ⌜ (← ⟦LATER_NUMBERS⟧ .entry) ≡ length r ⌝ }
+{
+    [0; LATER_NUMBERS as usize]
+}
+
+fn trace_bytes() -> [u8; TRACE as usize]
+    ensures { λ r. do ⌜ (← ⟦TRACE⟧ .entry) ≡ length r ⌝ }
+{
+    [0; TRACE as usize]
 }
 
 // ---- entries over a table
@@ -317,11 +331,52 @@ fn run_into(
 
 pub(crate) fn plan(stream: &[u8], from: Cursor) -> Cursor {
     let mut plan = plan_bytes();
-    let b = bytes(stream, from, &mut plan);
+    let b = bytes(stream, from, BYTES, &mut plan);
     let end = b.after;
     if end.good {
         let count = b.count;
         lines::verdict(check_plan(&plan[..count]));
     }
     end
+}
+
+// ---- a trace
+
+// Its bytes are numbers of the stream.
+pub(crate) fn replay(stream: &[u8], from: Cursor) -> Cursor {
+    let frame = any(stream, from);
+    let mut windows = later_numbers();
+    let w = list(stream, frame.after, LATER_NUMBERS, &mut windows);
+    let mut tasks = later_numbers();
+    let t = list(stream, w.after, LATER_NUMBERS, &mut tasks);
+    let mut trace = trace_bytes();
+    let b = bytes(stream, t.after, TRACE, &mut trace);
+    let end = b.after;
+    if end.good {
+        let board = Board { frame: frame.value };
+        let m = w.count;
+        let n = t.count;
+        let k = b.count;
+        lines::replayed(replay::replay::replay(board, &windows[..m], &tasks[..n], &trace[..k]));
+    }
+    end
+}
+
+// Its bytes are those of the stream after the other numbers, to the end: whether these could be read.
+pub(crate) fn replay_rest(stream: &[u8]) -> bool {
+    let frame = any(stream, Cursor { at: 0, good: true });
+    let mut windows = later_numbers();
+    let w = list(stream, frame.after, LATER_NUMBERS, &mut windows);
+    let mut tasks = later_numbers();
+    let t = list(stream, w.after, LATER_NUMBERS, &mut tasks);
+    let end = t.after;
+    let at = end.at;
+    if !end.good || stream.len() < at {
+        return false;
+    }
+    let board = Board { frame: frame.value };
+    let m = w.count;
+    let n = t.count;
+    lines::replayed(replay::replay::replay(board, &windows[..m], &tasks[..n], &stream[at..]));
+    true
 }

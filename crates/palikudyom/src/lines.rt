@@ -3,6 +3,8 @@ use libc::STDOUT_FILENO;
 use machine::run::Ran;
 use print::line::MOST;
 use print::line::line;
+use replay::ending::Seen;
+use replay::replay::Replayed;
 use tables::answer::Amount;
 use tables::answer::Bound;
 use tables::answer::Delay;
@@ -131,6 +133,34 @@ pub(crate) fn ran(r: Ran, counts: &[u32]) {
         Ran::Refused(r) => refused(r),
     }
     buffer(counts);
+}
+
+// One side of a difference.
+fn side(text: &[u8], seen: Seen) {
+    word(text);
+    match seen {
+        Seen::None => word(b" none"),
+        Seen::At { instant, task } => {
+            part(b" instant ", instant as u64);
+            part(b" task ", task as u64);
+        }
+    }
+}
+
+pub(crate) fn replayed(r: Replayed) {
+    match r {
+        Replayed::Same => word(b"SAME"),
+        Replayed::Differs { trace, machine } => {
+            side(b"DIFFERS trace", trace);
+            side(b" machine", machine);
+        }
+        Replayed::Missed { instant, job } => {
+            part(b"MISSED instant ", instant as u64);
+            part(b" job ", job as u64);
+        }
+        Replayed::Refused(r) => refused(r),
+    }
+    newline();
 }
 
 pub(crate) fn bad_query(at: u64) {

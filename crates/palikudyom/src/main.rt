@@ -1,11 +1,12 @@
 // Prints the line of a plan file: the file that the argument names, or standard input where there is none or it is `-`. With `--ask` it answers a
-// stream of queries on standard input: docs/ASK.md.
+// stream of queries on standard input: docs/ASK.md. With `--replay` it replays a trace on standard input.
 mod ask;
 mod entries;
 mod input;
 mod lines;
 mod plan_file;
 mod stream;
+mod trace_file;
 
 use libc::STDERR_FILENO;
 use libc::STDIN_FILENO;
@@ -31,6 +32,10 @@ fn main() {
     }
     if check::same(&word[..length], b"--ask") {
         ask::answer_stream();
+        return;
+    }
+    if check::same(&word[..length], b"--replay") {
+        trace_file::replay();
         return;
     }
     plan_file::check_named(&word[..length]);

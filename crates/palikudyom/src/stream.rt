@@ -8,6 +8,9 @@ ghost use Rattle.io.specs.Counts.{Counts};
 // Windows and tasks have at most so many numbers.
 pub(crate) const NUMBERS: u32 = 200;
 
+// In the entries of document 02 they have at most so many.
+pub(crate) const LATER_NUMBERS: u32 = 400;
+
 // Jobs, and what is lent for an entry to write to, have at most so many numbers.
 pub(crate) const JOBS: u32 = 12400;
 
@@ -16,6 +19,9 @@ const RECORDS: u32 = 40;
 
 // A plan has at most so many bytes.
 pub(crate) const BYTES: u32 = 4096;
+
+// A trace has at most so many bytes.
+pub(crate) const TRACE: u32 = 20000;
 
 // Where the next number begins; or, where the reading is stopped, the bad one.
 pub(crate) struct Cursor {
@@ -134,12 +140,12 @@ pub(crate) fn room(stream: &[u8], from: Cursor, out: &[u32]) -> Listed
     front(out, count, size.after)
 }
 
-// Plan bytes: first how many, then each as a number of at most 255.
-pub(crate) fn bytes(stream: &[u8], from: Cursor, out: &mut [u8]) -> Listed
-    requires { do ⌜ (← ⟦BYTES⟧) ≤ length (now out) ⌝ }
+// Bytes: first how many, at most `most`, then each as a number of at most 255.
+pub(crate) fn bytes(stream: &[u8], from: Cursor, most: u32, out: &mut [u8]) -> Listed
+    requires { ⌜ most ≤ length (now out) ⌝ }
     ensures { λ r. ⌜ Counts (r .count) (now (out .exit)) ⌝ }
 {
-    let size = number(stream, from, BYTES);
+    let size = number(stream, from, most);
     let count = size.value as usize;
     let mut after = size.after;
     let mut i = 0;

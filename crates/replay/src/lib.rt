@@ -1,6 +1,6 @@
 // Replays a board's trace against the tick machine. Document 02, request 2. The answer equals its definition in `scope`.
 mod compare;
-mod ending;
+pub mod ending;
 mod order;
 mod read;
 mod rebuild;
