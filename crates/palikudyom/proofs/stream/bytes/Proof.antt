@@ -7,10 +7,10 @@ use Rattle.palikudyom.proofs.stream.bytes.Statement.{statement}
 use Rattle.palikudyom.proofs.stream.bytes.Tie as tie
 
 abbrev Inv-loop : tie.InvT-loop
-Inv-loop stream out₀ count after₀ i₀ out after i = (i ≤ count) × (count ≤ length out₀) × (length out ≡ length out₀)
+Inv-loop stream most out₀ count after₀ i₀ out after i = (i ≤ count) × (count ≤ length out₀) × (length out ≡ length out₀)
 
 abbrev μ-loop : tie.MeasureT-loop
-μ-loop stream out₀ count after₀ i₀ out after i = count - i
+μ-loop stream most out₀ count after₀ i₀ out after i = count - i
 
 number-requires : tie.Need-number-requires Inv-loop μ-loop
 number-requires c κs = search needs
