@@ -4,3 +4,6 @@ pub mod Surveyed
 pub mod Ending
 pub mod Compared
 pub mod Told
+pub mod Determined
+pub mod Demands
+pub mod Applied

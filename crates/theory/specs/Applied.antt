@@ -321,30 +321,30 @@ abbrev stamped : ℕ → ℕ → ℕ → ℕ → Stamped
 stamped kind task work stamp = record { kind = kind; task = task; work = work; stamp = stamp }
 
 -- W7's tasks, both released in full at tick 0, where the counter shows 100
-abbrev trace : List ℕ
+abbrev pub trace : List ℕ
 trace = 0 ∷ 0 ∷ 1 ∷ 100 ∷ 0 ∷ 1 ∷ 2 ∷ 100 ∷ 1 ∷ 0 ∷ 101 ∷ 1 ∷ 1 ∷ 106 ∷ []
 
-abbrev trace-stamps : List Stamped
+abbrev pub trace-stamps : List Stamped
 trace-stamps = stamped 0 0 1 100 ∷ stamped 0 1 2 100 ∷ stamped 1 0 0 101 ∷ stamped 1 1 0 106 ∷ []
 
-trace-reads : traceOf trace ≡ read trace-stamps 14
+pub trace-reads : traceOf trace ≡ read trace-stamps 14
 unfolding everything
 trace-reads = refl
 
-trace-same : replayAnswer (on 8) X w7 trace ≡ given same
+pub trace-same : replayAnswer (on 8) X w7 trace ≡ given same
 unfolding reply table
 trace-same = let e : aReplay (replayAnswer (on 8) X w7 trace) ≡ aReplay (given same) = row table examples "a trace" in cc
 
 -- where it shows 2 ^ 32 − 2, and goes past its top
-abbrev wrapped : List ℕ
+abbrev pub wrapped : List ℕ
 wrapped =
     0 ∷ 0 ∷ 1 ∷ 254 ∷ 255 ∷ 255 ∷ 255 ∷ 15 ∷ 0 ∷ 1 ∷ 2 ∷ 254 ∷ 255 ∷ 255 ∷ 255 ∷ 15
     ∷ 1 ∷ 0 ∷ 255 ∷ 255 ∷ 255 ∷ 255 ∷ 15 ∷ 1 ∷ 1 ∷ 4 ∷ []
 
-abbrev wrapped-stamps : List Stamped
+abbrev pub wrapped-stamps : List Stamped
 wrapped-stamps = stamped 0 0 1 4294967294 ∷ stamped 0 1 2 4294967294 ∷ stamped 1 0 0 4294967295 ∷ stamped 1 1 0 4 ∷ []
 
-wrapped-reads : traceOf wrapped ≡ read wrapped-stamps 26
+pub wrapped-reads : traceOf wrapped ≡ read wrapped-stamps 26
 unfolding everything
 wrapped-reads = refl
 
@@ -390,7 +390,7 @@ w7-no-miss : (bytes : List ℕ) (k j : ℕ) → replayAnswer (on 8) X w7 bytes �
 w7-no-miss bytes k j = meets-no-miss (on 8) X w7 bytes 8 k j w7-meets
 
 -- these two traces are what the machine records of a run of 10 ticks
-abbrev full-jobs : List Job
+abbrev pub full-jobs : List Job
 full-jobs = job 0 0 1 ∷ job 0 1 2 ∷ []
 
 abbrev full : List Record
@@ -409,10 +409,10 @@ unfolding everything
 full-same = recorded-same (on 8) X w7 refl refl full-jobs 10 refl (omega arith) (omega arith) refl (omega arith) 4294967294 refl
 
 -- with D of task 1 at 5 its job is late at instant 5; a release at 8 is recorded after that
-abbrev late-tasks : List ℕ
+abbrev pub late-tasks : List ℕ
 late-tasks = 1 ∷ 4 ∷ 4 ∷ 2 ∷ 8 ∷ 5 ∷ []
 
-abbrev late-jobs : List Job
+abbrev pub late-jobs : List Job
 late-jobs = job 0 0 1 ∷ job 0 1 2 ∷ job 8 0 1 ∷ []
 
 abbrev late-records : List Record

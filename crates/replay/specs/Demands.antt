@@ -1,0 +1,76 @@
+-- Request 2's sentences, of what `replay` answers. The premise is what it promises
+use Prim.Native.Nat.{ℕ, _-_, _≤_, _<_}
+use mathlib.Core.Path.{_≡_, sym, ap, _∙_}
+use mathlib.Core.Option.{none}
+use mathlib.Core.List.{List}
+use lib.ListN.{length}
+use Rattle.scope.specs.Limits.{mostTicks, mostJobs}
+use Rattle.scope.specs.Windows.{suppliedBy}
+use Rattle.scope.specs.Tasks.{tasksOf}
+use Rattle.scope.specs.Jobs.{Job, releaseOf, badJob}
+use Rattle.scope.specs.Machine.{edf}
+use Rattle.scope.specs.Run as Runs
+use Rattle.scope.specs.Run.{outcome}
+use Rattle.scope.specs.Answers.{Fault.fine, tableFault, groupFault, verdictAnswer}
+use Rattle.scope.specs.Plan.{Read.read}
+use Rattle.scope.specs.Trace.{Stamped, traceOf, Record, timed, ticksOf, releases, completions, traceBytes, stampedFrom, shifted}
+use Rattle.scope.specs.Replay as Replays
+use Rattle.scope.specs.Replay.{endedFrom, recorded, replayAnswer}
+use Rattle.theory.specs.Traces.{shift-answer}
+use Rattle.theory.specs.Replays.{replay-given, same-completions, meets-no-miss}
+use Rattle.theory.specs.Recorded.{recorded-same, recorded-missed}
+use Rattle.tables.specs.declared.board.Board.{Board}
+use Rattle.tables.specs.declared.answer.Verdict.{Verdict}
+use Rattle.tables.specs.declared.answer.Verdict.the-variants.{Meets}
+use Rattle.tables.specs.Told.{boardOf, toldVerdict}
+use Rattle.replay.specs.declared.replay.Replayed as replayed
+use Rattle.replay.specs.Told.{toldReplayed}
+use Rattle.replay.specs.Determined.{replayed-determined}
+
+module _ (b : Board) (ws ts bytes : List ℕ) (v : replayed.Replayed) (promised : toldReplayed v ≡ replayAnswer (boardOf b) ws ts bytes) where
+  -- "same": the trace's completions are the machine's up to the last instant, and no deadline was missed by then
+  pub same-says : v ≡ replayed.the-variants.Same → (stamped : List Stamped) (end : ℕ) → traceOf bytes ≡ read stamped end →
+      let rs = timed stamped in
+      let js = releases rs in
+      (completions rs ≡ endedFrom (suppliedBy (boardOf b) ws) (edf (tasksOf ts) js) js 0 (ticksOf rs - 1))
+      × (outcome (suppliedBy (boardOf b) ws) (edf (tasksOf ts) js) (tasksOf ts) js (ticksOf rs - 1) ≡ Runs.met)
+  same-says e stamped end reads =
+      let r = replay-given (boardOf b) ws ts bytes Replays.same (sym promised ∙ ap toldReplayed e) in
+      let q : read (r .stamped) (r .end) ≡ read stamped end = sym (r .reads) ∙ reads in
+      let z : r .stamped ≡ stamped = cc in
+      rw (← z) (same-completions (boardOf b) ws ts bytes r)
+
+  -- where the verdict is "meets", no trace answers with a miss
+  pub meets-never-missed : (u : Verdict) → toldVerdict u ≡ verdictAnswer (boardOf b) ws ts → (h k j : ℕ) → u ≡ Meets h →
+      v ≡ replayed.the-variants.Missed k j → ⊥
+  meets-never-missed u told h k j met e =
+      meets-no-miss (boardOf b) ws ts bytes h k j (sym told ∙ ap toldVerdict met) (sym promised ∙ ap toldReplayed e)
+
+  -- where the counter stood does not matter: stamps later by any constant get the same answer
+  pub shifted-same : (c : ℕ) (stamped : List Stamped) (end : ℕ) → traceOf bytes ≡ read stamped end →
+      (bytes′ : List ℕ) (end′ : ℕ) → traceOf bytes′ ≡ read (shifted c stamped) end′ →
+      (w : replayed.Replayed) → toldReplayed w ≡ replayAnswer (boardOf b) ws ts bytes′ → w ≡ v
+  shifted-same c stamped end reads bytes′ end′ reads′ w told =
+      replayed-determined w v (told ∙ shift-answer bytes stamped end reads c bytes′ end′ reads′ (boardOf b) ws ts ∙ sym promised)
+
+-- the machine's own run of a legal job list whose first release is at tick 0, recorded by a counter that shows c at its start
+module _ (b : Board) (ws ts : List ℕ) (table : tableFault (boardOf b) ws ≡ fine) (group : groupFault ts ≡ fine)
+    (js : List Job) (n : ℕ) (legal : badJob (tasksOf ts) n js ≡ none) (few : length js ≤ mostJobs) (some : 0 < length js) (start : releaseOf js 0 ≡ 0) where
+  abbrev made : List Record
+  made = recorded (suppliedBy (boardOf b) ws) (edf (tasksOf ts) js) (tasksOf ts) js n
+
+  module _ (ticks : ticksOf made ≤ mostTicks) (c : ℕ) (v : replayed.Replayed)
+      (promised : toldReplayed v ≡ replayAnswer (boardOf b) ws ts (traceBytes (stampedFrom c made))) where
+    -- is the same where the run is met
+    pub own-same : outcome (suppliedBy (boardOf b) ws) (edf (tasksOf ts) js) (tasksOf ts) js n ≡ Runs.met → v ≡ replayed.the-variants.Same
+    own-same e =
+        replayed-determined v replayed.the-variants.Same
+        (promised ∙ recorded-same (boardOf b) ws ts table group js n legal few some start ticks c e)
+
+    -- and answers the miss up to its last record's instant
+    pub own-missed : (k j : ℕ) →
+        outcome (suppliedBy (boardOf b) ws) (edf (tasksOf ts) js) (tasksOf ts) js (ticksOf made - 1) ≡ Runs.missed k j →
+        v ≡ replayed.the-variants.Missed k j
+    own-missed k j e =
+        replayed-determined v (replayed.the-variants.Missed k j)
+        (promised ∙ recorded-missed (boardOf b) ws ts table group js n legal few some start ticks c k j e)
