@@ -1,18 +1,17 @@
 -- A trace that reads and is not too long, gone through again: what is ahead of the reader, at its instants
 use mathlib.Core.Path.{_≡_, refl, sym, ap, _∙_}
 use mathlib.Core.List.{List, [], _∷_}
-use Prim.Native.Nat.{ℕ, zero, suc, _+_, _-_, _≤_, _<_, min}
+use Prim.Native.Nat.{ℕ, suc, _+_, _-_, _≤_, _<_, min}
 use native.Mathlib.Omega.{arith}
-use native.Mathlib.Nat.{le-trans}
 use lib.ListN.{length}
 use Rattle.scope.specs.Limits.{mostTicks}
 use Rattle.scope.specs.Plan.{Read, Read.read, Read.bad}
 use Rattle.scope.specs.Trace.{Stamped, readRecord, recordsWithin, traceOf, elapsed, Record, timedFrom, firstStamp, timed, lastInstant, ticksOf}
 use Rattle.theory.specs.Seven.{bad-not-read}
 use Rattle.replay.specs.declared.read.Reader.{Reader}
-use Rattle.replay.specs.Reading.{firstStampOf, startOf, passedBy, passed, recordOf}
+use Rattle.replay.specs.Reading.{startOf, passedBy, passed, recordOf}
 use Rattle.replay.specs.Rebuilt.{timedIn, recordsOf, Fits}
-use Rattle.replay.proofs.Forward.{record-next, andRecords, records-end, records-bad, records-next}
+use Rattle.replay.proofs.Forward.{record-next, records-end, records-bad, records-next}
 use Rattle.replay.proofs.SurveyLaws.{some-read, first-stamp}
 
 -- instants never fall

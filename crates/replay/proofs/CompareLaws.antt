@@ -14,7 +14,7 @@ use Rattle.scope.specs.Trace.{Record, Completion, completion, completions}
 use Rattle.scope.specs.Replay.{Difference, firstDifference}
 use Rattle.theory.specs.Numbers.{and-both}
 use Rattle.replay.specs.declared.read.Reader.{Reader}
-use Rattle.replay.specs.Reading.{startOf, passed, recordOf}
+use Rattle.replay.specs.Reading.{startOf, passed}
 use Rattle.replay.specs.Rebuilt.{recordsOf, Fits}
 use Rattle.replay.specs.Ending.{finish, endsWithin, nextEnd, completionIn}
 use Rattle.replay.specs.Compared.{andEndings, endingsFrom, comparedFrom, unlessSame, heldIf, heldBy, heldTo, isDifference, orNone}

@@ -1,16 +1,16 @@
 -- What is found among a run's counts is what the machine completes
-use mathlib.Core.Path.{_≡_, refl, sym, ap, subst, _∙_}
+use mathlib.Core.Path.{_≡_, refl, sym, ap, _∙_}
 use mathlib.Core.Bool.{Bool, true}
 use mathlib.Core.Option.{Option, none, some}
-use mathlib.Core.List.{List, [], _∷_, _++_}
+use mathlib.Core.List.{List, _∷_}
 use Prim.Native.Nat.{ℕ, zero, suc, _+_, _-_, _≤_, _<_, min}
 use native.Mathlib.Omega.{arith}
 use lib.ListN.{length, getD}
 use Rattle.scope.specs.Numbers.{IsFirst}
-use Rattle.scope.specs.Jobs.{Job, releaseOf, taskOf, workOf}
+use Rattle.scope.specs.Jobs.{Job, taskOf, workOf}
 use Rattle.scope.specs.Run.{count}
 use Rattle.scope.specs.Trace.{Completion, completion}
-use Rattle.scope.specs.Replay.{ends, endedIn, endedFrom}
+use Rattle.scope.specs.Replay.{ends, endedFrom}
 use Rattle.theory.specs.Ended.{ended-none, ended-one, ends-count, count-ends, ended-skip}
 use Rattle.replay.specs.Ending.{finish, endsWithin, nextEnd}
 use Rattle.replay.specs.Compared.{endingsFrom, andEndings}

@@ -1,18 +1,18 @@
 -- The machine's next completion, found among the counts
-use mathlib.Core.Path.{_≡_, refl, sym, ap, subst, _∙_}
-use mathlib.Core.Bool.{Bool, true, false, cond, _&&_, true≢false, false≢true}
+use mathlib.Core.Path.{_≡_, refl, sym, ap, _∙_}
+use mathlib.Core.Bool.{Bool, true, cond, _&&_}
 use mathlib.Core.Option.{Option, none, some}
-use mathlib.Core.List.{List, [], _∷_, _++_}
-use Prim.Native.Nat.{ℕ, zero, suc, _+_, _-_, _≤_, _<_, min}
+use mathlib.Core.List.{List}
+use Prim.Native.Nat.{ℕ, suc, _+_, _-_, _≤_, _<_}
 use native.Mathlib.Omega.{arith}
 use native.Mathlib.Decide.{decLe, decLt}
 use lib.Dec.{leb, ltb}
 use lib.ListN.{length, getD}
 use borrow.Author.Tests.{leb-true, ltb-true, ltb-false, lt-leb, le-leb, lt-ltb, le-ltb}
 use Rattle.scope.specs.Numbers.{sooner, firstBy, IsFirst}
-use Rattle.scope.specs.Jobs.{Job, releaseOf, taskOf, workOf}
-use Rattle.scope.specs.Trace.{Completion, completion}
-use Rattle.theory.specs.Numbers.{and-both, both-and, By, first-is, first-passes}
+use Rattle.scope.specs.Jobs.{Job, releaseOf, taskOf}
+use Rattle.scope.specs.Trace.{completion}
+use Rattle.theory.specs.Numbers.{and-both, By, first-is, first-passes}
 use Rattle.replay.specs.declared.ending.Best.{Best}
 use Rattle.replay.specs.Ending.{finish, endsWithin, nextEnd, bestOf, nearerOf, completionIn}
 

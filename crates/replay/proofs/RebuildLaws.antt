@@ -2,7 +2,7 @@
 use mathlib.Core.Path.{_≡_, refl, sym, ap, _∙_}
 use mathlib.Core.Bool.{Bool, true, false, cond}
 use mathlib.Core.List.{List, [], _∷_, _++_, append-assoc, append-nil}
-use Prim.Native.Nat.{ℕ, zero, suc, _+_, _-_, _*_, _≤_, _<_}
+use Prim.Native.Nat.{ℕ, suc, _+_, _-_, _*_, _≤_, _<_}
 use native.Mathlib.Omega.{arith}
 use lib.Dec.{eqb}
 use lib.ListN.{length, take, set, length-set}
@@ -11,9 +11,9 @@ use borrow.Author.Tests.{eq-eqb}
 use Rattle.scope.specs.Numbers.{bit}
 use Rattle.scope.specs.Limits.{mostJobs}
 use Rattle.scope.specs.Jobs.{Job, job}
-use Rattle.scope.specs.Trace.{Record, isRelease, releases}
+use Rattle.scope.specs.Trace.{Record, releases}
 use Rattle.replay.specs.declared.read.Reader.{Reader}
-use Rattle.replay.specs.Reading.{startOf, passed, recordOf}
+use Rattle.replay.specs.Reading.{startOf, passed}
 use Rattle.replay.specs.Rebuilt.{recordsOf, Fits, numbersOf, jobPut}
 use Rattle.replay.proofs.Ahead.{Ahead, Next, ahead-first, ahead-next, ahead-end}
 

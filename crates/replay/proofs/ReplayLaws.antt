@@ -1,27 +1,27 @@
 -- The parts of a replay's answer put together
 use mathlib.Core.Path.{_≡_, refl, sym, ap, _∙_}
-use mathlib.Core.Bool.{Bool, true, false, cond, _||_, true≢false}
+use mathlib.Core.Bool.{Bool, true, false, _||_, true≢false}
 use mathlib.Core.Option.{Option, none, some}
 use mathlib.Core.List.{List}
-use Prim.Native.Nat.{ℕ, zero, suc, _+_, _-_, _*_, _≤_, _<_, min}
+use Prim.Native.Nat.{ℕ, zero, suc, _-_, _≤_, _<_, min}
 use native.Mathlib.Omega.{arith}
-use native.Mathlib.Decide.{decLe, decLt}
-use lib.Dec.{leb, ltb}
-use lib.ListN.{length, getD, take}
+use native.Mathlib.Decide.{decLt}
+use lib.Dec.{ltb}
+use lib.ListN.{length, getD}
 use borrow.Author.Tests.{ltb-false, le-leb, lt-leb, lt-ltb, le-ltb}
 use Rattle.scope.specs.Limits.{mostTicks, mostJobs}
 use Rattle.scope.specs.Windows.{Board, suppliedBy}
 use Rattle.scope.specs.Tasks.{Task, tasksOf}
-use Rattle.scope.specs.Jobs.{Job, jobsOf, workOf, badJob}
+use Rattle.scope.specs.Jobs.{Job, jobsOf, badJob}
 use Rattle.scope.specs.Numbers.{first, listed, written}
 use Rattle.scope.specs.Machine.{edf, workLeft}
 use Rattle.scope.specs.Run as Runs
 use Rattle.scope.specs.Run.{Outcome, late, thenAt, judged, outcome, ticksDone, count, ran, counts}
 use Rattle.scope.specs.Answers.{Fault, Fault.fine, Fault.fault, Answer, Answer.given, Answer.refused, faultIf, _orElse_, unless, tableFault, groupFault}
-use Rattle.scope.specs.Answers.{jobListFault, jobFault, roomFault, runFault, runAnswer, runOut}
+use Rattle.scope.specs.Answers.{jobFault, roomFault, runFault, runAnswer, runOut}
 use Rattle.scope.specs.Plan.{Read, Read.read, Read.bad, orNine}
 use Rattle.scope.specs.Trace.{Stamped, traceOf, Record, timed, ticksOf, releases, completions, badRecord}
-use Rattle.scope.specs.Replay.{endedFrom, Difference, firstDifference, Replayed, Replayed.missed, named, replayed, extentFault, recordFault, replayFault, recordsAnswer, replayAnswer}
+use Rattle.scope.specs.Replay.{endedFrom, Difference, firstDifference, Replayed.missed, named, replayed, extentFault, recordFault, replayFault, recordsAnswer, replayAnswer}
 use Rattle.theory.specs.Numbers.{or-neither}
 use Rattle.theory.specs.Answers.{fault-not-fine, faultIf-fine, faultAt-fine, orElse-fine}
 use Rattle.theory.specs.Jobs.{job-rules}
@@ -29,8 +29,8 @@ use Rattle.theory.specs.Run.{listed-length, listed-at, done-within, done-before
 use Rattle.theory.specs.Buffers.{written-at}
 use Rattle.theory.specs.Replays.{records-given, jobs-legal}
 use Rattle.tables.proofs.FaultLaws.{or-assoc}
-use Rattle.replay.specs.Surveyed.{Surveyed, Surveyed.extends, Surveyed.damaged, surveyed}
-use Rattle.replay.specs.Rebuilt.{timedIn, recordsOf, Fits, numbersOf, Rebuilt, Legal}
+use Rattle.replay.specs.Surveyed.{Surveyed.extends, Surveyed.damaged, surveyed}
+use Rattle.replay.specs.Rebuilt.{timedIn, recordsOf, Fits, Rebuilt, Legal}
 use Rattle.replay.specs.Compared.{endingsFrom, comparedFrom, isNoLater, upTo, namedIn}
 use Rattle.replay.proofs.OrderLaws.{jobs-back, list-fine}
 use Rattle.replay.proofs.EndedLaws.{endings-are}

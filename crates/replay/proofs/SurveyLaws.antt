@@ -1,8 +1,8 @@
 -- The first pass over a trace: what is left of it says the rest
 use mathlib.Core.Path.{_≡_, refl, sym, ap, _∙_}
-use mathlib.Core.Bool.{Bool, true, false, cond, true≢false, false≢true}
+use mathlib.Core.Bool.{Bool, true, false, cond, false≢true}
 use mathlib.Core.List.{List, [], _∷_}
-use Prim.Native.Nat.{ℕ, zero, suc, _+_, _-_, _≤_, _<_, min}
+use Prim.Native.Nat.{ℕ, suc, _+_, _-_, _≤_, _<_, min}
 use native.Mathlib.Omega.{arith}
 use native.Mathlib.Decide.{decLt}
 use lib.Dec.{eqb}
@@ -11,7 +11,7 @@ use borrow.Author.Tests.{le-leb}
 use Rattle.scope.specs.Numbers.{bit}
 use Rattle.scope.specs.Limits.{mostTicks}
 use Rattle.scope.specs.Plan.{Read, Read.read, Read.bad, readNumber}
-use Rattle.scope.specs.Trace.{Stamped, readRecord, recordsWithin, traceOf, elapsed, Record, timedFrom, firstStamp, timed, lastInstant, ticksOf, releases}
+use Rattle.scope.specs.Trace.{Stamped, readRecord, recordsWithin, traceOf, elapsed, timedFrom, firstStamp, timed, lastInstant, ticksOf, releases}
 use Rattle.theory.specs.Seven.{bad-not-read}
 use Rattle.replay.specs.declared.read.Reader.{Reader}
 use Rattle.replay.specs.Reading.{stampIn, firstStampOf, startOf, passedBy, passed}

@@ -1,5 +1,5 @@
 -- Two answers of which the promise says the same are equal
-use mathlib.Core.Path.{_≡_, refl, ap, sym, _∙_}
+use mathlib.Core.Path.{_≡_, refl, ap}
 use mathlib.Core.Option.{Option, none, some}
 use Rattle.scope.specs.Trace.{Completion}
 use Rattle.scope.specs.Replay as Replays

@@ -4,7 +4,7 @@ use mathlib.Core.Option.{Option, none, some}
 use mathlib.Core.List.{List}
 use Prim.Native.Nat.{ℕ, suc, _+_}
 use lib.Dec.{leb, ltb}
-use lib.ListN.{length, getD}
+use lib.ListN.{getD}
 use Rattle.scope.specs.Numbers.{firstBy}
 use Rattle.scope.specs.Jobs.{Job, releaseOf, taskOf}
 use Rattle.scope.specs.Trace.{Completion, completion}

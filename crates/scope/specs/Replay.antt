@@ -15,7 +15,7 @@ use Rattle.scope.specs.Run as Runs
 use Rattle.scope.specs.Run.{Outcome, outcome, ticksDone}
 use Rattle.scope.specs.Answers.{Fault, Answer, faultIf, faultAt, _orElse_, unless, tableFault, groupFault}
 use Rattle.scope.specs.Plan.{orNine}
-use Rattle.scope.specs.Trace.{Stamped, traceOf, Record, timed, ticksOf, releases, Completion, completion, completions, badRecord}
+use Rattle.scope.specs.Trace.{traceOf, Record, timed, ticksOf, releases, Completion, completion, completions, badRecord}
 
 -- ---- the machine's completions
 

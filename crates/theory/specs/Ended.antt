@@ -1,23 +1,23 @@
 -- Laws of the machine's completions, over any pattern σ and any rule: at most one a tick, and each job's count says when
 use mathlib.Core.Path.{_≡_, refl, sym, ap, _∙_}
-use mathlib.Core.Bool.{Bool, true, false, cond, _&&_, false≢true, true≢false}
+use mathlib.Core.Bool.{Bool, true, false, cond, true≢false}
 use mathlib.Core.Logic.{inl, inr}
 use mathlib.Core.Option.{Option, none, some}
-use mathlib.Core.List.{List, [], _∷_, _++_, map}
-use Prim.Native.Nat.{ℕ, zero, suc, _+_, _-_, _≤_, _<_, min}
+use mathlib.Core.List.{List, [], _∷_}
+use Prim.Native.Nat.{ℕ, zero, suc, _+_, _-_, _≤_, _<_}
 use native.Mathlib.Omega.{arith}
 use native.Mathlib.Nat.{le-trans}
 use native.Mathlib.Decide.{ℕ-discrete, decLe}
-use lib.Dec.{leb, ltb, eqb}
+use lib.Dec.{leb, eqb}
 use lib.ListN.{length, getD}
 use borrow.Author.Tests.{leb-true, eqb-true, le-leb, eq-eqb, ne-eqb}
 use Rattle.scope.specs.Numbers.{first}
 use Rattle.scope.specs.Jobs.{Job, releaseOf, taskOf, workOf}
 use Rattle.scope.specs.Machine.{chosen, worked, tick, workLeft}
-use Rattle.scope.specs.Run.{doneAt, since, countOf, count}
-use Rattle.scope.specs.Trace.{Completion, completion}
+use Rattle.scope.specs.Run.{doneAt, countOf, count}
+use Rattle.scope.specs.Trace.{completion}
 use Rattle.scope.specs.Replay.{ends, endedIn, endedFrom}
-use Rattle.theory.specs.Numbers.{and-both, both-and, bool-cases, first-none, first-some, some-first}
+use Rattle.theory.specs.Numbers.{and-both, both-and, bool-cases, first-some, some-first}
 use Rattle.theory.specs.Lists.{keep-none, keep-alone}
 use Rattle.theory.specs.Machine.{worked-other, workLeft-falls, workLeft-before}
 

@@ -1,8 +1,5 @@
-use mathlib.Core.Path.{sym, ap, _∙_}
-use native.Mathlib.Omega.{arith}
-use Prim.Native.Nat.{ℕ, _+_, _-_, _*_, _≤_, _<_}
-use lib.ListN.{length}
-use mathlib.Core.Path.{_≡_}
+use mathlib.Core.Path.{_∙_}
+use Prim.Native.Nat.{_-_}
 use borrow.Author.Needs.{needs}
 use Rattle.host.proofs.trace.difference_answer.Statement.{statement}
 use Rattle.host.proofs.trace.difference_answer.Tie as tie
@@ -11,83 +8,63 @@ use Rattle.host.proofs.trace.difference_answer.Lts as lts
 use Rattle.host.proofs.answer.one.Reads as one-reads
 use Rattle.host.proofs.answer.two.Reads as two-reads
 
--- src/trace.rt:20:23
 enum-told : tie.Need-enum-told
 enum-told c = search needs
 
--- src/trace.rt:21:27
 enum-told-2 : tie.Need-enum-told-2
 enum-told-2 c = search needs
 
--- src/trace.rt:21:27
 one-requires : tie.Need-one-requires
 one-requires c κs = search needs
 
--- src/trace.rt:22:24
 enum-known-machine : tie.Need-enum-known-machine
 enum-known-machine c = search needs
 
--- src/trace.rt:26:20
 cast-t11 : tie.Need-cast-t11
 cast-t11 c = search needs
 
--- src/trace.rt:27:20
 cast-t12 : tie.Need-cast-t12
 cast-t12 c = search needs
 
--- src/trace.rt:31:22
 enum-known-trace : tie.Need-enum-known-trace
 enum-known-trace c = search needs
 
--- src/trace.rt:34:54
 enum-told-3 : tie.Need-enum-told-3
 enum-told-3 c = search needs
 
--- src/trace.rt:34:54
 cast-two : tie.Need-cast-two
 cast-two c = search needs
 
--- src/trace.rt:34:64
 cast-two-2 : tie.Need-cast-two-2
 cast-two-2 c = search needs
 
--- src/trace.rt:34:27
 two-requires : tie.Need-two-requires
 two-requires c κs = search needs
 
--- src/trace.rt:35:24
 enum-known-machine-2 : tie.Need-enum-known-machine-2
 enum-known-machine-2 c = search needs
 
--- src/trace.rt:37:20
 cast-t16 : tie.Need-cast-t16
 cast-t16 c = search needs
 
--- src/trace.rt:38:20
 cast-t17 : tie.Need-cast-t17
 cast-t17 c = search needs
 
--- src/trace.rt:39:20
 cast-t18 : tie.Need-cast-t18
 cast-t18 c = search needs
 
--- src/trace.rt:40:20
 cast-t19 : tie.Need-cast-t19
 cast-t19 c = search needs
 
--- src/trace.rt:16:1
 returns : tie.Need-returns
 returns c = c .one .ensures ∙ rw (c .before .before .before .enum-told .given .1, c .before .enum-told2 .given .1)
 
--- src/trace.rt:16:1
 returns-2 : tie.Need-returns-2
 returns-2 c = rw (c .before .before .before .enum-told .given .1, c .before .machine .given .1)
 
--- src/trace.rt:16:1
 returns-3 : tie.Need-returns-3
 returns-3 c = c .two .ensures ∙ rw (c .before .before .before .before .trace .given .1, c .before .enum-told3 .given .1)
 
--- src/trace.rt:16:1
 returns-4 : tie.Need-returns-4
 returns-4 c = rw (c .before .before .before .before .trace .given .1, c .before .machine2 .given .1)
 

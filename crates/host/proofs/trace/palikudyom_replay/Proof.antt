@@ -1,9 +1,6 @@
 use Rattle.host.specs.Told.{cReplay}
-use mathlib.Core.Path.{sym, ap, _∙_}
-use native.Mathlib.Omega.{arith}
-use Prim.Native.Nat.{ℕ, _+_, _-_, _*_, _≤_, _<_}
-use lib.ListN.{length}
-use mathlib.Core.Path.{_≡_}
+use mathlib.Core.Path.{ap, _∙_}
+use Prim.Native.Nat.{_-_}
 use borrow.Author.Needs.{needs}
 use Rattle.host.proofs.trace.palikudyom_replay.Statement.{statement}
 use Rattle.host.proofs.trace.palikudyom_replay.Tie as tie
@@ -12,15 +9,12 @@ use Rattle.host.proofs.trace.palikudyom_replay.Lts as lts
 use Rattle.host.proofs.trace.replay_answer.Reads as replay-answer-reads
 use Rattle.replay.proofs.replay.replay.Reads as replay-reads
 
--- src/trace.rt:67:19
 replay-requires : tie.Need-replay-requires
 replay-requires c κs = search needs
 
--- src/trace.rt:67:5
 replay-answer-requires : tie.Need-replay-answer-requires
 replay-answer-requires c κs = search needs
 
--- src/trace.rt:58:1
 returns : tie.Need-returns
 returns c = c .replay-answer .ensures ∙ ap cReplay (c .before .replay .ensures)
 

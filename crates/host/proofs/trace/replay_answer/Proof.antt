@@ -1,8 +1,5 @@
-use mathlib.Core.Path.{sym, ap, _∙_}
-use native.Mathlib.Omega.{arith}
-use Prim.Native.Nat.{ℕ, _+_, _-_, _*_, _≤_, _<_}
-use lib.ListN.{length}
-use mathlib.Core.Path.{_≡_}
+use mathlib.Core.Path.{_∙_}
+use Prim.Native.Nat.{_-_}
 use borrow.Author.Needs.{needs}
 use Rattle.host.proofs.trace.replay_answer.Statement.{statement}
 use Rattle.host.proofs.trace.replay_answer.Tie as tie
@@ -13,59 +10,45 @@ use Rattle.host.proofs.answer.refused.Reads as refused-reads
 use Rattle.host.proofs.answer.two.Reads as two-reads
 use Rattle.host.proofs.trace.difference_answer.Reads as difference-answer-reads
 
--- src/trace.rt:50:27
 enum-told : tie.Need-enum-told
 enum-told c = search needs
 
--- src/trace.rt:50:27
 one-requires : tie.Need-one-requires
 one-requires c κs = search needs
 
--- src/trace.rt:51:29
 enum-known-r : tie.Need-enum-known-r
 enum-known-r c = search needs
 
--- src/trace.rt:51:49
 difference-answer-requires : tie.Need-difference-answer-requires
 difference-answer-requires c κs = search needs
 
--- src/trace.rt:52:28
 enum-known-r-2 : tie.Need-enum-known-r-2
 enum-known-r-2 c = search needs
 
--- src/trace.rt:52:72
 cast-two : tie.Need-cast-two
 cast-two c = search needs
 
--- src/trace.rt:52:88
 cast-two-2 : tie.Need-cast-two-2
 cast-two-2 c = search needs
 
--- src/trace.rt:52:46
 two-requires : tie.Need-two-requires
 two-requires c κs = search needs
 
--- src/trace.rt:53:27
 enum-known-r-3 : tie.Need-enum-known-r-3
 enum-known-r-3 c = search needs
 
--- src/trace.rt:53:33
 refused-requires : tie.Need-refused-requires
 refused-requires c κs = search needs
 
--- src/trace.rt:46:1
 returns : tie.Need-returns
 returns c = c .one .ensures ∙ rw (c .before .enum-told .given .1)
 
--- src/trace.rt:46:1
 returns-2 : tie.Need-returns-2
 returns-2 c = c .difference-answer .ensures ∙ rw (c .before .before .r .given .1)
 
--- src/trace.rt:46:1
 returns-3 : tie.Need-returns-3
 returns-3 c = c .two .ensures ∙ rw (c .before .before .r2 .given .1)
 
--- src/trace.rt:46:1
 returns-4 : tie.Need-returns-4
 returns-4 c = c .refused .ensures ∙ rw (c .before .before .r3 .given .1)
 

@@ -3,10 +3,8 @@ use Rattle.replay.proofs.CompareLaws.{Comparing, comparing-first, compa
 use Rattle.scope.specs.Jobs.{jobsOf}
 use mathlib.Core.Path.{sym, ap, _∙_}
 use borrow.Author.Needs.{needs}
-use native.Mathlib.Omega.{arith}
-use Prim.Native.Nat.{ℕ, _+_, _-_, _*_, _≤_, _<_}
+use Prim.Native.Nat.{_-_}
 use lib.ListN.{length}
-use mathlib.Core.Path.{_≡_}
 use Rattle.replay.proofs.compare.compare.Statement.{statement}
 use Rattle.replay.proofs.compare.compare.Tie as tie
 use Rattle.replay.proofs.compare.compare.Reads as reads
@@ -25,53 +23,53 @@ Inv-loop bytes jobs counts last r₀ after₀ r after = Comparing bytes (jobsOf 
 abbrev μ-loop : tie.MeasureT-loop
 μ-loop bytes jobs counts last r₀ after₀ r after = length bytes - r .at
 
--- src/compare.rt:93:9
 start-requires : tie.Need-start-requires Inv-loop μ-loop
 start-requires c κs = search needs
 
--- src/compare.rt:95:5
 loop-holds : tie.Need-loop-holds Inv-loop μ-loop
 loop-holds c = rw (c .start .ensures) (comparing-first _ _ _ _ (c .before .before .before .before .pre .0))
 
--- src/compare.rt:96:9
 next-requires : tie.Need-next-requires Inv-loop μ-loop
 next-requires c κs = search needs
 
--- src/compare.rt:97:13
 hold-requires : tie.Need-hold-requires Inv-loop μ-loop
 hold-requires c κs = search needs
 
--- src/compare.rt:98:12
 differs-requires : tie.Need-differs-requires Inv-loop μ-loop
 differs-requires c κs = search needs
 
--- src/compare.rt:99:13
 returns : tie.Need-returns Inv-loop μ-loop
-returns c = c .before .before .hold .ensures ∙ rw (c .before .before .before .next .ensures) (comparing-found _ _ _ _ _ _ (c .before .before .before .before .before .before .loop .inv) (c .before .before .before .before .if1 .taken) (rw (← c .before .before .before .next .ensures) (ap isDifference (sym (c .before .before .hold .ensures)) ∙ sym (c .before .differs .ensures) ∙ c .if2 .taken)))
+returns c =
+    c .before .before .hold .ensures ∙ rw (c .before .before .before .next .ensures) (comparing-found _ _ _ _ _ _
+    (c .before .before .before .before .before .before .loop .inv) (c .before .before .before .before .if1 .taken) (rw (←
+    c .before .before .before .next .ensures) (ap isDifference (sym (c .before .before .hold .ensures)) ∙ sym (c .before .differs .ensures) ∙
+    c .if2 .taken)))
 
--- src/compare.rt:101:9
 held-to-requires : tie.Need-held-to-requires Inv-loop μ-loop
 held-to-requires c κs = search needs
 
--- src/compare.rt:95:5
 loop-less : tie.Need-loop-less Inv-loop μ-loop
-loop-less c = rw (c .before .before .before .before .next .ensures) (comparing-nearer _ _ _ _ _ _ (c .before .before .before .before .before .before .before .loop .inv) (c .before .before .before .before .before .if1 .taken))
+loop-less c =
+    rw (c .before .before .before .before .next .ensures) (comparing-nearer _ _ _ _ _ _
+    (c .before .before .before .before .before .before .before .loop .inv) (c .before .before .before .before .before .if1 .taken))
 
--- src/compare.rt:95:5
 loop-again : tie.Need-loop-again Inv-loop μ-loop
-loop-again c = rw (c .held-to .ensures, c .before .before .before .before .next .ensures) (comparing-next _ _ _ _ _ _ (c .before .before .before .before .before .before .before .loop .inv) (c .before .before .before .before .before .if1 .taken) (rw (← c .before .before .before .before .next .ensures) (ap isDifference (sym (c .before .before .before .hold .ensures)) ∙ sym (c .before .before .differs .ensures) ∙ c .before .if2 .left)))
+loop-again c =
+    rw (c .held-to .ensures, c .before .before .before .before .next .ensures) (comparing-next _ _ _ _ _ _
+    (c .before .before .before .before .before .before .before .loop .inv) (c .before .before .before .before .before .if1 .taken) (rw (←
+    c .before .before .before .before .next .ensures) (ap isDifference (sym (c .before .before .before .hold .ensures)) ∙ sym
+    (c .before .before .differs .ensures) ∙ c .before .if2 .left)))
 
--- src/compare.rt:103:12
 completion-after-requires : tie.Need-completion-after-requires Inv-loop μ-loop
 completion-after-requires c κs = search needs
 
--- src/compare.rt:103:5
 at-end-requires : tie.Need-at-end-requires Inv-loop μ-loop
 at-end-requires c κs = search needs
 
--- src/compare.rt:89:1
 returns-2 : tie.Need-returns-2 Inv-loop μ-loop
-returns-2 c = c .at-end .ensures ∙ rw (c .before .completion-after .ensures) (comparing-end _ _ _ _ _ _ (c .before .before .before .before .loop .inv) (c .before .before .if1 .left))
+returns-2 c =
+    c .at-end .ensures ∙ rw (c .before .completion-after .ensures) (comparing-end _ _ _ _ _ _ (c .before .before .before .before .loop .inv)
+    (c .before .before .if1 .left))
 
 pub compare-spec : {M : Type 1} → statement M
 compare-spec =

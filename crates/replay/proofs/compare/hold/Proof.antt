@@ -1,9 +1,6 @@
 use Rattle.replay.specs.Compared.{heldBy}
 use borrow.Author.Tests.{eq-eqb, ne-eqb}
-use native.Mathlib.Omega.{arith}
-use Prim.Native.Nat.{ℕ, _+_, _-_, _*_, _≤_, _<_}
-use lib.ListN.{length}
-use mathlib.Core.Path.{_≡_}
+use Prim.Native.Nat.{_-_}
 use borrow.Author.Needs.{needs}
 use Rattle.replay.proofs.compare.hold.Statement.{statement}
 use Rattle.replay.proofs.compare.hold.Tie as tie
@@ -12,28 +9,25 @@ use Rattle.replay.proofs.compare.hold.Lts as lts
 use Rattle.replay.proofs.compare.is_at.Reads as is-at-reads
 use Rattle.replay.proofs.ending.completion_after.Reads as completion-after-reads
 
--- src/compare.rt:43:9
 returns : tie.Need-returns
 unfolding heldBy
 returns c = rw (eq-eqb _ _ (c .if1 .taken))
 
--- src/compare.rt:45:9
 completion-after-requires : tie.Need-completion-after-requires
 completion-after-requires c κs = search needs
 
--- src/compare.rt:46:8
 is-at-requires : tie.Need-is-at-requires
 is-at-requires c κs = search needs
 
--- src/compare.rt:47:9
 returns-2 : tie.Need-returns-2
 unfolding heldBy
-returns-2 c = rw (ne-eqb _ _ (c .before .before .before .if1 .left), ← c .before .before .completion-after .ensures, ← c .before .is-at .ensures, c .if2 .taken)
+returns-2 c =
+    rw (ne-eqb _ _ (c .before .before .before .if1 .left), ← c .before .before .completion-after .ensures, ← c .before .is-at .ensures, c .if2 .taken)
 
--- src/compare.rt:37:1
 returns-3 : tie.Need-returns-3
 unfolding heldBy
-returns-3 c = rw (ne-eqb _ _ (c .before .before .before .if1 .left), ← c .before .before .completion-after .ensures, ← c .before .is-at .ensures, c .if2 .left)
+returns-3 c =
+    rw (ne-eqb _ _ (c .before .before .before .if1 .left), ← c .before .before .completion-after .ensures, ← c .before .is-at .ensures, c .if2 .left)
 
 pub hold-spec : {M : Type 1} → statement M
 hold-spec =

@@ -1,27 +1,19 @@
 use Rattle.replay.proofs.EndingLaws.{nearer-none, nearer-before, nearer-late, nearer-is}
-use borrow.Author.Needs.{needs}
-use native.Mathlib.Omega.{arith}
-use Prim.Native.Nat.{ℕ, _+_, _-_, _*_, _≤_, _<_}
-use lib.ListN.{length}
-use mathlib.Core.Path.{_≡_}
+use Prim.Native.Nat.{_-_}
 use Rattle.replay.proofs.ending.nearer.Statement.{statement}
 use Rattle.replay.proofs.ending.nearer.Tie as tie
 use Rattle.replay.proofs.ending.nearer.Reads as reads
 use Rattle.replay.proofs.ending.nearer.Lts as lts
 
--- src/ending.rt:33:9
 returns : tie.Need-returns
 returns c = nearer-none _ _ _ _ _ (c .if1 .taken)
 
--- src/ending.rt:36:9
 returns-2 : tie.Need-returns-2
 returns-2 c = nearer-before _ _ _ _ _ (c .before .if1 .left) (c .if2 .taken)
 
--- src/ending.rt:39:9
 returns-3 : tie.Need-returns-3
 returns-3 c = nearer-late _ _ _ _ _ (c .before .before .before .if1 .left) (c .before .before .if2 .left) (c .if3 .taken)
 
--- src/ending.rt:29:1
 returns-4 : tie.Need-returns-4
 returns-4 c = nearer-is _ _ _ _ _ (c .before .before .before .if1 .left) (c .before .before .if2 .left) (c .if3 .left)
 

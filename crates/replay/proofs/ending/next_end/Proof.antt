@@ -3,12 +3,10 @@ use Rattle.replay.proofs.EndingLaws.{best-first, best-step}
 use Rattle.replay.specs.Ending.{bestOf, nextEnd}
 use Rattle.theory.specs.Lists.{pieces-length}
 use Rattle.scope.specs.Jobs.{Job, job, jobsOf}
-use lib.ListN.{getD}
-use mathlib.Core.Path.{refl, sym, ap, _∙_}
+use mathlib.Core.Path.{refl, ap, _∙_}
 use borrow.Author.Needs.{needs}
 use native.Mathlib.Omega.{arith}
-use Prim.Native.Nat.{ℕ, _+_, _-_, _*_, _≤_, _<_}
-use lib.ListN.{length}
+use Prim.Native.Nat.{_-_, _≤_}
 use mathlib.Core.Path.{_≡_}
 use Rattle.replay.proofs.ending.next_end.Statement.{statement}
 use Rattle.replay.proofs.ending.next_end.Tie as tie
@@ -19,60 +17,64 @@ use Rattle.replay.proofs.ending.complete.Reads as complete-reads
 use Rattle.replay.proofs.ending.nearer.Reads as nearer-reads
 
 abbrev Inv-loop : tie.InvT-loop
-Inv-loop jobs counts after last count best₀ j₀ best j = (j ≤ count) × (best ≡ bestOf (jobsOf jobs) counts last count (nextEnd (jobsOf jobs) counts after last j))
+Inv-loop jobs counts after last count best₀ j₀ best j =
+    (j ≤ count) × (best ≡ bestOf (jobsOf jobs) counts last count (nextEnd (jobsOf jobs) counts after last j))
 
 abbrev μ-loop : tie.MeasureT-loop
 μ-loop jobs counts after last count best₀ j₀ best j = count - j
 
--- src/ending.rt:56:16
 add-t12 : tie.Need-add-t12 Inv-loop μ-loop
 add-t12 c = search needs
 
--- src/ending.rt:59:5
 loop-holds : tie.Need-loop-holds Inv-loop μ-loop
 loop-holds c = (omega arith, best-first _ _ _ _ _)
 
--- src/ending.rt:60:13
 job-at-requires : tie.Need-job-at-requires Inv-loop μ-loop
 job-at-requires c κs = search needs
 
--- src/ending.rt:61:44
 mul-complete : tie.Need-mul-complete Inv-loop μ-loop
 mul-complete c = search needs
 
--- src/ending.rt:61:44
 shared-slice-read-complete : tie.Need-shared-slice-read-complete Inv-loop μ-loop
-shared-slice-read-complete c = omega (arith, c .before .before .before .before .before .before .pre, pieces-length _ 3 job (c .before .before .before .before .before .before .args .jobs .now))
+shared-slice-read-complete c =
+    omega (
+      arith,
+      c .before .before .before .before .before .before .pre,
+      pieces-length _ 3 job
+          (c .before .before .before .before .before .before .args .jobs .now),
+    )
 
--- src/ending.rt:61:13
 complete-requires : tie.Need-complete-requires Inv-loop μ-loop
 complete-requires c κs = search needs
 
--- src/ending.rt:62:32
 mul-nearer : tie.Need-mul-nearer Inv-loop μ-loop
 mul-nearer c = search needs
 
--- src/ending.rt:62:32
 shared-slice-read-nearer : tie.Need-shared-slice-read-nearer Inv-loop μ-loop
-shared-slice-read-nearer c = omega (arith, c .before .before .before .before .before .before .before .before .pre, pieces-length _ 3 job (c .before .before .before .before .before .before .before .before .args .jobs .now))
+shared-slice-read-nearer c =
+    omega (
+      arith,
+      c .before .before .before .before .before .before .before .before .pre,
+      pieces-length _ 3 job
+          (c .before .before .before .before .before .before .before .before .args .jobs .now),
+    )
 
--- src/ending.rt:62:9
 nearer-requires : tie.Need-nearer-requires Inv-loop μ-loop
 nearer-requires c κs = search needs
 
--- src/ending.rt:63:9
 add-j : tie.Need-add-j Inv-loop μ-loop
 add-j c = search needs
 
--- src/ending.rt:59:5
 loop-less : tie.Need-loop-less Inv-loop μ-loop
 loop-less c = search needs
 
--- src/ending.rt:59:5
 loop-again : tie.Need-loop-again Inv-loop μ-loop
-loop-again c = (search needs, c .nearer .ensures ∙ best-step _ _ _ _ _ _ _ _ _ _ (c .before .before .before .before .before .before .loop .inv .1) refl (ap (λ (x : Job). x .release) (c .before .before .before .before .job-at .ensures)) (c .before .before .complete .ensures))
+loop-again c = (
+  search needs,
+  c .nearer .ensures ∙ best-step _ _ _ _ _ _ _ _ _ _ (c .before .before .before .before .before .before .loop .inv .1) refl (ap (λ (x
+      : Job). x .release) (c .before .before .before .before .job-at .ensures)) (c .before .before .complete .ensures),
+)
 
--- src/ending.rt:48:1
 returns : tie.Need-returns Inv-loop μ-loop
 returns c = best-end _ _ _ _ _ _ _ (c .before .loop .inv .0) (c .loop-test .left) (pieces-length _ 3 job _) (c .before .loop .inv .1)
 

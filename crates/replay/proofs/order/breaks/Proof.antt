@@ -1,8 +1,5 @@
 use borrow.Author.Tests.{eq-eqb, ne-eqb}
-use native.Mathlib.Omega.{arith}
-use Prim.Native.Nat.{ℕ, _+_, _-_, _*_, _≤_, _<_}
-use lib.ListN.{length}
-use mathlib.Core.Path.{_≡_}
+use Prim.Native.Nat.{_-_}
 use borrow.Author.Needs.{needs}
 use Rattle.replay.proofs.order.breaks.Statement.{statement}
 use Rattle.replay.proofs.order.breaks.Tie as tie
@@ -10,19 +7,15 @@ use Rattle.replay.proofs.order.breaks.Reads as reads
 use Rattle.replay.proofs.order.breaks.Lts as lts
 use Rattle.replay.proofs.order.out_of_turn.Reads as out-of-turn-reads
 
--- src/order.rt:55:8
 out-of-turn-requires : tie.Need-out-of-turn-requires
 out-of-turn-requires c κs = search needs
 
--- src/order.rt:56:9
 returns : tie.Need-returns
 returns c = rw (← c .before .out-of-turn .ensures, c .if1 .taken)
 
--- src/order.rt:59:9
 returns-2 : tie.Need-returns-2
 returns-2 c = rw (← c .before .before .before .out-of-turn .ensures, c .before .before .if1 .left, ne-eqb _ _ (c .if2 .taken))
 
--- src/order.rt:52:1
 returns-3 : tie.Need-returns-3
 returns-3 c = rw (← c .before .before .before .out-of-turn .ensures, c .before .before .if1 .left, eq-eqb _ _ (c .if2 .left))
 

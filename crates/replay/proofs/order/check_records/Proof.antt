@@ -1,10 +1,7 @@
 use Rattle.replay.proofs.OrderLaws.{records-fine, records-bad}
 use Rattle.tables.specs.Told.{faultOf}
 use mathlib.Core.Path.{sym, ap, _∙_}
-use native.Mathlib.Omega.{arith}
-use Prim.Native.Nat.{ℕ, _+_, _-_, _*_, _≤_, _<_}
-use lib.ListN.{length}
-use mathlib.Core.Path.{_≡_}
+use Prim.Native.Nat.{_-_}
 use borrow.Author.Needs.{needs}
 use Rattle.replay.proofs.order.check_records.Statement.{statement}
 use Rattle.replay.proofs.order.check_records.Tie as tie
@@ -14,37 +11,39 @@ use Rattle.jobs.proofs.check.check_jobs.Reads as check-jobs-reads
 use Rattle.replay.proofs.order.first_bad.Reads as first-bad-reads
 use Rattle.tables.proofs.answer.Refusal.place.Reads as place-reads
 
--- src/order.rt:79:11
 check-jobs-requires : tie.Need-check-jobs-requires
 check-jobs-requires c κs = search needs
 
--- src/order.rt:80:43
 enum-told : tie.Need-enum-told
 enum-told c = search needs
 
--- src/order.rt:80:26
 first-bad-requires : tie.Need-first-bad-requires
 first-bad-requires c κs = search needs
 
--- src/order.rt:81:22
 enum-known-r : tie.Need-enum-known-r
 enum-known-r c = search needs
 
--- src/order.rt:82:27
 place-requires : tie.Need-place-requires
 place-requires c κs = search needs
 
--- src/order.rt:83:13
 first-bad-requires-2 : tie.Need-first-bad-requires-2
 first-bad-requires-2 c κs = search needs
 
--- src/order.rt:74:1
 returns : tie.Need-returns
-returns c = c .first-bad .ensures ∙ sym (records-fine _ _ _ _ (c .before .before .before .before .before .before .before .pre .0) (c .before .before .before .before .before .before .before .pre .1) (c .before .before .before .before .before .before .before .pre .2) (c .before .before .before .before .before .before .before .pre .3) (sym (ap faultOf (c .before .enum-told .given .1)) ∙ c .before .before .before .check-jobs .ensures))
+returns c =
+    c .first-bad .ensures ∙ sym (records-fine _ _ _ _ (c .before .before .before .before .before .before .before .pre .0)
+    (c .before .before .before .before .before .before .before .pre .1) (c .before .before .before .before .before .before .before .pre .2)
+    (c .before .before .before .before .before .before .before .pre .3) (sym (ap faultOf (c .before .enum-told .given .1)) ∙
+    c .before .before .before .check-jobs .ensures))
 
--- src/order.rt:74:1
 returns-2 : tie.Need-returns-2
-returns-2 c = c .first-bad2 .ensures ∙ sym (rw (c .before .place .ensures) (records-bad _ _ _ _ (c .before .before .before .before .before .before .before .before .before .pre .0) (c .before .before .before .before .before .before .before .before .before .pre .1) (c .before .before .before .before .before .before .before .before .before .pre .2) (c .before .before .before .before .before .before .before .before .before .pre .3) _ _ (sym (ap faultOf (c .before .before .before .r .given .1)) ∙ c .before .before .before .before .before .check-jobs .ensures)))
+returns-2 c =
+    c .first-bad2 .ensures ∙ sym (rw (c .before .place .ensures) (records-bad _ _ _ _
+    (c .before .before .before .before .before .before .before .before .before .pre .0)
+    (c .before .before .before .before .before .before .before .before .before .pre .1)
+    (c .before .before .before .before .before .before .before .before .before .pre .2)
+    (c .before .before .before .before .before .before .before .before .before .pre .3) _ _ (sym (ap faultOf (c .before .before .before .r .given .1))
+    ∙ c .before .before .before .before .before .check-jobs .ensures)))
 
 pub check-records-spec : {M : Type 1} → statement M
 check-records-spec =

@@ -1,11 +1,10 @@
-use Rattle.replay.proofs.OrderLaws.{Passing, passing-first, passing-test, passing-found, passing-next, passing-nearer, passing-end}
+use Rattle.replay.proofs.OrderLaws.{Passing, passing-first, passing-found, passing-next, passing-nearer, passing-end}
 use Rattle.scope.specs.Answers.{faultAt}
 use mathlib.Core.Path.{sym, ap, _∙_}
 use borrow.Author.Needs.{needs}
 use native.Mathlib.Omega.{arith}
-use Prim.Native.Nat.{ℕ, _+_, _-_, _*_, _≤_, _<_}
+use Prim.Native.Nat.{_-_}
 use lib.ListN.{length}
-use mathlib.Core.Path.{_≡_}
 use Rattle.replay.proofs.order.first_bad.Statement.{statement}
 use Rattle.replay.proofs.order.first_bad.Tie as tie
 use Rattle.replay.proofs.order.first_bad.Reads as reads
@@ -21,43 +20,41 @@ Inv-loop bytes illegal r₀ i₀ j₀ r i j = Passing bytes illegal r i j
 abbrev μ-loop : tie.MeasureT-loop
 μ-loop bytes illegal r₀ i₀ j₀ r i j = length bytes - r .at
 
--- src/order.rt:57:9
 start-requires : tie.Need-start-requires Inv-loop μ-loop
 start-requires c κs = search needs
 
--- src/order.rt:60:5
 loop-holds : tie.Need-loop-holds Inv-loop μ-loop
 loop-holds c = rw (c .start .ensures) (passing-first _ _ (c .before .before .pre))
 
--- src/order.rt:62:9
 next-requires : tie.Need-next-requires Inv-loop μ-loop
 next-requires c κs = search needs
 
--- src/order.rt:63:12
 breaks-requires : tie.Need-breaks-requires Inv-loop μ-loop
 breaks-requires c κs = search needs
 
--- src/order.rt:65:13
 returns : tie.Need-returns Inv-loop μ-loop
-returns c = ap (faultAt 11) (passing-found _ _ _ _ _ (c .before .before .before .before .before .loop .inv) (c .before .before .before .if1 .taken) (rw (← c .before .before .next .ensures) (sym (c .before .breaks .ensures) ∙ c .if2 .taken)))
+returns c =
+    ap (faultAt 11) (passing-found _ _ _ _ _ (c .before .before .before .before .before .loop .inv) (c .before .before .before .if1 .taken) (rw (←
+    c .before .before .next .ensures) (sym (c .before .breaks .ensures) ∙ c .if2 .taken)))
 
--- src/order.rt:67:9
 counted-requires : tie.Need-counted-requires Inv-loop μ-loop
-counted-requires c κs = omega (arith, c .before .before .before .before .before .loop .inv .few, c .before .before .before .before .before .loop .inv .within)
+counted-requires c κs =
+    omega (arith, c .before .before .before .before .before .loop .inv .few, c .before .before .before .before .before .loop .inv .within)
 
--- src/order.rt:68:9
 add-i : tie.Need-add-i Inv-loop μ-loop
 add-i c = let i = c .before .before .before .before .before .before .loop .inv .within in search needs
 
--- src/order.rt:60:5
 loop-less : tie.Need-loop-less Inv-loop μ-loop
-loop-less c = rw (c .before .before .before .next .ensures) (passing-nearer _ _ _ _ _ (c .before .before .before .before .before .before .loop .inv) (c .before .before .before .before .if1 .taken))
+loop-less c =
+    rw (c .before .before .before .next .ensures) (passing-nearer _ _ _ _ _ (c .before .before .before .before .before .before .loop .inv)
+    (c .before .before .before .before .if1 .taken))
 
--- src/order.rt:60:5
 loop-again : tie.Need-loop-again Inv-loop μ-loop
-loop-again c = rw (c .counted .ensures, c .before .before .before .next .ensures) (passing-next _ _ _ _ _ (c .before .before .before .before .before .before .loop .inv) (c .before .before .before .before .if1 .taken) (rw (← c .before .before .before .next .ensures) (sym (c .before .before .breaks .ensures) ∙ c .before .if2 .left)))
+loop-again c =
+    rw (c .counted .ensures, c .before .before .before .next .ensures) (passing-next _ _ _ _ _
+    (c .before .before .before .before .before .before .loop .inv) (c .before .before .before .before .if1 .taken) (rw (←
+    c .before .before .before .next .ensures) (sym (c .before .before .breaks .ensures) ∙ c .before .if2 .left)))
 
--- src/order.rt:53:1
 returns-2 : tie.Need-returns-2 Inv-loop μ-loop
 returns-2 c = ap (faultAt 11) (passing-end _ _ _ _ _ (c .before .before .loop .inv) (c .if1 .left))
 

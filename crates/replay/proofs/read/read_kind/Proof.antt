@@ -1,10 +1,7 @@
-use mathlib.Core.Path.{_≡_, refl, sym, ap, _∙_}
+use mathlib.Core.Path.{sym, ap, _∙_}
 use Rattle.plan.specs.Told.{toldNumber}
 use Rattle.replay.proofs.ReadLaws.{kind-over, kind-bad, kind-read}
-use native.Mathlib.Omega.{arith}
-use Prim.Native.Nat.{ℕ, _+_, _-_, _*_, _≤_, _<_}
-use lib.ListN.{length}
-use mathlib.Core.Path.{_≡_}
+use Prim.Native.Nat.{_-_}
 use borrow.Author.Needs.{needs}
 use Rattle.replay.proofs.read.read_kind.Statement.{statement}
 use Rattle.replay.proofs.read.read_kind.Tie as tie
@@ -12,29 +9,27 @@ use Rattle.replay.proofs.read.read_kind.Reads as reads
 use Rattle.replay.proofs.read.read_kind.Lts as lts
 use Rattle.plan.proofs.number.read_number.Reads as read-number-reads
 
--- src/read.rt:39:11
 read-number-requires : tie.Need-read-number-requires
 read-number-requires c κs = search needs
 
--- src/read.rt:40:21
 enum-known-offset : tie.Need-enum-known-offset
 enum-known-offset c = search needs
 
--- src/read.rt:41:22
 enum-known-value : tie.Need-enum-known-value
 enum-known-value c = search needs
 
--- src/read.rt:43:17
 returns : tie.Need-returns
-returns c = kind-over _ _ _ _ (sym (c .before .before .before .before .read-number .ensures) ∙ ap toldNumber (c .before .before .value .given .1)) (c .if1 .taken)
+returns c =
+    kind-over _ _ _ _ (sym (c .before .before .before .before .read-number .ensures) ∙ ap toldNumber (c .before .before .value .given .1))
+    (c .if1 .taken)
 
--- src/read.rt:36:1
 returns-2 : tie.Need-returns-2
 returns-2 c = kind-bad _ _ _ (sym (c .before .before .before .read-number .ensures) ∙ ap toldNumber (c .before .offset .given .1))
 
--- src/read.rt:36:1
 returns-3 : tie.Need-returns-3
-returns-3 c = kind-read _ _ _ _ (sym (c .before .before .before .before .read-number .ensures) ∙ ap toldNumber (c .before .before .value .given .1)) (c .if1 .left)
+returns-3 c =
+    kind-read _ _ _ _ (sym (c .before .before .before .before .read-number .ensures) ∙ ap toldNumber (c .before .before .value .given .1))
+    (c .if1 .left)
 
 pub read-kind-spec : {M : Type 1} → statement M
 read-kind-spec =

@@ -1,10 +1,7 @@
-use mathlib.Core.Path.{_≡_, refl, sym, ap, _∙_}
+use mathlib.Core.Path.{sym, ap, _∙_}
 use Rattle.plan.specs.Told.{toldNumber}
 use Rattle.replay.proofs.ReadLaws.{record-kind, record-task, record-work, record-stamp, record-read}
-use native.Mathlib.Omega.{arith}
-use Prim.Native.Nat.{ℕ, _+_, _-_, _*_, _≤_, _<_}
-use lib.ListN.{length}
-use mathlib.Core.Path.{_≡_}
+use Prim.Native.Nat.{_-_}
 use borrow.Author.Needs.{needs}
 use Rattle.replay.proofs.read.read_record.Statement.{statement}
 use Rattle.replay.proofs.read.read_record.Tie as tie
@@ -14,73 +11,80 @@ use Rattle.plan.proofs.number.read_number.Reads as read-number-reads
 use Rattle.replay.proofs.read.read_kind.Reads as read-kind-reads
 use Rattle.replay.proofs.read.read_work.Reads as read-work-reads
 
--- src/read.rt:62:11
 read-kind-requires : tie.Need-read-kind-requires
 read-kind-requires c κs = search needs
 
--- src/read.rt:63:21
 enum-known-offset : tie.Need-enum-known-offset
 enum-known-offset c = search needs
 
--- src/read.rt:65:20
 enum-known-kind : tie.Need-enum-known-kind
 enum-known-kind c = search needs
 
--- src/read.rt:67:20
 read-number-requires : tie.Need-read-number-requires
 read-number-requires c κs = search needs
 
--- src/read.rt:68:25
 enum-known-offset-2 : tie.Need-enum-known-offset-2
 enum-known-offset-2 c = search needs
 
--- src/read.rt:70:24
 enum-known-task : tie.Need-enum-known-task
 enum-known-task c = search needs
 
--- src/read.rt:72:24
 read-work-requires : tie.Need-read-work-requires
 read-work-requires c κs = search needs
 
--- src/read.rt:73:29
 enum-known-offset-3 : tie.Need-enum-known-offset-3
 enum-known-offset-3 c = search needs
 
--- src/read.rt:75:28
 enum-known-work : tie.Need-enum-known-work
 enum-known-work c = search needs
 
--- src/read.rt:77:28
 read-number-requires-2 : tie.Need-read-number-requires-2
 read-number-requires-2 c κs = search needs
 
--- src/read.rt:78:33
 enum-known-offset-4 : tie.Need-enum-known-offset-4
 enum-known-offset-4 c = search needs
 
--- src/read.rt:79:41
 enum-known-stamp : tie.Need-enum-known-stamp
 enum-known-stamp c = search needs
 
--- src/read.rt:59:1
 returns : tie.Need-returns
 returns c = record-kind _ _ _ (sym (c .before .before .before .read-kind .ensures) ∙ ap toldNumber (c .before .offset .given .1))
 
--- src/read.rt:59:1
 returns-2 : tie.Need-returns-2
-returns-2 c = record-task _ _ _ _ _ (sym (c .before .before .before .before .before .before .before .read-kind .ensures) ∙ ap toldNumber (c .before .before .before .before .before .kind .given .1)) (sym (c .before .before .before .read-number .ensures) ∙ ap toldNumber (c .before .offset2 .given .1))
+returns-2 c =
+    record-task _ _ _ _ _ (sym (c .before .before .before .before .before .before .before .read-kind .ensures) ∙ ap toldNumber
+    (c .before .before .before .before .before .kind .given .1)) (sym (c .before .before .before .read-number .ensures) ∙ ap toldNumber
+    (c .before .offset2 .given .1))
 
--- src/read.rt:59:1
 returns-3 : tie.Need-returns-3
-returns-3 c = record-work _ _ _ _ _ _ _ (sym (c .before .before .before .before .before .before .before .before .before .before .before .read-kind .ensures) ∙ ap toldNumber (c .before .before .before .before .before .before .before .before .before .kind .given .1)) (sym (c .before .before .before .before .before .before .before .read-number .ensures) ∙ ap toldNumber (c .before .before .before .before .before .task .given .1)) (sym (c .before .before .before .read-work .ensures) ∙ ap toldNumber (c .before .offset3 .given .1))
+returns-3 c =
+    record-work _ _ _ _ _ _ _ (sym (c .before .before .before .before .before .before .before .before .before .before .before .read-kind .ensures) ∙
+    ap toldNumber (c .before .before .before .before .before .before .before .before .before .kind .given .1)) (sym
+    (c .before .before .before .before .before .before .before .read-number .ensures) ∙ ap toldNumber
+    (c .before .before .before .before .before .task .given .1)) (sym (c .before .before .before .read-work .ensures) ∙ ap toldNumber
+    (c .before .offset3 .given .1))
 
--- src/read.rt:59:1
 returns-4 : tie.Need-returns-4
-returns-4 c = record-stamp _ _ _ _ _ _ _ _ _ (sym (c .before .before .before .before .before .before .before .before .before .before .before .before .before .before .before .read-kind .ensures) ∙ ap toldNumber (c .before .before .before .before .before .before .before .before .before .before .before .before .before .kind .given .1)) (sym (c .before .before .before .before .before .before .before .before .before .before .before .read-number .ensures) ∙ ap toldNumber (c .before .before .before .before .before .before .before .before .before .task .given .1)) (sym (c .before .before .before .before .before .before .before .read-work .ensures) ∙ ap toldNumber (c .before .before .before .before .before .work .given .1)) (sym (c .before .before .before .read-number2 .ensures) ∙ ap toldNumber (c .before .offset4 .given .1))
+returns-4 c =
+    record-stamp _ _ _ _ _ _ _ _ _ (sym
+    (c .before .before .before .before .before .before .before .before .before .before .before .before .before .before .before .read-kind .ensures) ∙
+    ap toldNumber (c .before .before .before .before .before .before .before .before .before .before .before .before .before .kind .given .1)) (sym
+    (c .before .before .before .before .before .before .before .before .before .before .before .read-number .ensures) ∙ ap toldNumber
+    (c .before .before .before .before .before .before .before .before .before .task .given .1)) (sym
+    (c .before .before .before .before .before .before .before .read-work .ensures) ∙ ap toldNumber
+    (c .before .before .before .before .before .work .given .1)) (sym (c .before .before .before .read-number2 .ensures) ∙ ap toldNumber
+    (c .before .offset4 .given .1))
 
--- src/read.rt:59:1
 returns-5 : tie.Need-returns-5
-returns-5 c = record-read _ _ _ _ _ _ _ _ _ _ (sym (c .before .before .before .before .before .before .before .before .before .before .before .before .before .before .before .read-kind .ensures) ∙ ap toldNumber (c .before .before .before .before .before .before .before .before .before .before .before .before .before .kind .given .1)) (sym (c .before .before .before .before .before .before .before .before .before .before .before .read-number .ensures) ∙ ap toldNumber (c .before .before .before .before .before .before .before .before .before .task .given .1)) (sym (c .before .before .before .before .before .before .before .read-work .ensures) ∙ ap toldNumber (c .before .before .before .before .before .work .given .1)) (sym (c .before .before .before .read-number2 .ensures) ∙ ap toldNumber (c .before .stamp .given .1))
+returns-5 c =
+    record-read _ _ _ _ _ _ _ _ _ _ (sym
+    (c .before .before .before .before .before .before .before .before .before .before .before .before .before .before .before .read-kind .ensures) ∙
+    ap toldNumber (c .before .before .before .before .before .before .before .before .before .before .before .before .before .kind .given .1)) (sym
+    (c .before .before .before .before .before .before .before .before .before .before .before .read-number .ensures) ∙ ap toldNumber
+    (c .before .before .before .before .before .before .before .before .before .task .given .1)) (sym
+    (c .before .before .before .before .before .before .before .read-work .ensures) ∙ ap toldNumber
+    (c .before .before .before .before .before .work .given .1)) (sym (c .before .before .before .read-number2 .ensures) ∙ ap toldNumber
+    (c .before .stamp .given .1))
 
 pub read-record-spec : {M : Type 1} → statement M
 read-record-spec =

@@ -1,9 +1,6 @@
-use mathlib.Core.Path.{_≡_, refl, sym, ap, _∙_}
+use mathlib.Core.Path.{sym, _∙_}
 use Rattle.replay.proofs.ReadLaws.{work-of, no-work}
-use native.Mathlib.Omega.{arith}
-use Prim.Native.Nat.{ℕ, _+_, _-_, _*_, _≤_, _<_}
-use lib.ListN.{length}
-use mathlib.Core.Path.{_≡_}
+use Prim.Native.Nat.{_-_}
 use borrow.Author.Needs.{needs}
 use Rattle.replay.proofs.read.read_work.Statement.{statement}
 use Rattle.replay.proofs.read.read_work.Tie as tie
@@ -11,15 +8,12 @@ use Rattle.replay.proofs.read.read_work.Reads as reads
 use Rattle.replay.proofs.read.read_work.Lts as lts
 use Rattle.plan.proofs.number.read_number.Reads as read-number-reads
 
--- src/read.rt:54:9
 read-number-requires : tie.Need-read-number-requires
 read-number-requires c κs = search needs
 
--- src/read.rt:54:9
 returns : tie.Need-returns
 returns c = c .read-number .ensures ∙ sym (work-of _ _ _ (c .before .if1 .taken))
 
--- src/read.rt:50:1
 returns-2 : tie.Need-returns-2
 returns-2 c = sym (no-work _ _ _ (c .if1 .left))
 

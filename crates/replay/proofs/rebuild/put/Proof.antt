@@ -1,10 +1,6 @@
 use Rattle.replay.specs.Rebuilt.{jobPut}
 use borrow.Author.Tests.{eq-eqb, ne-eqb}
-use mathlib.Core.Path.{sym, _∙_}
-use native.Mathlib.Omega.{arith}
-use Prim.Native.Nat.{ℕ, _+_, _-_, _*_, _≤_, _<_}
-use lib.ListN.{length}
-use mathlib.Core.Path.{_≡_}
+use Prim.Native.Nat.{_-_}
 use borrow.Author.Needs.{needs}
 use Rattle.replay.proofs.rebuild.put.Statement.{statement}
 use Rattle.replay.proofs.rebuild.put.Tie as tie
@@ -12,20 +8,16 @@ use Rattle.replay.proofs.rebuild.put.Reads as reads
 use Rattle.replay.proofs.rebuild.put.Lts as lts
 use Rattle.replay.proofs.rebuild.put_job.Reads as put-job-reads
 
--- src/rebuild.rt:29:9
 put-job-requires : tie.Need-put-job-requires
 put-job-requires c κs = c .before .before .before .before .pre (c .before .if1 .taken)
 
--- src/rebuild.rt:24:1
 same-length : tie.Need-same-length
 same-length c = search needs
 
--- src/rebuild.rt:24:1
 returns : tie.Need-returns
 unfolding jobPut
 returns c = rw (eq-eqb _ _ (c .before .before .before .before .if1 .taken)) (c .before .before .put-job .ensures)
 
--- src/rebuild.rt:24:1
 returns-2 : tie.Need-returns-2
 unfolding jobPut
 returns-2 c = rw (ne-eqb _ _ (c .if1 .left))

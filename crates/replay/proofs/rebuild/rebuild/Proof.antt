@@ -1,10 +1,7 @@
 use Rattle.replay.proofs.RebuildLaws.{Rebuilding, rebuilding-first, rebuilding-room, rebuilding-next, rebuilding-nearer, rebuilding-end}
-use mathlib.Core.Path.{sym, ap, _∙_}
 use borrow.Author.Needs.{needs}
-use native.Mathlib.Omega.{arith}
-use Prim.Native.Nat.{ℕ, _+_, _-_, _*_, _≤_, _<_}
+use Prim.Native.Nat.{_-_}
 use lib.ListN.{length}
-use mathlib.Core.Path.{_≡_}
 use Rattle.replay.proofs.rebuild.rebuild.Statement.{statement}
 use Rattle.replay.proofs.rebuild.rebuild.Tie as tie
 use Rattle.replay.proofs.rebuild.rebuild.Reads as reads
@@ -20,39 +17,36 @@ Inv-loop bytes jobs₀ r₀ j₀ jobs r j = Rebuilding bytes jobs₀ jobs r j
 abbrev μ-loop : tie.MeasureT-loop
 μ-loop bytes jobs₀ r₀ j₀ jobs r j = length bytes - r .at
 
--- src/rebuild.rt:31:9
 start-requires : tie.Need-start-requires Inv-loop μ-loop
 start-requires c κs = search needs
 
--- src/rebuild.rt:33:5
 loop-holds : tie.Need-loop-holds Inv-loop μ-loop
 loop-holds c = rw (c .start .ensures) (rebuilding-first _ _ (c .before .before .before .pre .0) (c .before .before .before .pre .1))
 
--- src/rebuild.rt:34:9
 next-requires : tie.Need-next-requires Inv-loop μ-loop
 next-requires c κs = search needs
 
--- src/rebuild.rt:35:9
 put-requires : tie.Need-put-requires Inv-loop μ-loop
-put-requires c κs = rw (c .before .next .ensures) (rebuilding-room _ _ _ _ _ (c .before .before .before .before .loop .inv) (c .before .before .if1 .taken))
+put-requires c κs =
+    rw (c .before .next .ensures) (rebuilding-room _ _ _ _ _ (c .before .before .before .before .loop .inv) (c .before .before .if1 .taken))
 
--- src/rebuild.rt:36:9
 counted-requires : tie.Need-counted-requires Inv-loop μ-loop
 counted-requires c κs = search needs
 
--- src/rebuild.rt:33:5
 loop-less : tie.Need-loop-less Inv-loop μ-loop
-loop-less c = rw (c .before .before .before .before .before .next .ensures) (rebuilding-nearer _ _ _ _ _ (c .before .before .before .before .before .before .before .before .loop .inv) (c .before .before .before .before .before .before .if1 .taken))
+loop-less c =
+    rw (c .before .before .before .before .before .next .ensures) (rebuilding-nearer _ _ _ _ _
+    (c .before .before .before .before .before .before .before .before .loop .inv) (c .before .before .before .before .before .before .if1 .taken))
 
--- src/rebuild.rt:33:5
 loop-again : tie.Need-loop-again Inv-loop μ-loop
-loop-again c = rw (c .counted .ensures, c .before .before .before .put .ensures, c .before .before .before .before .before .next .ensures) (rebuilding-next _ _ _ _ _ (c .before .before .before .before .before .before .before .before .loop .inv) (c .before .before .before .before .before .before .if1 .taken))
+loop-again c =
+    rw (c .counted .ensures, c .before .before .before .put .ensures, c .before .before .before .before .before .next .ensures) (rebuilding-next _ _ _
+    _ _ (c .before .before .before .before .before .before .before .before .loop .inv)
+    (c .before .before .before .before .before .before .if1 .taken))
 
--- src/rebuild.rt:26:1
 same-length : tie.Need-same-length Inv-loop μ-loop
 same-length c = search needs
 
--- src/rebuild.rt:26:1
 returns : tie.Need-returns Inv-loop μ-loop
 returns c = rebuilding-end _ _ _ _ _ (c .before .before .loop .inv) (c .if1 .left)
 

@@ -1,26 +1,19 @@
-use native.Mathlib.Omega.{arith}
-use Prim.Native.Nat.{ℕ, _+_, _-_, _*_, _≤_, _<_}
-use lib.ListN.{length}
-use mathlib.Core.Path.{_≡_}
+use Prim.Native.Nat.{_-_}
 use borrow.Author.Needs.{needs}
 use Rattle.replay.proofs.replay.by_difference.Statement.{statement}
 use Rattle.replay.proofs.replay.by_difference.Tie as tie
 use Rattle.replay.proofs.replay.by_difference.Reads as reads
 use Rattle.replay.proofs.replay.by_difference.Lts as lts
 
--- src/replay.rt:74:28
 enum-told : tie.Need-enum-told
 enum-told c = search needs
 
--- src/replay.rt:75:28
 enum-known-compared : tie.Need-enum-known-compared
 enum-known-compared c = search needs
 
--- src/replay.rt:70:1
 returns : tie.Need-returns
 returns c = rw (c .enum-told .given .1)
 
--- src/replay.rt:70:1
 returns-2 : tie.Need-returns-2
 returns-2 c = rw (c .before .compared .given .1)
 

@@ -1,54 +1,41 @@
 use native.Mathlib.Omega.{arith}
-use Prim.Native.Nat.{ℕ, _+_, _-_, _*_, _≤_, _<_}
-use lib.ListN.{length}
-use mathlib.Core.Path.{_≡_}
+use Prim.Native.Nat.{_-_}
 use borrow.Author.Needs.{needs}
 use Rattle.replay.proofs.replay.lesser.Statement.{statement}
 use Rattle.replay.proofs.replay.lesser.Tie as tie
 use Rattle.replay.proofs.replay.lesser.Reads as reads
 use Rattle.replay.proofs.replay.lesser.Lts as lts
 
--- src/replay.rt:43:23
 enum-told : tie.Need-enum-told
 enum-told c = search needs
 
--- src/replay.rt:44:27
 enum-told-2 : tie.Need-enum-told-2
 enum-told-2 c = search needs
 
--- src/replay.rt:45:24
 enum-known-machine : tie.Need-enum-known-machine
 enum-known-machine c = search needs
 
--- src/replay.rt:47:29
 enum-known-trace : tie.Need-enum-known-trace
 enum-known-trace c = search needs
 
--- src/replay.rt:48:27
 enum-told-3 : tie.Need-enum-told-3
 enum-told-3 c = search needs
 
--- src/replay.rt:49:33
 enum-known-machine-2 : tie.Need-enum-known-machine-2
 enum-known-machine-2 c = search needs
 
--- src/replay.rt:51:21
 returns : tie.Need-returns
 returns c = rw (c .before .before .before .before .before .trace .given .1, c .before .before .machine2 .given .1) (omega arith)
 
--- src/replay.rt:39:1
 returns-2 : tie.Need-returns-2
 returns-2 c = search needs
 
--- src/replay.rt:39:1
 returns-3 : tie.Need-returns-3
 returns-3 c = search needs
 
--- src/replay.rt:39:1
 returns-4 : tie.Need-returns-4
 returns-4 c = search needs
 
--- src/replay.rt:39:1
 returns-5 : tie.Need-returns-5
 returns-5 c = rw (c .before .before .before .before .before .trace .given .1, c .before .before .machine2 .given .1) (omega arith)
 

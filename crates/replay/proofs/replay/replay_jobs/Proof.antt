@@ -1,10 +1,7 @@
 use Rattle.replay.proofs.ReplayLaws.{records-refused}
 use Rattle.tables.specs.Told.{faultOf}
-use mathlib.Core.Path.{refl, sym, ap, _∙_}
-use native.Mathlib.Omega.{arith}
-use Prim.Native.Nat.{ℕ, _+_, _-_, _*_, _≤_, _<_}
-use lib.ListN.{length}
-use mathlib.Core.Path.{_≡_}
+use mathlib.Core.Path.{sym, ap, _∙_}
+use Prim.Native.Nat.{_-_}
 use borrow.Author.Needs.{needs}
 use Rattle.replay.proofs.replay.replay_jobs.Statement.{statement}
 use Rattle.replay.proofs.replay.replay_jobs.Tie as tie
@@ -13,27 +10,28 @@ use Rattle.replay.proofs.replay.replay_jobs.Lts as lts
 use Rattle.replay.proofs.order.check_records.Reads as check-records-reads
 use Rattle.replay.proofs.replay.replay_legal.Reads as replay-legal-reads
 
--- src/replay.rt:153:11
 check-records-requires : tie.Need-check-records-requires
 check-records-requires c κs = let p = c .before .before .before .before .pre in (p .fits, p .group, p .ticks, p .numbers)
 
--- src/replay.rt:154:22
 enum-known-r : tie.Need-enum-known-r
 enum-known-r c = search needs
 
--- src/replay.rt:155:26
 enum-told : tie.Need-enum-told
 enum-told c = search needs
 
--- src/replay.rt:155:26
 replay-legal-requires : tie.Need-replay-legal-requires
-replay-legal-requires c κs = record { rebuilt = c .before .before .before .before .before .before .before .pre; legal = sym (c .before .before .check-records .ensures) ∙ ap faultOf (c .enum-told .given .1) }
+replay-legal-requires c κs =
+    record {
+      rebuilt = c .before .before .before .before .before .before .before .pre;
+      legal = sym (c .before .before .check-records .ensures) ∙ ap
+          faultOf (c .enum-told .given .1);
+    }
 
--- src/replay.rt:142:1
 returns : tie.Need-returns
-returns c = records-refused _ _ _ _ _ _ _ _ (c .before .before .before .before .before .before .before .before .pre) (sym (ap faultOf (c .before .r .given .1)) ∙ c .before .before .before .check-records .ensures)
+returns c =
+    records-refused _ _ _ _ _ _ _ _ (c .before .before .before .before .before .before .before .before .pre) (sym (ap faultOf
+    (c .before .r .given .1)) ∙ c .before .before .before .check-records .ensures)
 
--- src/replay.rt:142:1
 returns-2 : tie.Need-returns-2
 returns-2 c = search needs
 

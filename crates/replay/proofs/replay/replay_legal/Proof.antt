@@ -1,9 +1,7 @@
 use Rattle.replay.proofs.ReplayLaws.{room-enough, legal-answer}
-use mathlib.Core.Path.{refl, sym, ap, _∙_}
+use mathlib.Core.Path.{_∙_}
 use native.Mathlib.Omega.{arith}
-use Prim.Native.Nat.{ℕ, _+_, _-_, _*_, _≤_, _<_}
-use lib.ListN.{length}
-use mathlib.Core.Path.{_≡_}
+use Prim.Native.Nat.{_-_}
 use borrow.Author.Needs.{needs}
 use Rattle.replay.proofs.replay.replay_legal.Statement.{statement}
 use Rattle.replay.proofs.replay.replay_legal.Tie as tie
@@ -15,37 +13,41 @@ use Rattle.replay.proofs.replay.count_room.Reads as count-room-reads
 use Rattle.replay.proofs.replay.last_of.Reads as last-of-reads
 use Rattle.replay.proofs.replay.named.Reads as named-reads
 
--- src/replay.rt:134:22
 count-room-requires : tie.Need-count-room-requires
 count-room-requires c κs = search needs
 
--- src/replay.rt:135:55
 slice-aggregate-run : tie.Need-slice-aggregate-run
 slice-aggregate-run c = search needs
 
--- src/replay.rt:135:9
 run-requires : tie.Need-run-requires
 run-requires c κs = search needs
 
--- src/replay.rt:136:9
 last-of-requires : tie.Need-last-of-requires
 last-of-requires c κs = search needs
 
--- src/replay.rt:137:41
 slice-aggregate-compare : tie.Need-slice-aggregate-compare
 slice-aggregate-compare c = search needs
 
--- src/replay.rt:137:9
 compare-requires : tie.Need-compare-requires
-compare-requires c κs = (c .before .before .before .before .before .before .before .before .before .before .pre .rebuilt .fits, omega (arith, room-enough _ _ _ _ _ _ (c .before .before .before .before .before .before .before .before .before .before .pre) _ (c .before .before .before .before .before .count-room .ensures)))
+compare-requires c κs = (
+  c .before .before .before .before .before .before .before .before .before .before .pre .rebuilt .fits,
+  omega (
+    arith,
+    room-enough _ _ _ _ _ _
+        (c .before .before .before .before .before .before .before .before .before .before .pre) _
+        (c .before .before .before .before .before .count-room .ensures),
+  ),
+)
 
--- src/replay.rt:138:5
 named-requires : tie.Need-named-requires
 named-requires c κs = search needs
 
--- src/replay.rt:123:1
 returns : tie.Need-returns
-returns c = c .named .ensures ∙ legal-answer _ _ _ _ _ _ (c .before .before .before .before .before .before .before .before .before .before .before .before .pre) _ _ _ _ _ (c .before .before .before .before .before .before .before .count-room .ensures) (c .before .before .before .before .before .run .ensures .0) (c .before .before .before .before .before .run .ensures .1) (c .before .before .before .last-of .ensures) (c .before .compare .ensures)
+returns c =
+    c .named .ensures ∙ legal-answer _ _ _ _ _ _
+    (c .before .before .before .before .before .before .before .before .before .before .before .before .pre) _ _ _ _ _
+    (c .before .before .before .before .before .before .before .count-room .ensures) (c .before .before .before .before .before .run .ensures .0)
+    (c .before .before .before .before .before .run .ensures .1) (c .before .before .before .last-of .ensures) (c .before .compare .ensures)
 
 pub replay-legal-spec : {M : Type 1} → statement M
 replay-legal-spec =

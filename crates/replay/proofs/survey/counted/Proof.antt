@@ -1,23 +1,18 @@
 use borrow.Author.Tests.{eq-eqb, ne-eqb}
 use native.Mathlib.Omega.{arith}
-use Prim.Native.Nat.{ℕ, _+_, _-_, _*_, _≤_, _<_}
-use lib.ListN.{length}
-use mathlib.Core.Path.{_≡_}
+use Prim.Native.Nat.{_-_}
 use borrow.Author.Needs.{needs}
 use Rattle.replay.proofs.survey.counted.Statement.{statement}
 use Rattle.replay.proofs.survey.counted.Tie as tie
 use Rattle.replay.proofs.survey.counted.Reads as reads
 use Rattle.replay.proofs.survey.counted.Lts as lts
 
--- src/survey.rt:30:16
 add-result : tie.Need-add-result
 add-result c = search needs
 
--- src/survey.rt:30:9
 returns : tie.Need-returns
 returns c = rw (eq-eqb _ _ (c .if1 .taken))
 
--- src/survey.rt:25:1
 returns-2 : tie.Need-returns-2
 returns-2 c = rw (ne-eqb _ _ (c .if1 .left)) (omega arith)
 
