@@ -78,14 +78,14 @@ runs-determined = told-determined ran runs (λ r. back (r .outcome) (r .backlog)
     back (Runs.missed k j) n = refl
 
 -- the trace's side, and the machine's
-abbrev traceOf : Answer → Option Completion
-traceOf r = cond (eqb (r .code) 12 || eqb (r .code) 14) (some (completion (r .a) (r .b))) none
+abbrev traceSide : Answer → Option Completion
+traceSide r = cond (eqb (r .code) 12 || eqb (r .code) 14) (some (completion (r .a) (r .b))) none
 
-abbrev machineOf : Answer → Option Completion
-machineOf r = cond (eqb (r .code) 12 || eqb (r .code) 13) (some (completion (r .c) (r .d))) none
+abbrev machineSide : Answer → Option Completion
+machineSide r = cond (eqb (r .code) 12 || eqb (r .code) 13) (some (completion (r .c) (r .d))) none
 
 abbrev replays : Answer → Replayed
-replays r = cond (eqb (r .code) 11) same (cond (eqb (r .code) 15) (missed (r .a) (r .b)) (differs (traceOf r) (machineOf r)))
+replays r = cond (eqb (r .code) 11) same (cond (eqb (r .code) 15) (missed (r .a) (r .b)) (differs (traceSide r) (machineSide r)))
 
 pub replays-determined : (x y : Answers.Answer Replayed) → cReplay x ≡ cReplay y → x ≡ y
 replays-determined = told-determined replay replays back

@@ -17,23 +17,6 @@ use Rattle.records.proofs.flat.Flat as F
 use Rattle.records.proofs.flat.Flat.Laws as F′
 use Rattle.records.proofs.NumberLaws.{none, numbers-length}
 
--- ---- three numbers more at the end of what is written
-
-one-more : (l : List ℕ) (n m a : ℕ) → m ≡ suc n → n < length l → take m (set l n a) ≡ take n l ++ (a ∷ [])
-one-more l n m a e h = rw e (take-suc-set l n a h)
-
-pub three-more : (l : List ℕ) (n a b c : ℕ) → n + 2 < length l →
-    take (n + 3) (set (set (set l n a) (n + 1) b) (n + 2) c) ≡ take n l ++ (a ∷ b ∷ c ∷ [])
-three-more l n a b c h =
-    let l₁ = set l n a in
-    let l₂ = set l₁ (n + 1) b in
-    let e₁ : length l₁ ≡ length l = length-set l n a in
-    let e₂ : length l₂ ≡ length l₁ = length-set l₁ (n + 1) b in
-    one-more l₂ (n + 2) (n + 3) c (omega arith) (omega arith)
-    ∙ ap (λ (m : List ℕ). m ++ (c ∷ []))
-    (one-more l₁ (n + 1) (n + 2) b (omega arith) (omega arith) ∙ ap (λ (m : List ℕ). m ++ (b ∷ [])) (one-more l n (n + 1) a (omega arith) (omega arith)))
-    ∙ rw (append-assoc, append-assoc)
-
 -- ---- the numbers of the first i records
 
 -- the numbers of record i, in front of others

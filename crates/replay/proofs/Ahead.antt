@@ -20,12 +20,7 @@ unfolding timedFrom lastInstant
 last-ge k s [] = omega arith
 last-ge k s (x ∷ rs) = let i : ℕ = k + elapsed s (x .stamp) in omega (arith, last-ge i (x .stamp) rs)
 
--- so n is above the last instant, and no more than one above
-pub ticks-last : (rs : List Record) → ticksOf rs ≤ suc (lastInstant 0 rs)
-unfolding lastInstant
-ticks-last [] = omega arith
-ticks-last (r ∷ rs) = omega arith
-
+-- nor is the last one past n
 pub last-ticks : (k s : ℕ) (rs : List Stamped) → lastInstant 0 (timedFrom k s rs) ≤ ticksOf (timedFrom k s rs)
 unfolding timedFrom lastInstant
 last-ticks k s [] = omega arith

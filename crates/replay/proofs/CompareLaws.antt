@@ -128,7 +128,8 @@ module _ (bytes : List ℕ) (js : List Job) (cs : List ℕ) (last : ℕ) where
             cond u (left j) (some (record { trace = some c; machine = some (at j) })) ≡ whole → Comparing q (q .instant)
         one j l false w h s = absurd (true≢false h)
         one j l true w h s =
-            let z : q .instant ≡ finish js cs j = eqb-true (q .instant) (finish js cs j) (and-both (eqb (q .instant) (finish js cs j)) (eqb (q .task) (taskOf js j)) w .0) in
+            let both = and-both (eqb (q .instant) (finish js cs j)) (eqb (q .task) (taskOf js j)) w in
+            let z : q .instant ≡ finish js cs j = eqb-true (q .instant) (finish js cs j) (both .0) in
             record {
               rest = step .more;
               ahead = step .ahead;

@@ -67,7 +67,9 @@ module _ (js : List Job) (cs : List ℕ) (after last : ℕ) where
       elim (decLe 1 (getD cs j 0)) [
         | no h ↦ rw (lt-leb 1 (getD cs j 0) (omega arith)) (sym (nearer-none _ j (getD cs j 0) (f j) after (omega arith)))
         | yes h ↦ elim (decLt after (f j)) [
-          | no k ↦ rw (le-leb 1 (getD cs j 0) h, le-ltb after (f j) (omega arith)) (sym (nearer-before _ j (getD cs j 0) (f j) after (λ z. omega arith) (omega arith)))
+          | no k ↦
+              rw (le-leb 1 (getD cs j 0) h, le-ltb after (f j) (omega arith))
+              (sym (nearer-before _ j (getD cs j 0) (f j) after (λ z. omega arith) (omega arith)))
           | yes k ↦ rest h k (firstBy sooner-one inside j) refl
         ]
       ]

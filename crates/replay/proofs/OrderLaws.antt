@@ -27,16 +27,7 @@ use Rattle.replay.specs.Reading.{startOf, passed, recordOf}
 use Rattle.replay.specs.Rebuilt.{recordsOf, Fits, numbersOf, breaksBy, breaksAt}
 use Rattle.replay.proofs.Ahead.{Ahead, Next, ahead-first, ahead-next, ahead-end}
 
--- ---- one test
-
-pub lex-less : (x y : ℕ) (rest : Bool) → x < y → true ≡ lexically x y rest
-lex-less x y rest h = rw (lt-ltb x y h)
-
-pub lex-more : (x y : ℕ) (rest : Bool) → y ≤ x → (x ≡ y → ⊥) → false ≡ lexically x y rest
-lex-more x y rest h u = rw (le-ltb x y h, ne-eqb x y u)
-
-pub lex-tied : (x y : ℕ) (rest : Bool) → y ≤ x → x ≡ y → lexically x y rest ≡ rest
-lex-tied x y rest h e = rw (le-ltb x y h, eq-eqb x y e)
+-- ---- tests
 
 or-true : (b : Bool) → (b || true) ≡ true
 or-true true = refl
@@ -285,9 +276,9 @@ module _ (bytes ts jobs : List ℕ) (n : ℕ) (fits : Fits bytes) (group : group
       let l : length jobs ≡ 3 * length (releases rs) = ap length numbers ∙ numbers-length (releases rs) in
       records-by (tasksOf ts) rs (length jobs / 3) (λ j h k. legal-all b j k) (λ h. absurd (omega arith))
 
-  pub records-bad : (m p : ℕ) → fault m p ≡ (groupFault ts orElse jobListFault n jobs orElse jobFault (tasksOf ts) n (jobsOf jobs)) →
+  pub records-illegal : (m p : ℕ) → fault m p ≡ (groupFault ts orElse jobListFault n jobs orElse jobFault (tasksOf ts) n (jobsOf jobs)) →
       recordFault (tasksOf ts) rs ≡ faultAt 11 (first (breaksAt rs p) (length rs))
-  records-bad m p e = go (badJob (tasksOf ts) (ticksOf rs) (releases rs)) refl (told (fault m p) e)
+  records-illegal m p e = go (badJob (tasksOf ts) (ticksOf rs) (releases rs)) refl (told (fault m p) e)
     where
       go : (o : Option ℕ) → badJob (tasksOf ts) (ticksOf rs) (releases rs) ≡ o → faultAt 11 o ≡ fault m p →
           recordFault (tasksOf ts) rs ≡ faultAt 11 (first (breaksAt rs p) (length rs))

@@ -17,8 +17,8 @@ module _ (bytes : List ℕ) (at : ℕ) where
   pub kind-over : (v next : ℕ) → readNumber bytes at ≡ read v next → 1 < v → bad at ≡ readKind bytes at
   kind-over v next e h = rw (e, lt-leb v 1 h)
 
-  pub kind-read : (v next : ℕ) → readNumber bytes at ≡ read v next → v ≤ 1 → read v next ≡ readKind bytes at
-  kind-read v next e h = rw (e, le-leb v 1 h)
+  pub kind-is : (v next : ℕ) → readNumber bytes at ≡ read v next → v ≤ 1 → read v next ≡ readKind bytes at
+  kind-is v next e h = rw (e, le-leb v 1 h)
 
   pub record-kind : (o : ℕ) → readKind bytes at ≡ bad o → bad o ≡ readRecord bytes at
   unfolding readRecord
@@ -41,11 +41,11 @@ module _ (bytes : List ℕ) (at : ℕ) where
         unfolding readRecord
         record-stamp o e f g h = rw (e, f, g, h)
 
-        pub record-read : (stamp next : ℕ) → readKind bytes at ≡ read kind afterKind → readNumber bytes afterKind ≡ read task afterTask →
+        pub record-is : (stamp next : ℕ) → readKind bytes at ≡ read kind afterKind → readNumber bytes afterKind ≡ read task afterTask →
             readWork kind bytes afterTask ≡ read work afterWork → readNumber bytes afterWork ≡ read stamp next →
             read (record { kind = kind; task = task; work = work; stamp = stamp }) next ≡ readRecord bytes at
         unfolding readRecord
-        record-read stamp next e f g h = rw (e, f, g, h)
+        record-is stamp next e f g h = rw (e, f, g, h)
 
 pub work-of : (kind : ℕ) (bytes : List ℕ) (at : ℕ) → kind ≡ 0 → readWork kind bytes at ≡ readNumber bytes at
 work-of kind bytes at e = rw (eq-eqb kind 0 e)

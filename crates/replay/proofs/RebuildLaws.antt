@@ -12,25 +12,11 @@ use Rattle.scope.specs.Numbers.{bit}
 use Rattle.scope.specs.Limits.{mostJobs}
 use Rattle.scope.specs.Jobs.{Job, job}
 use Rattle.scope.specs.Trace.{Record, releases}
+use Rattle.theory.specs.Buffers.{three-more}
 use Rattle.replay.specs.declared.read.Reader.{Reader}
 use Rattle.replay.specs.Reading.{startOf, passed}
 use Rattle.replay.specs.Rebuilt.{recordsOf, Fits, numbersOf, jobPut}
 use Rattle.replay.proofs.Ahead.{Ahead, Next, ahead-first, ahead-next, ahead-end}
-
--- three numbers more at the front
-three-put : (l : List ℕ) (n a b c : ℕ) → n + 2 < length l → take (n + 3) (set (set (set l n a) (n + 1) b) (n + 2) c) ≡ take n l ++ (a ∷ b ∷ c ∷ [])
-three-put l n a b c h =
-    let l₁ : List ℕ = set l n a in
-    let l₂ : List ℕ = set l₁ (n + 1) b in
-    let z₁ : n + 1 ≡ suc n = omega arith in
-    let z₂ : n + 2 ≡ suc (n + 1) = omega arith in
-    let z₃ : n + 3 ≡ suc (n + 2) = omega arith in
-    let e₁ : take (n + 1) l₁ ≡ take n l ++ (a ∷ []) = ap (λ (k : ℕ). take k l₁) z₁ ∙ take-suc-set l n a (omega arith) in
-    let e₂ : take (n + 2) l₂ ≡ take (n + 1) l₁ ++ (b ∷ []) =
-    ap (λ (k : ℕ). take k l₂) z₂ ∙ take-suc-set l₁ (n + 1) b (omega (arith, length-set l n a)) in
-    let e₃ : take (n + 3) (set l₂ (n + 2) c) ≡ take (n + 2) l₂ ++ (c ∷ []) =
-    ap (λ (k : ℕ). take k (set l₂ (n + 2) c)) z₃ ∙ take-suc-set l₂ (n + 2) c (omega (arith, length-set l n a, length-set l₁ (n + 1) b)) in
-    e₃ ∙ rw (e₂, e₁, append-assoc, append-assoc)
 
 module _ (bytes jobs₀ : List ℕ) where
   abbrev all : List Record
@@ -88,7 +74,7 @@ module _ (bytes jobs₀ : List ℕ) where
             let y : 3 * (j + 1) ≡ 3 * j + 3 = omega arith in
             let put : take (3 * (j + 1)) l₃ ≡ take (3 * j) jobs ++ (q .instant ∷ q .task ∷ q .work ∷ []) =
             ap (λ (k : ℕ). take k l₃) y
-            ∙ three-put jobs (3 * j) (q .instant) (q .task) (q .work) (omega (arith, p .size, p .room, p .count, ap length z)) in
+            ∙ three-more jobs (3 * j) (q .instant) (q .task) (q .work) (omega (arith, p .size, p .room, p .count, ap length z)) in
             record {
               rest = step .more;
               ahead = step .ahead;

@@ -21,7 +21,8 @@ use Rattle.scope.specs.Answers.{Fault, Fault.fine, Fault.fault, Answer, Answer.
 use Rattle.scope.specs.Answers.{jobFault, roomFault, runFault, runAnswer, runOut}
 use Rattle.scope.specs.Plan.{Read, Read.read, Read.bad, orNine}
 use Rattle.scope.specs.Trace.{Stamped, traceOf, Record, timed, ticksOf, releases, completions, badRecord}
-use Rattle.scope.specs.Replay.{endedFrom, Difference, firstDifference, Replayed.missed, named, replayed, extentFault, recordFault, replayFault, recordsAnswer, replayAnswer}
+use Rattle.scope.specs.Replay.{endedFrom, Difference, firstDifference, Replayed.missed, named, replayed, extentFault, recordFault, replayFault}
+use Rattle.scope.specs.Replay.{recordsAnswer, replayAnswer}
 use Rattle.theory.specs.Numbers.{or-neither}
 use Rattle.theory.specs.Answers.{fault-not-fine, faultIf-fine, faultAt-fine, orElse-fine}
 use Rattle.theory.specs.Jobs.{job-rules}
@@ -58,7 +59,9 @@ module _ (σ : ℕ → Bool) (before : ℕ → ℕ → Bool) (ts : List Task) (j
   up-to : (n : ℕ) → upTo (n - 1) (ranTo n) ≡ ranTo (n - 1)
   unfolding outcome
   up-to zero = refl
-  up-to (suc n) = let z : suc n - 1 ≡ n = omega arith in rw z (go (ranTo n) (first (late ts js (suc n) (workLeft σ before js (suc n))) (length js)) (done-within σ before js ts n))
+  up-to (suc n) =
+      let z : suc n - 1 ≡ n = omega arith in
+      rw z (go (ranTo n) (first (late ts js (suc n) (workLeft σ before js (suc n))) (length js)) (done-within σ before js ts n))
     where
       late-now : (o : Option ℕ) → upTo n (judged (suc n) o) ≡ Runs.met
       late-now none = refl
@@ -147,7 +150,8 @@ module _ (b : Board) (ws ts bytes : List ℕ) (n : ℕ) (jobs : List ℕ) (l : L
       d ≡ comparedFrom bytes (jobsOf jobs) left k → namedIn a k d ≡ recordsAnswer b ws ts rs
   unfolding replayed ran
   legal-answer out left a d k h e f g q =
-      let z : d ≡ firstDifference (completions rs) (endedFrom σ before js 0 (ticksDone (outcome σ before (tasksOf ts) js last) last)) = q ∙ ap (comparedFrom bytes (jobsOf jobs) left) g ∙ compared-is out left h f in
+      let ended = endedFrom σ before js 0 (ticksDone (outcome σ before (tasksOf ts) js last) last) in
+      let z : d ≡ firstDifference (completions rs) ended = q ∙ ap (comparedFrom bytes (jobsOf jobs) left) g ∙ compared-is out left h f in
       rw (e, ran-is (length out) h, g, z, up-to σ before (tasksOf ts) js n, built .ticks)
       (sym (records-given b ws ts rs (built .table) (built .group) (built .fits .ticks) (built .fits .few) no-bad-record))
 

@@ -10,8 +10,9 @@ use lib.ListN.{length}
 use borrow.Author.Tests.{le-leb}
 use Rattle.scope.specs.Numbers.{bit}
 use Rattle.scope.specs.Limits.{mostTicks}
+use Rattle.scope.specs.Jobs.{Job, job}
 use Rattle.scope.specs.Plan.{Read, Read.read, Read.bad, readNumber}
-use Rattle.scope.specs.Trace.{Stamped, readRecord, recordsWithin, traceOf, elapsed, timedFrom, firstStamp, timed, lastInstant, ticksOf, releases}
+use Rattle.scope.specs.Trace.{Stamped, readRecord, recordsWithin, traceOf, elapsed, Record, timedFrom, firstStamp, timed, lastInstant, ticksOf, releases}
 use Rattle.theory.specs.Seven.{bad-not-read}
 use Rattle.replay.specs.declared.read.Reader.{Reader}
 use Rattle.replay.specs.Reading.{stampIn, firstStampOf, startOf, passedBy, passed}
@@ -33,8 +34,11 @@ summed-next k s m x (read rs end) = go (eqb (x .kind) 0)
     i : ℕ
     i = k + elapsed s (x .stamp)
 
-    go : (t : Bool) → extends (lastInstant i (timedFrom i (x .stamp) rs)) (m + length (cond t (record { release = i; task = x .task; work = x .work } ∷ releases (timedFrom i (x .stamp) rs)) (releases (timedFrom i (x .stamp) rs))))
-        ≡ extends (lastInstant i (timedFrom i (x .stamp) rs)) (m + bit t + length (releases (timedFrom i (x .stamp) rs)))
+    more : List Job
+    more = releases (timedFrom i (x .stamp) rs)
+
+    go : (t : Bool) → extends (lastInstant i (timedFrom i (x .stamp) rs)) (m + length (cond t (job i (x .task) (x .work) ∷ more) more))
+        ≡ extends (lastInstant i (timedFrom i (x .stamp) rs)) (m + bit t + length more)
     go true = ap (extends (lastInstant i (timedFrom i (x .stamp) rs))) (omega arith)
     go false = ap (extends (lastInstant i (timedFrom i (x .stamp) rs))) (omega arith)
 
@@ -72,7 +76,9 @@ module _ (bytes : List ℕ) where
   going-next r m g h = go (readRecord bytes (r .at)) refl
     where
       sound : r .bad ≡ false
-      sound = elim (r .bad) as (λ b. (b ≡ true → r .at ≡ length bytes) → b ≡ false) [ true ↦ λ e. absurd (omega (arith, e refl)) | false ↦ λ e. refl ] (g .ended)
+      sound =
+          elim (r .bad) as (λ b. (b ≡ true → r .at ≡ length bytes) → b ≡ false) [ true ↦ λ e. absurd (omega (arith, e refl)) | false ↦ λ e. refl ]
+          (g .ended)
 
       f : ℕ
       f = g .fuel - 1
@@ -144,7 +150,8 @@ module _ (bytes : List ℕ) where
       whole : recordsWithin (suc f) bytes 0 ≡ read rs end
       whole = ap (λ (u : ℕ). recordsWithin u bytes 0) (sym fuel-is) ∙ e
 
-      go : (y : Read Stamped) → readRecord bytes 0 ≡ y → (x : Stamped) × (more : List Stamped) × (next : ℕ) × (readRecord bytes 0 ≡ read x next) × (rs ≡ x ∷ more)
+      go : (y : Read Stamped) → readRecord bytes 0 ≡ y →
+          (x : Stamped) × (more : List Stamped) × (next : ℕ) × (readRecord bytes 0 ≡ read x next) × (rs ≡ x ∷ more)
       go (bad o) q = absurd (bad-not-read (sym (records-bad bytes f 0 o h q) ∙ whole))
       go (read x next) q =
           let m = some-read (recordsWithin f bytes next) x rs end (sym (records-next bytes f 0 x next h q) ∙ whole) in
@@ -176,7 +183,9 @@ module _ (bytes : List ℕ) where
   module _ (r : Reader) (m : ℕ) (g : Going r m) (over : length bytes ≤ r .at) where
     -- a trace that does not read
     pub survey-bad : r .bad ≡ true → damaged (r .offset) ≡ surveyed (traceOf bytes)
-    survey-bad e = go (traceOf bytes) (sym (ap (λ (b : Bool). summed (g .k) (r .stamp) m (cond b (bad (r .offset)) (recordsWithin (g .fuel) bytes (r .at)))) e) ∙ g .is)
+    survey-bad e =
+        go (traceOf bytes)
+        (sym (ap (λ (b : Bool). summed (g .k) (r .stamp) m (cond b (bad (r .offset)) (recordsWithin (g .fuel) bytes (r .at)))) e) ∙ g .is)
       where
         go : (y : Read (List Stamped)) → damaged (r .offset) ≡ summed 0 (firstStampOf bytes) 0 y → damaged (r .offset) ≡ surveyed y
         go (bad o) q = q
@@ -192,7 +201,8 @@ module _ (bytes : List ℕ) where
 
       extent-is : (rs : List Stamped) (end : ℕ) → traceOf bytes ≡ read rs end → (g .k ≡ lastInstant 0 (timed rs)) × (m ≡ length (releases (timed rs)))
       extent-is rs end e =
-          let q : extends (g .k) (m + 0) ≡ extends (lastInstant 0 (timedFrom 0 (firstStampOf bytes) rs)) (0 + length (releases (timedFrom 0 (firstStampOf bytes) rs)))
+          let all : List Record = timedFrom 0 (firstStampOf bytes) rs in
+          let q : extends (g .k) (m + 0) ≡ extends (lastInstant 0 all) (0 + length (releases all))
           = last-is ∙ ap (summed 0 (firstStampOf bytes) 0) e in
           let a : g .k ≡ lastInstant 0 (timedFrom 0 (firstStampOf bytes) rs) = cc in
           let b : m + 0 ≡ 0 + length (releases (timedFrom 0 (firstStampOf bytes) rs)) = cc in

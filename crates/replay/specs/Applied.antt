@@ -22,7 +22,7 @@ use Rattle.replay.specs.declared.replay.Replayed.{Replayed}
 use Rattle.replay.specs.declared.replay.Replayed.the-variants.{Same, Missed}
 use Rattle.replay.specs.Told.{toldReplayed}
 use Rattle.replay.specs.Determined.{replayed-determined}
-use Rattle.replay.specs.Demands.{same-says, meets-never-missed, shifted-same, own-same, own-missed}
+use Rattle.replay.specs.Demands.{same-says, meets-never-missed, shifted-same, own-same, own-met, own-missed}
 
 abbrev board : Board
 board = record { frame = 8 }
@@ -48,13 +48,20 @@ w7-never-missed : (bytes : List ℕ) (v : Replayed) → toldReplayed v ≡ repla
     (u : Verdict) → toldVerdict u ≡ verdictAnswer (boardOf board) X w7 → (h k j : ℕ) → u ≡ Meets h → v ≡ Missed k j → ⊥
 w7-never-missed bytes v e = meets-never-missed board X w7 bytes v e
 
--- the machine's own runs: met, by a counter that goes past its top; and with a miss
+-- the machine's own runs: met, by a counter that goes past its top; with a miss after the last record; with one up to it
 full-told : (v : Replayed) → toldReplayed v ≡ replayAnswer (boardOf board) X w7
     (traceBytes (stampedFrom 4294967294 (recorded (suppliedBy (boardOf board) X) (edf (tasksOf w7) full-jobs) (tasksOf w7) full-jobs 10))) → v ≡ Same
 unfolding everything
-full-told v e = own-same board X w7 refl refl full-jobs 10 refl (omega arith) (omega arith) refl (omega arith) 4294967294 v e refl
+full-told v e = own-met board X w7 refl refl full-jobs 10 refl (omega arith) (omega arith) refl (omega arith) 4294967294 v e refl
+
+early-told : (v : Replayed) → toldReplayed v ≡ replayAnswer (boardOf board) X late-tasks
+    (traceBytes (stampedFrom 100 (recorded (suppliedBy (boardOf board) X) (edf (tasksOf late-tasks) full-jobs) (tasksOf late-tasks) full-jobs 10))) →
+    v ≡ Same
+unfolding everything
+early-told v e = own-same board X late-tasks refl refl full-jobs 10 refl (omega arith) (omega arith) refl (omega arith) 100 v e refl
 
 late-told : (v : Replayed) → toldReplayed v ≡ replayAnswer (boardOf board) X late-tasks
-    (traceBytes (stampedFrom 100 (recorded (suppliedBy (boardOf board) X) (edf (tasksOf late-tasks) late-jobs) (tasksOf late-tasks) late-jobs 10))) → v ≡ Missed 5 1
+    (traceBytes (stampedFrom 100 (recorded (suppliedBy (boardOf board) X) (edf (tasksOf late-tasks) late-jobs) (tasksOf late-tasks) late-jobs 10))) →
+    v ≡ Missed 5 1
 unfolding everything
 late-told v e = own-missed board X late-tasks refl refl late-jobs 10 refl (omega arith) (omega arith) refl (omega arith) 100 v e 5 1 refl

@@ -13,16 +13,17 @@ use Rattle.scope.specs.Run as Runs
 use Rattle.scope.specs.Run.{outcome}
 use Rattle.scope.specs.Answers.{Fault.fine, tableFault, groupFault, verdictAnswer}
 use Rattle.scope.specs.Plan.{Read.read}
-use Rattle.scope.specs.Trace.{Stamped, traceOf, Record, timed, ticksOf, releases, completions, traceBytes, stampedFrom, shifted}
+use Rattle.scope.specs.Trace.{Stamped, traceOf, timed, ticksOf, releases, completions, traceBytes, stampedFrom, shifted}
 use Rattle.scope.specs.Replay as Replays
-use Rattle.scope.specs.Replay.{endedFrom, recorded, replayAnswer}
+use Rattle.scope.specs.Replay.{endedFrom, replayAnswer}
 use Rattle.theory.specs.Traces.{shift-answer}
-use Rattle.theory.specs.Replays.{replay-given, same-completions, meets-no-miss}
-use Rattle.theory.specs.Recorded.{recorded-same, recorded-missed}
+use Rattle.theory.specs.Replays.{replay-given, same-completions, replayed-sides, meets-no-miss}
+use Rattle.theory.specs.Recorded.{own, recorded-same, recorded-met, recorded-missed}
 use Rattle.tables.specs.declared.board.Board.{Board}
 use Rattle.tables.specs.declared.answer.Verdict.{Verdict}
 use Rattle.tables.specs.declared.answer.Verdict.the-variants.{Meets}
 use Rattle.tables.specs.Told.{boardOf, toldVerdict}
+use Rattle.replay.specs.declared.ending.Seen.the-variants.{None}
 use Rattle.replay.specs.declared.replay.Replayed as replayed
 use Rattle.replay.specs.Told.{toldReplayed}
 use Rattle.replay.specs.Determined.{replayed-determined}
@@ -40,6 +41,12 @@ module _ (b : Board) (ws ts bytes : List ℕ) (v : replayed.Replayed) (promised 
       let z : r .stamped ≡ stamped = cc in
       rw (← z) (same-completions (boardOf b) ws ts bytes r)
 
+  -- a difference has a side
+  pub some-side : v ≡ replayed.the-variants.Differs None None → ⊥
+  some-side e =
+      let r = replay-given (boardOf b) ws ts bytes (Replays.differs none none) (sym promised ∙ ap toldReplayed e) in
+      replayed-sides (suppliedBy (boardOf b) ws) _ (tasksOf ts) (timed (r .stamped)) (r .is)
+
   -- where the verdict is "meets", no trace answers with a miss
   pub meets-never-missed : (u : Verdict) → toldVerdict u ≡ verdictAnswer (boardOf b) ws ts → (h k j : ℕ) → u ≡ Meets h →
       v ≡ replayed.the-variants.Missed k j → ⊥
@@ -56,21 +63,28 @@ module _ (b : Board) (ws ts bytes : List ℕ) (v : replayed.Replayed) (promised 
 -- the machine's own run of a legal job list whose first release is at tick 0, recorded by a counter that shows c at its start
 module _ (b : Board) (ws ts : List ℕ) (table : tableFault (boardOf b) ws ≡ fine) (group : groupFault ts ≡ fine)
     (js : List Job) (n : ℕ) (legal : badJob (tasksOf ts) n js ≡ none) (few : length js ≤ mostJobs) (some : 0 < length js) (start : releaseOf js 0 ≡ 0) where
-  abbrev made : List Record
-  made = recorded (suppliedBy (boardOf b) ws) (edf (tasksOf ts) js) (tasksOf ts) js n
+  module _ (ticks : ticksOf (own (boardOf b) ws ts table group js n legal few some start) ≤ mostTicks) (c : ℕ) (v : replayed.Replayed)
+      (promised : toldReplayed v ≡
+      replayAnswer (boardOf b) ws ts (traceBytes (stampedFrom c (own (boardOf b) ws ts table group js n legal few some start)))) where
+    -- the machine up to the last record's instant
+    abbrev pub ranTo : Runs.Outcome
+    ranTo =
+        outcome (suppliedBy (boardOf b) ws) (edf (tasksOf ts) js) (tasksOf ts) js (ticksOf (own (boardOf b) ws ts table group js n legal few some start) - 1)
 
-  module _ (ticks : ticksOf made ≤ mostTicks) (c : ℕ) (v : replayed.Replayed)
-      (promised : toldReplayed v ≡ replayAnswer (boardOf b) ws ts (traceBytes (stampedFrom c made))) where
-    -- is the same where the run is met
-    pub own-same : outcome (suppliedBy (boardOf b) ws) (edf (tasksOf ts) js) (tasksOf ts) js n ≡ Runs.met → v ≡ replayed.the-variants.Same
+    -- is the same where nothing is missed up to its last record's instant
+    pub own-same : ranTo ≡ Runs.met → v ≡ replayed.the-variants.Same
     own-same e =
         replayed-determined v replayed.the-variants.Same
         (promised ∙ recorded-same (boardOf b) ws ts table group js n legal few some start ticks c e)
 
+    -- so where the run is met
+    pub own-met : outcome (suppliedBy (boardOf b) ws) (edf (tasksOf ts) js) (tasksOf ts) js n ≡ Runs.met → v ≡ replayed.the-variants.Same
+    own-met e =
+        replayed-determined v replayed.the-variants.Same
+        (promised ∙ recorded-met (boardOf b) ws ts table group js n legal few some start ticks c e)
+
     -- and answers the miss up to its last record's instant
-    pub own-missed : (k j : ℕ) →
-        outcome (suppliedBy (boardOf b) ws) (edf (tasksOf ts) js) (tasksOf ts) js (ticksOf made - 1) ≡ Runs.missed k j →
-        v ≡ replayed.the-variants.Missed k j
+    pub own-missed : (k j : ℕ) → ranTo ≡ Runs.missed k j → v ≡ replayed.the-variants.Missed k j
     own-missed k j e =
         replayed-determined v (replayed.the-variants.Missed k j)
         (promised ∙ recorded-missed (boardOf b) ws ts table group js n legal few some start ticks c k j e)

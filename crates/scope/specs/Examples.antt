@@ -1,6 +1,6 @@
 -- Document 01, "Marked examples": W1 to W13, and after them document 02's examples and what 01 says of limits, refusals and errors; one table under one
 -- statement, by computation.
-use Prim.Native.Nat.{ℕ}
+use Prim.Native.Nat.{ℕ, suc}
 use Prim.Native.Char.{code}
 use Prim.Native.String.{String, [] as ε, _∷_ as _◂_}
 use mathlib.Core.Path.{_≡_, refl}
@@ -20,9 +20,9 @@ use Rattle.scope.specs.Answers.{lengthAnswer, runTicksAnswer, windowList
 use Rattle.scope.specs.Answers.{criticalOut, delayAnswer, outageAnswer, demandAnswer, marginAnswer, verdictAnswer, boundAnswer, runAnswer, runOut}
 use Rattle.scope.specs.Plan.{planAnswer, Plan, writeAnswer, writeOut}
 use Rattle.scope.specs.Line.{bytes, line, lineAnswer, lineOut}
-use Rattle.scope.specs.Trace.{completion}
+use Rattle.scope.specs.Trace.{Record, completion}
 use Rattle.scope.specs.Replay as Replays
-use Rattle.scope.specs.Replay.{Replayed, replayAnswer}
+use Rattle.scope.specs.Replay.{Replayed, extentFault, replayAnswer}
 use Rattle.scope.specs.Computing.{everything}
 
 -- ---- what is asked of an entry, and what it answers; of a lent buffer, what it holds before and after
@@ -48,6 +48,7 @@ pub data Question : Type 0 where
   listsOf : (windows tasks jobs : ℕ) → Question
   cycleOf : (frame : ℕ) (tasks : List ℕ) → Question
   replayOf : (frame : ℕ) (windows tasks trace : List ℕ) → Question
+  releasesOf : (releases : ℕ) → Question
 
 pub data Reply : Type 0 where
   amounts : List (Answer ℕ) → Reply
@@ -64,6 +65,10 @@ pub data Reply : Type 0 where
   aTask : Answer Task → Reply
   faults : List Fault → Reply
   aReplay : Answer Replayed → Reply
+
+-- a release at tick 0
+abbrev release : Record
+release = record { instant = 0; kind = 0; task = 0; work = 1 }
 
 -- a board with frame P
 abbrev pub on : ℕ → Board
@@ -91,6 +96,8 @@ reply (taskAlone c t d) = aTask (taskAnswer (task c t d))
 reply (listsOf w t j) = faults (windowListFault (replicate w 0) ∷ taskListFault (replicate t 0) ∷ jobListFault 0 (replicate j 0) ∷ [])
 reply (cycleOf P ts) = faults (cycleFault (on P) (tasksOf ts) ∷ [])
 reply (replayOf P ws ts trace) = aReplay (replayAnswer (on P) ws ts trace)
+-- so many releases, whatever they are, and one more
+reply (releasesOf m) = faults (extentFault (replicate m release) ∷ extentFault (replicate (suc m) release) ∷ [])
 
 -- ---- the table
 
@@ -147,7 +154,8 @@ table =
     -- request 2: W7's tasks, released in full at the first record, whose stamp is 100; the same by a counter that goes past its top
     ∷ ("a trace" asks replayOf 8 X (1 ∷ 4 ∷ 4 ∷ 2 ∷ 8 ∷ 7 ∷ []) (0 ∷ 0 ∷ 1 ∷ 100 ∷ 0 ∷ 1 ∷ 2 ∷ 100 ∷ 1 ∷ 0 ∷ 101 ∷ 1 ∷ 1 ∷ 106 ∷ [])
     gives aReplay (given Replays.same))
-    ∷ ("a trace past the counter's top" asks replayOf 8 X (1 ∷ 4 ∷ 4 ∷ 2 ∷ 8 ∷ 7 ∷ []) (0 ∷ 0 ∷ 1 ∷ 254 ∷ 255 ∷ 255 ∷ 255 ∷ 15 ∷ 0 ∷ 1 ∷ 2 ∷ 254 ∷ 255 ∷ 255 ∷ 255 ∷ 15 ∷ 1 ∷ 0 ∷ 255 ∷ 255 ∷ 255 ∷ 255 ∷ 15 ∷ 1 ∷ 1 ∷ 4 ∷ [])
+    ∷ ("a trace past the counter's top" asks replayOf 8 X (1 ∷ 4 ∷ 4 ∷ 2 ∷ 8 ∷ 7 ∷ [])
+    (0 ∷ 0 ∷ 1 ∷ 254 ∷ 255 ∷ 255 ∷ 255 ∷ 15 ∷ 0 ∷ 1 ∷ 2 ∷ 254 ∷ 255 ∷ 255 ∷ 255 ∷ 15 ∷ 1 ∷ 0 ∷ 255 ∷ 255 ∷ 255 ∷ 255 ∷ 15 ∷ 1 ∷ 1 ∷ 4 ∷ [])
     gives aReplay (given Replays.same))
     ∷ ("a late completion" asks replayOf 8 X (1 ∷ 4 ∷ 4 ∷ 2 ∷ 8 ∷ 7 ∷ []) (0 ∷ 0 ∷ 1 ∷ 100 ∷ 0 ∷ 1 ∷ 2 ∷ 100 ∷ 1 ∷ 0 ∷ 101 ∷ 1 ∷ 1 ∷ 107 ∷ [])
     gives aReplay (given (Replays.differs (some (completion 7 1)) (some (completion 6 1)))))
@@ -161,6 +169,12 @@ table =
     gives aReplay (given (Replays.differs (some (completion 0 0)) none)))
     ∷ ("completions of the last instant only" asks replayOf 8 X (1 ∷ 4 ∷ 4 ∷ 2 ∷ 8 ∷ 7 ∷ []) (0 ∷ 0 ∷ 1 ∷ 100 ∷ 0 ∷ 1 ∷ 2 ∷ 100 ∷ 1 ∷ 0 ∷ 101 ∷ [])
     gives aReplay (given Replays.same))
+    ∷ ("a completion and a release of one instant" asks replayOf 8 X (1 ∷ 4 ∷ 4 ∷ 2 ∷ 8 ∷ 7 ∷ [])
+    (0 ∷ 0 ∷ 1 ∷ 100 ∷ 0 ∷ 1 ∷ 2 ∷ 100 ∷ 1 ∷ 0 ∷ 101 ∷ 1 ∷ 1 ∷ 106 ∷ 0 ∷ 0 ∷ 1 ∷ 106 ∷ [])
+    gives aReplay (given Replays.same))
+    ∷ ("a completion after the last record" asks replayOf 8 X (1 ∷ 4 ∷ 4 ∷ 2 ∷ 8 ∷ 7 ∷ [])
+    (0 ∷ 0 ∷ 1 ∷ 100 ∷ 0 ∷ 1 ∷ 2 ∷ 100 ∷ 1 ∷ 0 ∷ 101 ∷ 0 ∷ 0 ∷ 1 ∷ 105 ∷ [])
+    gives aReplay (given Replays.same))
     ∷ ("an empty trace" asks replayOf 8 X (1 ∷ 4 ∷ 4 ∷ 2 ∷ 8 ∷ 7 ∷ []) []
     gives aReplay (given Replays.same))
     -- a miss at instant 5, and a difference after it, with it, before it
@@ -168,7 +182,8 @@ table =
     gives aReplay (given (Replays.missed 5 1)))
     ∷ ("a miss with a difference" asks replayOf 8 X (1 ∷ 4 ∷ 4 ∷ 2 ∷ 8 ∷ 5 ∷ []) (0 ∷ 0 ∷ 1 ∷ 100 ∷ 0 ∷ 1 ∷ 2 ∷ 100 ∷ 1 ∷ 0 ∷ 101 ∷ 1 ∷ 1 ∷ 105 ∷ [])
     gives aReplay (given (Replays.missed 5 1)))
-    ∷ ("a difference before a miss" asks replayOf 8 X (1 ∷ 4 ∷ 4 ∷ 2 ∷ 8 ∷ 5 ∷ []) (0 ∷ 0 ∷ 1 ∷ 100 ∷ 0 ∷ 1 ∷ 2 ∷ 100 ∷ 1 ∷ 0 ∷ 101 ∷ 1 ∷ 1 ∷ 104 ∷ 1 ∷ 9 ∷ 105 ∷ [])
+    ∷ ("a difference before a miss" asks replayOf 8 X (1 ∷ 4 ∷ 4 ∷ 2 ∷ 8 ∷ 5 ∷ [])
+    (0 ∷ 0 ∷ 1 ∷ 100 ∷ 0 ∷ 1 ∷ 2 ∷ 100 ∷ 1 ∷ 0 ∷ 101 ∷ 1 ∷ 1 ∷ 104 ∷ 1 ∷ 9 ∷ 105 ∷ [])
     gives aReplay (given (Replays.differs (some (completion 4 1)) none)))
     ∷ ("a miss after the last record" asks replayOf 8 X (1 ∷ 4 ∷ 4 ∷ 2 ∷ 8 ∷ 5 ∷ []) (0 ∷ 0 ∷ 1 ∷ 100 ∷ 0 ∷ 1 ∷ 2 ∷ 100 ∷ 1 ∷ 0 ∷ 101 ∷ 0 ∷ 0 ∷ 1 ∷ 104 ∷ [])
     gives aReplay (given Replays.same))
@@ -187,6 +202,7 @@ table =
     gives aReplay (refused 5 0))
     ∷ ("a trace one tick too long" asks replayOf 8 X (1 ∷ 4 ∷ 4 ∷ 2 ∷ 8 ∷ 7 ∷ []) (0 ∷ 0 ∷ 1 ∷ 0 ∷ 1 ∷ 0 ∷ 224 ∷ 145 ∷ 67 ∷ [])
     gives aReplay (refused 10 0))
+    ∷ ("trace of as many releases as a run may have, and one more" asks releasesOf 4096 gives faults (fine ∷ fault 10 0 ∷ []))
     ∷ ("a trace past 32 bits" asks replayOf 8 X (1 ∷ 4 ∷ 4 ∷ 2 ∷ 8 ∷ 7 ∷ []) (1 ∷ 0 ∷ 1 ∷ 1 ∷ 0 ∷ 0 ∷ 1 ∷ 0 ∷ 255 ∷ 255 ∷ 255 ∷ 255 ∷ 15 ∷ [])
     gives aReplay (refused 10 0))
     ∷ ("the trace's 10 before 11" asks replayOf 8 X (1 ∷ 4 ∷ 4 ∷ 2 ∷ 8 ∷ 7 ∷ []) (0 ∷ 9 ∷ 1 ∷ 0 ∷ 1 ∷ 0 ∷ 224 ∷ 145 ∷ 67 ∷ [])
@@ -197,7 +213,8 @@ table =
     gives aReplay (refused 11 3))
     ∷ ("releases out of order" asks replayOf 8 X (1 ∷ 4 ∷ 4 ∷ 2 ∷ 8 ∷ 7 ∷ []) (0 ∷ 1 ∷ 2 ∷ 100 ∷ 0 ∷ 0 ∷ 1 ∷ 100 ∷ [])
     gives aReplay (refused 11 1))
-    ∷ ("an illegal release" asks replayOf 8 X (1 ∷ 4 ∷ 4 ∷ 2 ∷ 8 ∷ 7 ∷ []) (0 ∷ 0 ∷ 1 ∷ 100 ∷ 0 ∷ 1 ∷ 2 ∷ 100 ∷ 1 ∷ 0 ∷ 101 ∷ 0 ∷ 0 ∷ 2 ∷ 104 ∷ 1 ∷ 1 ∷ 106 ∷ [])
+    ∷ ("an illegal release" asks replayOf 8 X (1 ∷ 4 ∷ 4 ∷ 2 ∷ 8 ∷ 7 ∷ [])
+    (0 ∷ 0 ∷ 1 ∷ 100 ∷ 0 ∷ 1 ∷ 2 ∷ 100 ∷ 1 ∷ 0 ∷ 101 ∷ 0 ∷ 0 ∷ 2 ∷ 104 ∷ 1 ∷ 1 ∷ 106 ∷ [])
     gives aReplay (refused 11 3))
     ∷ ("a release too soon" asks replayOf 8 X (1 ∷ 4 ∷ 4 ∷ 2 ∷ 8 ∷ 7 ∷ []) (0 ∷ 0 ∷ 1 ∷ 100 ∷ 0 ∷ 1 ∷ 2 ∷ 100 ∷ 1 ∷ 0 ∷ 101 ∷ 0 ∷ 0 ∷ 1 ∷ 103 ∷ [])
     gives aReplay (refused 11 3))
@@ -280,7 +297,7 @@ Hold (e ∷ rows) = (reply (e .question) ≡ e .expected) × Hold rows
 pub examples : Hold table
 unfolding everything reply table
 examples =
-    (refl, (refl, (refl, (refl, (refl, (refl, (refl, (refl, (refl, (refl, (refl, (refl, (refl, (refl, (refl, (refl, (refl, (refl, (refl, (refl, (refl, (refl, (refl, (refl, (refl, (refl, (refl, (refl, (refl, (refl, (refl, (refl, (refl, (refl, (refl, (refl, (refl, (refl, (refl, (refl, (refl, (refl, (refl, (refl, (refl, (refl, (refl, (refl, (refl, (refl, (refl, (refl, (refl, (refl, (refl, (refl, (refl, (refl, (refl, (refl, (refl, (refl, (refl, (refl, (refl, (refl, (refl, (refl, (refl, (refl, (refl, (refl, (refl, (refl, (refl, (refl, (refl, (refl, (refl, (refl, (refl, (refl, (refl, (refl, (refl, (refl, (refl, (refl, (refl, (refl, (refl, (refl, (refl, (refl, (refl, (refl, (refl, (refl, (refl, (refl, (refl, (refl, (refl, (refl, tt))))))))))))))))))))))))))))))))))))))))))))))))))))))))))))))))))))))))))))))))))))))))))))))))))))))))
+    (refl, (refl, (refl, (refl, (refl, (refl, (refl, (refl, (refl, (refl, (refl, (refl, (refl, (refl, (refl, (refl, (refl, (refl, (refl, (refl, (refl, (refl, (refl, (refl, (refl, (refl, (refl, (refl, (refl, (refl, (refl, (refl, (refl, (refl, (refl, (refl, (refl, (refl, (refl, (refl, (refl, (refl, (refl, (refl, (refl, (refl, (refl, (refl, (refl, (refl, (refl, (refl, (refl, (refl, (refl, (refl, (refl, (refl, (refl, (refl, (refl, (refl, (refl, (refl, (refl, (refl, (refl, (refl, (refl, (refl, (refl, (refl, (refl, (refl, (refl, (refl, (refl, (refl, (refl, (refl, (refl, (refl, (refl, (refl, (refl, (refl, (refl, (refl, (refl, (refl, (refl, (refl, (refl, (refl, (refl, (refl, (refl, (refl, (refl, (refl, (refl, (refl, (refl, (refl, (refl, (refl, (refl, tt)))))))))))))))))))))))))))))))))))))))))))))))))))))))))))))))))))))))))))))))))))))))))))))))))))))))))))
 
 -- ---- a row by its name
 

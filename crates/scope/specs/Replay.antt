@@ -48,7 +48,7 @@ recordedTo σ before js done zero = releasedAt js 0
 recordedTo σ before js done (suc k) =
     recordedTo σ before js done k ++ cond (ltb k done) (map asRecord (endedIn σ before js k)) [] ++ releasedAt js (suc k)
 
--- a run of n ticks, up to the miss that ends it
+-- a run of n ticks: all its releases, and the completions up to its end or the miss that ends it
 abbrev pub recorded : (ℕ → Bool) → (ℕ → ℕ → Bool) → List Task → List Job → ℕ → List Record
 recorded σ before ts js n = recordedTo σ before js (ticksDone (outcome σ before ts js n) n) n
 

@@ -41,7 +41,7 @@ use Rattle.theory.specs.Seven.{UpTo, up-to-greatest}
 use Rattle.theory.specs.Plan.{mostPlanBytes, first-answer, longest-plan}
 use Rattle.theory.specs.Traces.{shift-answer}
 use Rattle.theory.specs.Replays.{replay-given, same-completions, FirstPair, machineEnded, replayed-differs, meets-no-miss}
-use Rattle.theory.specs.Recorded.{recorded-same, recorded-missed}
+use Rattle.theory.specs.Recorded.{recorded-same, recorded-met, recorded-missed}
 use Rattle.theory.specs.PlanBytes.{Writable, plan-length, round-trip, left-over, only-bytes}
 
 abbrev pub w6 : List ℕ
@@ -406,7 +406,7 @@ full-stamps = refl
 
 full-same : replayAnswer (on 8) X w7 (traceBytes (stampedFrom 4294967294 full)) ≡ given same
 unfolding everything
-full-same = recorded-same (on 8) X w7 refl refl full-jobs 10 refl (omega arith) (omega arith) refl (omega arith) 4294967294 refl
+full-same = recorded-met (on 8) X w7 refl refl full-jobs 10 refl (omega arith) (omega arith) refl (omega arith) 4294967294 refl
 
 -- with D of task 1 at 5 its job is late at instant 5; a release at 8 is recorded after that
 abbrev pub late-tasks : List ℕ
@@ -425,3 +425,9 @@ late-bytes = refl
 late-missed : replayAnswer (on 8) X late-tasks (traceBytes (stampedFrom 100 late-records)) ≡ given (missed 5 1)
 unfolding everything
 late-missed = recorded-missed (on 8) X late-tasks refl refl late-jobs 10 refl (omega arith) (omega arith) refl (omega arith) 100 5 1 refl
+
+-- without that release the last record is at instant 1, before the miss, and nothing is missed by then
+early-same : replayAnswer (on 8) X late-tasks
+    (traceBytes (stampedFrom 100 (recorded (suppliedBy (on 8) X) (edf (tasksOf late-tasks) full-jobs) (tasksOf late-tasks) full-jobs 10))) ≡ given same
+unfolding everything
+early-same = recorded-same (on 8) X late-tasks refl refl full-jobs 10 refl (omega arith) (omega arith) refl (omega arith) 100 refl

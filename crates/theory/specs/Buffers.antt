@@ -1,11 +1,11 @@
 -- Laws of a lent buffer with a list written at its front
-use mathlib.Core.Path.{_≡_, refl}
+use mathlib.Core.Path.{_≡_, refl, ap, _∙_}
 use mathlib.Core.List.{List, [], _∷_, _++_, append-assoc}
-use Prim.Native.Nat.{ℕ, _≤_, _<_}
+use Prim.Native.Nat.{ℕ, suc, _+_, _≤_, _<_}
 use native.Mathlib.Numerals.{add-one}
 use native.Mathlib.Omega.{arith}
-use lib.ListN.{length, getD, set, drop, length-append, length-drop, List·getD-append}
-use lib.Seq.{drop-cons, set-append-seam}
+use lib.ListN.{length, getD, set, take, drop, length-set, length-append, length-drop, List·getD-append}
+use lib.Seq.{drop-cons, set-append-seam, take-suc-set}
 use Rattle.scope.specs.Numbers.{written}
 
 pub written-none : (d : List ℕ) → written [] d ≡ d
@@ -26,3 +26,20 @@ written-more l d a h = rw (drop-cons d (length l) 0 h, set-append-seam, length-a
 pub written-at : (l d : List ℕ) (j : ℕ) → j < length l → getD (written l d) j 0 ≡ getD l j 0
 unfolding written
 written-at l d j h = List·getD-append l (drop (length l) d) 0 j h
+
+-- ---- three numbers more at the end of what is written
+
+one-more : (l : List ℕ) (n m a : ℕ) → m ≡ suc n → n < length l → take m (set l n a) ≡ take n l ++ (a ∷ [])
+one-more l n m a e h = rw e (take-suc-set l n a h)
+
+pub three-more : (l : List ℕ) (n a b c : ℕ) → n + 2 < length l →
+    take (n + 3) (set (set (set l n a) (n + 1) b) (n + 2) c) ≡ take n l ++ (a ∷ b ∷ c ∷ [])
+three-more l n a b c h =
+    let l₁ = set l n a in
+    let l₂ = set l₁ (n + 1) b in
+    let e₁ : length l₁ ≡ length l = length-set l n a in
+    let e₂ : length l₂ ≡ length l₁ = length-set l₁ (n + 1) b in
+    one-more l₂ (n + 2) (n + 3) c (omega arith) (omega arith)
+    ∙ ap (λ (m : List ℕ). m ++ (c ∷ []))
+    (one-more l₁ (n + 1) (n + 2) b (omega arith) (omega arith) ∙ ap (λ (m : List ℕ). m ++ (b ∷ [])) (one-more l n (n + 1) a (omega arith) (omega arith)))
+    ∙ rw (append-assoc, append-assoc)

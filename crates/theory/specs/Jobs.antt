@@ -66,10 +66,10 @@ legal-until ts n m js j e h =
     rw (p₂ .0, lt-ltb r m h, p₁ .1)
 
 -- the list rises by tick and, within a tick, by task
-abbrev pub Ahead : List Job → ℕ → ℕ → Type 0
-Ahead js i j = (releaseOf js i ≤ releaseOf js j) × (releaseOf js i ≡ releaseOf js j → taskOf js i < taskOf js j)
+abbrev pub Rises : List Job → ℕ → ℕ → Type 0
+Rises js i j = (releaseOf js i ≤ releaseOf js j) × (releaseOf js i ≡ releaseOf js j → taskOf js i < taskOf js j)
 
-pub jobs-rise : (ts : List Task) (n : ℕ) (js : List Job) → badJob ts n js ≡ none → (i j : ℕ) → i < j → j < length js → Ahead js i j
+pub jobs-rise : (ts : List Task) (n : ℕ) (js : List Job) → badJob ts n js ≡ none → (i j : ℕ) → i < j → j < length js → Rises js i j
 jobs-rise ts n js legal i zero l h = absurd (omega arith)
 jobs-rise ts n js legal i (suc j) l h =
     elim (ℕ-discrete i j) [
@@ -81,7 +81,7 @@ jobs-rise ts n js legal i (suc j) l h =
           )
     ]
   where
-    next : Ahead js j (suc j)
+    next : Rises js j (suc j)
     next =
         let z : suc j - 1 ≡ j = omega arith in
         let o = rw (ne-eqb (suc j) 0 (λ q. omega arith), z) at (job-rules ts n js legal (suc j) h .order) in (

@@ -278,8 +278,11 @@ lexically-tied x y rest e z = rw (le-ltb x y (omega arith), eq-eqb x y z) at e
 pub less-lexically : (x y : ℕ) (rest : Bool) → x < y → lexically x y rest ≡ true
 less-lexically x y rest h = rw (lt-ltb x y h)
 
-pub tied-lexically : (x y : ℕ) (rest : Bool) → x ≡ y → rest ≡ true → lexically x y rest ≡ true
-tied-lexically x y rest z e = rw (le-ltb x y (omega arith), eq-eqb x y z, e)
+pub more-lexically : (x y : ℕ) (rest : Bool) → y ≤ x → x ≢ y → lexically x y rest ≡ false
+more-lexically x y rest h u = rw (le-ltb x y h, ne-eqb x y u)
+
+pub rest-lexically : (x y : ℕ) (rest : Bool) → x ≡ y → lexically x y rest ≡ rest
+rest-lexically x y rest z = rw (le-ltb x y (omega arith), eq-eqb x y z)
 
 lexically-false : (x y : ℕ) (rest : Bool) → lexically x y rest ≡ false → y ≤ x
 lexically-false x y rest e = elim (decLe y x) [ yes h ↦ h | no h ↦ absurd (true≢false (rw (lt-ltb x y (omega arith)) at e)) ]

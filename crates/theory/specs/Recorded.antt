@@ -24,11 +24,11 @@ use Rattle.scope.specs.Trace.{Record, ticksOf, isRelease, releases, Completion,
 use Rattle.scope.specs.Trace.{recordLegal, badRecord, traceBytes, stampedFrom}
 use Rattle.scope.specs.Replay.{ends, endedIn, endedFrom, releasedAt, asRecord, recordedTo, recorded, firstDifference, Replayed.same, Replayed.missed, named}
 use Rattle.scope.specs.Replay.{replayed, replayAnswer}
-use Rattle.theory.specs.Numbers.{both-and, first-none, none-first, less-lexically, tied-lexically, lexically-true}
+use Rattle.theory.specs.Numbers.{both-and, first-none, none-first, less-lexically, rest-lexically, lexically-true}
 use Rattle.theory.specs.Lists.{pieces-length, keep-none, keep-hit, keep-miss, keep-first}
 use Rattle.theory.specs.Every.{Every, EveryTwo, every-at, every-imp, every-append, every-behind, every-none, every-both, every-map}
 use Rattle.theory.specs.Every.{twos-at, twos-imp, twos-append, twos-map, kept-every, kept-twos}
-use Rattle.theory.specs.Jobs.{Ahead, job-rules, legal-until, jobs-rise}
+use Rattle.theory.specs.Jobs.{Rises, job-rules, legal-until, jobs-rise}
 use Rattle.theory.specs.Answers.{group-legal}
 use Rattle.theory.specs.Run.{met-before, done-within, done-before}
 use Rattle.theory.specs.Traces.{InStep, NeverFalls, timed-stamped, instant-inside, ticks-within, Recordable, trace-round-trip}
@@ -309,7 +309,7 @@ module _ (σ : ℕ → Bool) (before : ℕ → ℕ → Bool) (js : List Job) whe
     releases-of-ends k true = releases-ended (endedIn σ before js k)
     releases-of-ends k false = refl
 
-    module _ (ahead : (i j : ℕ) → i < j → j < length js → Ahead js i j) where
+    module _ (ahead : (i j : ℕ) → i < j → j < length js → Rises js i j) where
       releases-by : (n : ℕ) → releases (upTo n) ≡ map (jobAt js) (keep (λ j. leb (releaseOf js j) n) (length js))
       unfolding recordedTo
       releases-by zero = releases-released js 0 ∙ ap (map (jobAt js)) (kept-first js (λ i j l h. ahead i j l h .0) (length js))
@@ -335,7 +335,7 @@ module _ (σ : ℕ → Bool) (before : ℕ → ℕ → Bool) (js : List Job) whe
       released-order k =
           twos-map (releaseRecord js k) (λ a b. goesBefore a b ≡ true) (keep (λ j. eqb (releaseOf js j) k) (length js))
           (kept-twos (λ j. eqb (releaseOf js j) k) _ (length js) (λ i j l h p q.
-          tied-lexically k k _ refl (tied-lexically 0 0 _ refl (lt-ltb (taskOf js i) (taskOf js j)
+          rest-lexically k k _ refl ∙ (rest-lexically 0 0 _ refl ∙ (lt-ltb (taskOf js i) (taskOf js j)
           (ahead i j l h .1 (eqb-true (releaseOf js i) k p ∙ sym (eqb-true (releaseOf js j) k q)))))))
 
       ends-order : (k : ℕ) → InOrder (endsOf k)
@@ -359,7 +359,7 @@ module _ (σ : ℕ → Bool) (before : ℕ → ℕ → Bool) (js : List Job) whe
       ends-before-released : (n : ℕ) → Every (λ a. Every (λ b. goesBefore a b ≡ true) (releasedAt js (suc n))) (endsOf n)
       ends-before-released n = ends-every _ n (λ i k e.
           released-every js (λ b. goesBefore (asRecord (completion (suc n) (taskOf js i))) b ≡ true) (suc n) (λ j l z.
-          tied-lexically (suc n) (suc n) _ refl (less-lexically 0 1 (ltb (taskOf js i) (taskOf js j)) (omega arith))))
+          rest-lexically (suc n) (suc n) _ refl ∙ (less-lexically 0 1 (ltb (taskOf js i) (taskOf js j)) (omega arith))))
 
       pub recorded-order : (n : ℕ) → InOrder (upTo n)
       unfolding recordedTo
@@ -409,9 +409,6 @@ module _ (σ : ℕ → Bool) (before : ℕ → ℕ → Bool) (ts : List Task) (j
 
   ordered : InOrder rs
   ordered = recorded-order σ before js done (jobs-rise ts n js legal) n
-
-  pub recorded-in-turn : (i : ℕ) → i < length rs → inTurn rs i ≡ true
-  recorded-in-turn = in-turn rs ordered
 
   pub recorded-legal : badRecord ts rs ≡ none
   recorded-legal = records-legal ts n rs ordered (rw recorded-jobs legal)
@@ -506,13 +503,18 @@ module _ (b : Board) (ws ts : List ℕ) (table : tableFault b ws ≡ fine) (grou
         ∙ ap (λ (l : List Job). given (replayed σ (edf (tasksOf ts) l) (tasksOf ts) own)) jobs
         ∙ ap given (recorded-replayed σ before (tasksOf ts) js n legal))
 
-    -- a run that meets every deadline is replayed as the same
-    pub recorded-same : outcome (suppliedBy b ws) (edf (tasksOf ts) js) (tasksOf ts) js n ≡ Runs.met →
+    -- a run without a miss up to its last record's instant is replayed as the same
+    pub recorded-same : outcome (suppliedBy b ws) (edf (tasksOf ts) js) (tasksOf ts) js (ticksOf own - 1) ≡ Runs.met →
         replayAnswer b ws ts (traceBytes (stampedFrom c own)) ≡ given same
-    recorded-same e =
+    recorded-same e = recorded-answer ∙ rw e
+
+    -- so is one that is met
+    pub recorded-met : outcome (suppliedBy b ws) (edf (tasksOf ts) js) (tasksOf ts) js n ≡ Runs.met →
+        replayAnswer b ws ts (traceBytes (stampedFrom c own)) ≡ given same
+    recorded-met e =
         let σ = suppliedBy b ws in
         let before = edf (tasksOf ts) js in
-        recorded-answer ∙ rw (met-before σ before js (tasksOf ts) (ticksOf own - 1) n (omega (arith, recorded-ticks σ before (tasksOf ts) js n legal)) e)
+        recorded-same (met-before σ before js (tasksOf ts) (ticksOf own - 1) n (omega (arith, recorded-ticks σ before (tasksOf ts) js n legal)) e)
 
     -- and a miss up to the last record's instant is named
     pub recorded-missed : (k j : ℕ) → outcome (suppliedBy b ws) (edf (tasksOf ts) js) (tasksOf ts) js (ticksOf own - 1) ≡ Runs.missed k j →

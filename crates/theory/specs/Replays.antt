@@ -249,6 +249,10 @@ module _ (σ : ℕ → Bool) (before : ℕ → ℕ → Bool) (ts : List Task) (r
       let n = named-differs c m ranTo (firstDifference (completions rs) machineEnded) e in
       (difference-is (completions rs) machineEnded _ (n .0), n .1)
 
+  -- a difference has a side
+  pub replayed-sides : replayed σ before ts rs ≡ differs none none → ⊥
+  replayed-sides e = replayed-differs none none e .0 .differ refl
+
   -- "a machine miss up to that instant, and no later than the lesser instant of any difference, is named instead"
   pub replayed-missed : (k j : ℕ) → replayed σ before ts rs ≡ missed k j →
       (ranTo ≡ Runs.missed k j)

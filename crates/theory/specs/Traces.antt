@@ -125,9 +125,6 @@ instant-inside (r ∷ rs) n =
     let m = last-most (r .instant) rs (n .0) (n .1) in
     (omega (arith, m .0), every-imp (λ q. q .instant ≤ lastInstant (r .instant) rs) (λ q. q .instant < ticksOf (r ∷ rs)) (λ q h. omega arith) rs (m .1))
 
-pub timed-inside : (rs : List Stamped) (i : ℕ) → i < length (timed rs) → (recordAt (timed rs) i) .instant < ticksOf (timed rs)
-timed-inside rs = every-at _ (timed rs) (instant-inside (timed rs) (timed-rises rs)) _
-
 -- no record is after an instant that none is after
 last-within : (k n : ℕ) (rs : List Record) → k ≤ n → Every (λ r. r .instant ≤ n) rs → lastInstant k rs ≤ n
 unfolding lastInstant

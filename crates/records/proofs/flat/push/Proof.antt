@@ -1,5 +1,6 @@
 use mathlib.Core.Path.{refl, _≡_}
-use Rattle.records.proofs.FlatLaws.{three-more, flat-length}
+use Rattle.theory.specs.Buffers.{three-more}
+use Rattle.records.proofs.FlatLaws.{flat-length}
 use native.Mathlib.Omega.{arith}
 use lib.ListN.{length}
 use Rattle.records.specs.Numbers.{enoughNumbers}

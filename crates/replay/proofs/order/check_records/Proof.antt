@@ -1,4 +1,4 @@
-use Rattle.replay.proofs.OrderLaws.{records-fine, records-bad}
+use Rattle.replay.proofs.OrderLaws.{records-fine, records-illegal}
 use Rattle.tables.specs.Told.{faultOf}
 use mathlib.Core.Path.{sym, ap, _∙_}
 use Prim.Native.Nat.{_-_}
@@ -38,7 +38,7 @@ returns c =
 
 returns-2 : tie.Need-returns-2
 returns-2 c =
-    c .first-bad2 .ensures ∙ sym (rw (c .before .place .ensures) (records-bad _ _ _ _
+    c .first-bad2 .ensures ∙ sym (rw (c .before .place .ensures) (records-illegal _ _ _ _
     (c .before .before .before .before .before .before .before .before .before .pre .0)
     (c .before .before .before .before .before .before .before .before .before .pre .1)
     (c .before .before .before .before .before .before .before .before .before .pre .2)

@@ -1,6 +1,6 @@
 use mathlib.Core.Path.{sym, ap, _∙_}
 use Rattle.plan.specs.Told.{toldNumber}
-use Rattle.replay.proofs.ReadLaws.{kind-over, kind-bad, kind-read}
+use Rattle.replay.proofs.ReadLaws.{kind-over, kind-bad, kind-is}
 use Prim.Native.Nat.{_-_}
 use borrow.Author.Needs.{needs}
 use Rattle.replay.proofs.read.read_kind.Statement.{statement}
@@ -28,7 +28,7 @@ returns-2 c = kind-bad _ _ _ (sym (c .before .before .before .read-number .ensur
 
 returns-3 : tie.Need-returns-3
 returns-3 c =
-    kind-read _ _ _ _ (sym (c .before .before .before .before .read-number .ensures) ∙ ap toldNumber (c .before .before .value .given .1))
+    kind-is _ _ _ _ (sym (c .before .before .before .before .read-number .ensures) ∙ ap toldNumber (c .before .before .value .given .1))
     (c .if1 .left)
 
 pub read-kind-spec : {M : Type 1} → statement M

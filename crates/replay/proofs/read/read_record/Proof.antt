@@ -1,6 +1,6 @@
 use mathlib.Core.Path.{sym, ap, _∙_}
 use Rattle.plan.specs.Told.{toldNumber}
-use Rattle.replay.proofs.ReadLaws.{record-kind, record-task, record-work, record-stamp, record-read}
+use Rattle.replay.proofs.ReadLaws.{record-kind, record-task, record-work, record-stamp, record-is}
 use Prim.Native.Nat.{_-_}
 use borrow.Author.Needs.{needs}
 use Rattle.replay.proofs.read.read_record.Statement.{statement}
@@ -8,7 +8,7 @@ use Rattle.replay.proofs.read.read_record.Tie as tie
 use Rattle.replay.proofs.read.read_record.Reads as reads
 use Rattle.replay.proofs.read.read_record.Lts as lts
 use Rattle.plan.proofs.number.read_number.Reads as read-number-reads
-use Rattle.replay.proofs.read.read_kind.Reads as read-kind-reads
+use Rattle.replay.proofs.read.read_kind.Reads as read-kind-iss
 use Rattle.replay.proofs.read.read_work.Reads as read-work-reads
 
 read-kind-requires : tie.Need-read-kind-requires
@@ -77,7 +77,7 @@ returns-4 c =
 
 returns-5 : tie.Need-returns-5
 returns-5 c =
-    record-read _ _ _ _ _ _ _ _ _ _ (sym
+    record-is _ _ _ _ _ _ _ _ _ _ (sym
     (c .before .before .before .before .before .before .before .before .before .before .before .before .before .before .before .read-kind .ensures) ∙
     ap toldNumber (c .before .before .before .before .before .before .before .before .before .before .before .before .before .kind .given .1)) (sym
     (c .before .before .before .before .before .before .before .before .before .before .before .read-number .ensures) ∙ ap toldNumber
