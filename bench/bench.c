@@ -13,10 +13,14 @@
 #define LENGTH(list) (sizeof(list) / sizeof((list)[0]))
 
 enum {
-    ROOM = 8192,    /* numbers of a lent buffer: more than any input here fills, so that a write past the end of an answer is seen */
-    UNTOUCHED = 7,  /* each of them before a compared call */
-    ROUNDS = 7,     /* measurements of a side, of which the best counts */
-    LONG_ROUNDS = 3 /* those of an input that takes LONG */
+    ROOM = 8192,          /* numbers of a lent buffer: more than any input here fills, so that a write past the end of an answer is seen */
+    UNTOUCHED = 7,        /* each of them before a compared call */
+    ROUNDS = 7,           /* measurements of a side, of which the best counts */
+    LONG_ROUNDS = 3,      /* those of an input that takes LONG */
+    MOST_JOBS = 4096,     /* of a run */
+    LONGEST_RUN = 1100000,
+    RELEASE_BYTES = 10,   /* of a record, at most: kind and task take one each, work three, a stamp five */
+    COMPLETION_BYTES = 7
 };
 static const double SHORTEST = 0.05; /* seconds that a measurement takes at least */
 static const double LONG = 0.4;      /* seconds after which a measurement is long */
@@ -28,8 +32,11 @@ struct input {
     uint32_t tasks[96];
     size_t tasks_len;
     uint32_t asked; /* the length of a least supply, the index of a bound, the ticks of a run */
-    uint32_t jobs[3 * 4096];
+    uint32_t jobs[3 * MOST_JOBS];
     size_t jobs_len;
+    uint8_t trace[(RELEASE_BYTES + COMPLETION_BYTES) * MOST_JOBS]; /* of the run of these jobs */
+    size_t trace_len;
+    uint32_t records;
 };
 
 /* Entries: each of both sides as a function of an input and a lent buffer of ROOM numbers */
@@ -70,6 +77,11 @@ typedef struct palikudyom_answer ask(const struct input *x, uint32_t *buffer);
     {                                                                                                                   \
         return side##_run(x->frame, x->windows, x->windows_len, x->tasks, x->tasks_len, x->asked, x->jobs, x->jobs_len, \
                           buffer, ROOM);                                                                                \
+    }                                                                                                                   \
+    static struct palikudyom_answer side##_asked_for_replay(const struct input *x, uint32_t *buffer)                   \
+    {                                                                                                                   \
+        (void)buffer;                                                                                                   \
+        return side##_replay(x->frame, x->windows, x->windows_len, x->tasks, x->tasks_len, x->trace, x->trace_len);     \
     }
 
 SIDE(palikudyom)
@@ -93,6 +105,7 @@ static const struct entry OUTAGE = {"outage", palikudyom_asked_for_outage, plain
 static const struct entry VERDICT = {"verdict", palikudyom_asked_for_verdict, plain_asked_for_verdict};
 static const struct entry BOUND = {"bound", palikudyom_asked_for_bound, plain_asked_for_bound};
 static const struct entry RUN = {"run", palikudyom_asked_for_run, plain_asked_for_run};
+static const struct entry REPLAY = {"replay", palikudyom_asked_for_replay, plain_asked_for_replay};
 static const struct entry RUN_EVERY_TICK = {"run", palikudyom_asked_for_run, plain_asked_for_run_every_tick};
 
 /* Comparing */
@@ -171,19 +184,19 @@ static double measure(struct side *s, const struct input *x)
     return took;
 }
 
-/* best seconds a call, of each side; alternately, so that a busy machine slows both alike */
-static void measure_both(const struct entry *entry, const struct input *x, double *proved, double *plain)
+/* best seconds a call, of each of two; alternately, so that a busy machine slows both alike */
+static void measure_both(ask *one, ask *other, const struct input *x, double *of_one, double *of_other)
 {
-    struct side a = side_of(entry->proved, proved_buffer);
-    struct side b = side_of(entry->plain, plain_buffer);
+    struct side a = side_of(one, proved_buffer);
+    struct side b = side_of(other, plain_buffer);
     int rounds = ROUNDS;
     for (int i = 0; i < rounds; i++) {
         if (measure(&a, x) > LONG)
             rounds = LONG_ROUNDS;
         measure(&b, x);
     }
-    *proved = a.best;
-    *plain = b.best;
+    *of_one = a.best;
+    *of_other = b.best;
 }
 
 static double measure_proved(const struct entry *entry, const struct input *x)
@@ -238,6 +251,64 @@ static void release_all(struct input *x, uint32_t ticks)
             }
 }
 
+/* Making traces */
+
+/* in seven-bit groups */
+static void add_number(struct input *x, uint32_t n)
+{
+    for (; 128 <= n; n /= 128)
+        x->trace[x->trace_len++] = n % 128 + 128;
+    x->trace[x->trace_len++] = n;
+}
+
+static void add_release(struct input *x, size_t j, uint32_t stamp)
+{
+    add_number(x, 0);
+    add_number(x, x->jobs[3 * j + 1]);
+    add_number(x, x->jobs[3 * j + 2]);
+    add_number(x, stamp);
+    x->records++;
+}
+
+static void add_completion(struct input *x, size_t j, uint32_t stamp)
+{
+    add_number(x, 1);
+    add_number(x, x->jobs[3 * j + 1]);
+    add_number(x, stamp);
+    x->records++;
+}
+
+static uint32_t ended[LONGEST_RUN + 1]; /* by instant: one more than the job that is complete then, of which there is one at most; or 0 */
+
+/*
+ * The trace of the input's run: its releases and the completions that the proved run's counts tell. The run is then asked for as many ticks as the
+ * replay has, one past the last record's instant. The last stamp is 0: the counter goes past its top, and all stamps before it take five bytes.
+ */
+static void record_run(struct input *x)
+{
+    static uint32_t counts[ROOM];
+    if (palikudyom_asked_for_run(x, counts).code != PALIKUDYOM_MET)
+        fail(REPLAY.name, "its trace", "the run that is recorded is not met");
+    size_t jobs = x->jobs_len / 3;
+    uint32_t last = 0;
+    memset(ended, 0, sizeof ended);
+    for (size_t j = 0; j < jobs; j++) {
+        uint32_t instant = x->jobs[3 * j] + counts[j];
+        if (counts[j] != 0)
+            ended[instant] = j + 1;
+        if (last < instant)
+            last = instant;
+    }
+    size_t j = 0;
+    for (uint32_t k = 0; k <= last; k++) {
+        if (ended[k] != 0)
+            add_completion(x, ended[k] - 1, k - last);
+        for (; j < jobs && x->jobs[3 * j] == k; j++)
+            add_release(x, j, k - last);
+    }
+    x->asked = last + 1;
+}
+
 /* eight tasks that ask for 2/5 of the processor, of cycle 10,000 */
 static void eight_tasks(struct input *x)
 {
@@ -284,6 +355,15 @@ static void small_run(struct input *x)
     memcpy(x->jobs, (uint32_t[]){2, 0, 1, 2, 1, 2}, 6 * sizeof(uint32_t));
 }
 
+static void small_replay(struct input *x)
+{
+    small_verdict(x);
+    x->asked = 8;
+    x->jobs_len = 6;
+    memcpy(x->jobs, (uint32_t[]){0, 0, 1, 0, 1, 2}, 6 * sizeof(uint32_t));
+    record_run(x);
+}
+
 static void typical_table(struct input *x)
 {
     spread_windows(x, 1000, 8);
@@ -311,6 +391,12 @@ static void typical_run(struct input *x)
 {
     typical_verdict(x);
     release_all(x, 10000);
+}
+
+static void typical_replay(struct input *x)
+{
+    typical_run(x);
+    record_run(x);
 }
 
 static void worst_table(struct input *x)
@@ -361,7 +447,15 @@ static void worst_run(struct input *x)
     x->windows[127] = 65536;
     for (uint32_t i = 0; i < 32; i++)
         add_task(x, 260, 8593, 8593);
-    release_all(x, 1100000);
+    release_all(x, LONGEST_RUN);
+}
+
+/* the last job is released later than in the run's input, when no other is pending, and is complete at the last instant that a trace may have */
+static void worst_replay(struct input *x)
+{
+    worst_run(x);
+    x->jobs[x->jobs_len - 3] = LONGEST_RUN - 1 - x->jobs[x->jobs_len - 1];
+    record_run(x);
 }
 
 /* Inputs of the growth table: a size to an input */
@@ -467,6 +561,16 @@ static void run_by_ticks(struct input *x, uint32_t ticks)
     release_all(x, ticks);
 }
 
+/* every task is released 128 times, so that the ticks stay about the same */
+static void replay_by_jobs(struct input *x, uint32_t jobs)
+{
+    spread_windows(x, 1000, 8);
+    for (uint32_t i = 0; i < jobs / 128; i++)
+        add_task(x, 1, 256, 256);
+    release_all(x, 128 * 256);
+    record_run(x);
+}
+
 /* Tables */
 
 struct one_case {
@@ -498,12 +602,21 @@ static const struct one_case CASES[] = {
     {&RUN, "small: P 8, 2 windows, 2 tasks, 2 jobs, 10 ticks", PALIKUDYOM_MET, small_run},
     {&RUN, "typical: P 1,000, 8 windows, 8 tasks, 36 jobs, 10,000 ticks", PALIKUDYOM_MET, typical_run},
     {&RUN, "worst: P 65,536, 64 windows, 32 tasks, 4,096 jobs, 1,100,000 ticks", PALIKUDYOM_MET, worst_run},
+    {&REPLAY, "small: P 8, 2 windows, 2 tasks, 4 records, 7 ticks", PALIKUDYOM_SAME, small_replay},
+    {&REPLAY, "typical: P 1,000, 8 windows, 8 tasks, 72 records, 9,164 ticks", PALIKUDYOM_SAME, typical_replay},
+    {&REPLAY, "worst: P 65,536, 64 windows, 32 tasks, 8,192 records, 1,100,000 ticks", PALIKUDYOM_SAME, worst_replay},
 };
 
 static const struct one_case CHECKED_ONCE[] = {
     {&RUN_EVERY_TICK, "small", PALIKUDYOM_MET, small_run},
     {&RUN_EVERY_TICK, "typical", PALIKUDYOM_MET, typical_run},
     {&RUN_EVERY_TICK, "worst", PALIKUDYOM_MET, worst_run},
+};
+
+static const struct one_case BESIDE_RUN[] = {
+    {&REPLAY, "small", PALIKUDYOM_SAME, small_replay},
+    {&REPLAY, "typical", PALIKUDYOM_SAME, typical_replay},
+    {&REPLAY, "worst", PALIKUDYOM_SAME, worst_replay},
 };
 
 struct growth {
@@ -534,6 +647,7 @@ static const struct growth GROWTHS[] = {
     {&VERDICT, "H", "P 1,000, 8 windows, 3 tasks", PALIKUDYOM_MEETS, verdict_by_cycle, {10000, 100000, 1000000}},
     {&BOUND, "D", "P 16, 1 window, 2 tasks, no bound", PALIKUDYOM_NO_BOUND, bound_by_deadline, {10000, 100000, 1000000}},
     {&RUN, "ticks", "P 1,000, 8 windows, 8 tasks", PALIKUDYOM_MET, run_by_ticks, {10000, 100000, 1000000}},
+    {&REPLAY, "jobs", "P 1,000, 8 windows, 128 jobs a task", PALIKUDYOM_SAME, replay_by_jobs, {512, 1024, 2048, 4096}},
 };
 
 /* three figures of a time, with its unit */
@@ -567,12 +681,32 @@ static void print_case(const struct one_case *c)
     c->make(&input);
     compare(c->entry, c->words, c->code, &input);
     double proved, plain;
-    measure_both(c->entry, &input, &proved, &plain);
+    measure_both(c->entry->proved, c->entry->plain, &input, &proved, &plain);
     printf("| %s | %s | ", c->entry->name, c->words);
     print_time(proved);
     printf(" | ");
     print_time(plain);
     printf(" | %.2f |\n", proved / plain);
+}
+
+/* the proved replay beside the proved run of the same jobs and ticks */
+static void print_beside_run(const struct one_case *c)
+{
+    memset(&input, 0, sizeof input);
+    c->make(&input);
+    compare(c->entry, c->words, c->code, &input);
+    compare(&RUN, c->words, PALIKUDYOM_MET, &input);
+    double replay, run;
+    measure_both(c->entry->proved, RUN.proved, &input, &replay, &run);
+    printf("| %s | ", c->words);
+    print_number(input.records);
+    printf(" | ");
+    print_number(input.asked);
+    printf(" | ");
+    print_time(replay);
+    printf(" | ");
+    print_time(run);
+    printf(" | %.2f |\n", replay / run);
 }
 
 static void print_growth(const struct growth *g)
@@ -608,9 +742,15 @@ int main(void)
     printf("| entry | input | proved | plain C | ratio |\n|---|---|---:|---:|---:|\n");
     for (size_t i = 0; i < LENGTH(CHECKED_ONCE); i++)
         print_case(&CHECKED_ONCE[i]);
+    printf("\nA replay beside its run, both proved; the bar for the worst is 1.5:\n\n");
+    printf("| input | records | ticks | replay | run | ratio |\n|---|---:|---:|---:|---:|---:|\n");
+    for (size_t i = 0; i < LENGTH(BESIDE_RUN); i++)
+        print_beside_run(&BESIDE_RUN[i]);
     printf("\nHow the proved code's time grows:\n\n");
     printf("| entry | what stays | what grows | proved | factor a step |\n|---|---|---|---|---|\n");
     for (size_t i = 0; i < LENGTH(GROWTHS); i++)
         print_growth(&GROWTHS[i]);
     return 0;
 }
+
+END_OF_FILE

@@ -1,12 +1,15 @@
 /*
  * The yardstick: the proved code's algorithms once more, in plain C. Function by function the loops, checks and scans of crates/tables, supply,
- * checker, jobs and machine, no cleverer and no slower, so that a ratio tells what the proof costs and not what an algorithm costs.
+ * checker, jobs, machine and replay, no cleverer and no slower, so that a ratio tells what the proof costs and not what an algorithm costs.
  */
 #include "plain.h"
 #include <stdbool.h>
 
 /* later than every deadline */
 #define NEVER UINT32_C(4294967295)
+
+/* what a number in seven-bit groups may be */
+#define LARGEST_NUMBER UINT32_C(4294967295)
 
 enum {
     LONGEST_FRAME = 65536,
@@ -18,7 +21,9 @@ enum {
     LONGEST_RUN = 1100000,
     MOST_JOBS = 4096,
     NO_TASK = 32,
-    NO_JOB = 4096
+    NO_JOB = 4096,
+    MOST_GROUPS = 5,
+    RELEASE = 0 /* kind of a record; a completion is the other */
 };
 
 /* a lent list of numbers */
@@ -168,12 +173,17 @@ static struct checked check_each_task(struct list tasks)
     return FINE;
 }
 
+static struct checked check_tasks(struct list tasks)
+{
+    struct checked list = check_task_list(tasks);
+    struct checked each = check_each_task(tasks);
+    return or_else(list, each);
+}
+
 static struct checked check_group(uint32_t frame, struct list windows, struct list tasks)
 {
     struct checked table = check_table(frame, windows);
-    struct checked list = check_task_list(tasks);
-    struct checked each = check_each_task(tasks);
-    return or_else(table, or_else(list, each));
+    return or_else(table, check_tasks(tasks));
 }
 
 static struct checked check_length(uint32_t length)
@@ -516,7 +526,7 @@ static bool job_legal(struct list tasks, uint32_t ticks, struct list jobs, size_
     return free[task] <= release_of(jobs, j);
 }
 
-static struct checked check_jobs(struct list tasks, uint32_t ticks, struct list jobs)
+static struct checked check_each_job(struct list tasks, uint32_t ticks, struct list jobs)
 {
     uint32_t free[MOST_TASKS] = {0};
     size_t count = jobs.len / 3;
@@ -529,17 +539,25 @@ static struct checked check_jobs(struct list tasks, uint32_t ticks, struct list 
     return FINE;
 }
 
-static struct checked check_run(uint32_t frame, struct list windows, struct list tasks, uint32_t ticks, struct list jobs, size_t room)
+static struct checked check_jobs(struct list tasks, uint32_t ticks, struct list jobs)
 {
-    struct checked group = check_group(frame, windows, tasks);
+    struct checked group = check_tasks(tasks);
     if (is_bad(group))
         return group;
     struct checked list = check_job_list(ticks, jobs);
     if (is_bad(list))
         return list;
-    struct checked each = check_jobs(tasks, ticks, jobs);
-    if (is_bad(each))
-        return each;
+    return check_each_job(tasks, ticks, jobs);
+}
+
+static struct checked check_run(uint32_t frame, struct list windows, struct list tasks, uint32_t ticks, struct list jobs, size_t room)
+{
+    struct checked table = check_table(frame, windows);
+    if (is_bad(table))
+        return table;
+    struct checked list = check_jobs(tasks, ticks, jobs);
+    if (is_bad(list))
+        return list;
     size_t needed = jobs.len / 3;
     return room < needed ? bad(8, needed) : FINE;
 }
@@ -698,3 +716,333 @@ struct palikudyom_answer plain_run_every_tick(uint32_t frame, const uint32_t *at
     struct checked c = check_run(frame, windows, tasks, ticks, jobs, counts_len);
     return is_bad(c) ? refused(c) : run_legal(true, frame, windows, tasks, ticks, jobs, counts);
 }
+
+/* Traces: number.rt, read.rt */
+
+/* a lent list of bytes */
+struct bytes {
+    const uint8_t *at;
+    size_t len;
+};
+
+/* a number and the offset after it; where it is bad, the offset that refusal 9 names */
+struct number {
+    bool bad;
+    uint32_t value;
+    size_t next;
+};
+
+static struct number no_number(size_t offset)
+{
+    return (struct number){true, 0, offset};
+}
+
+static struct number formed(size_t at, uint64_t value, size_t size, uint64_t last)
+{
+    if (LARGEST_NUMBER < value)
+        return no_number(at);
+    if (size != 1 && last == 0)
+        return no_number(at);
+    return (struct number){false, value, at + size};
+}
+
+static struct number read_number(struct bytes bytes, size_t at)
+{
+    if (bytes.len <= at)
+        return no_number(bytes.len);
+    uint64_t value = 0;
+    uint64_t weight = 1;
+    size_t size = 0;
+    while (size < MOST_GROUPS) {
+        if (bytes.len <= at + size)
+            return no_number(at);
+        uint64_t byte = bytes.at[at + size];
+        size++;
+        if (byte < 128)
+            return formed(at, value + byte * weight, size, byte);
+        value += (byte - 128) * weight;
+        weight *= 128;
+    }
+    return no_number(at);
+}
+
+static struct number read_kind(struct bytes bytes, size_t at)
+{
+    struct number kind = read_number(bytes, at);
+    return !kind.bad && 1 < kind.value ? no_number(at) : kind;
+}
+
+static struct number read_work(uint32_t kind, struct bytes bytes, size_t at)
+{
+    return kind == RELEASE ? read_number(bytes, at) : (struct number){false, 0, at};
+}
+
+/* a record as it is stamped, and the offset after it; where it is bad, the offset that refusal 9 names */
+struct record {
+    bool bad;
+    uint32_t kind;
+    uint32_t task;
+    uint32_t work;
+    uint32_t stamp;
+    size_t next;
+};
+
+static struct record no_record(size_t offset)
+{
+    return (struct record){.bad = true, .next = offset};
+}
+
+static struct record read_record(struct bytes bytes, size_t at)
+{
+    struct number kind = read_kind(bytes, at);
+    if (kind.bad)
+        return no_record(kind.next);
+    struct number task = read_number(bytes, kind.next);
+    if (task.bad)
+        return no_record(task.next);
+    struct number work = read_work(kind.value, bytes, task.next);
+    if (work.bad)
+        return no_record(work.next);
+    struct number stamp = read_number(bytes, work.next);
+    if (stamp.bad)
+        return no_record(stamp.next);
+    return (struct record){false, kind.value, task.value, work.value, stamp.value, stamp.next};
+}
+
+/* where a pass stands after a record, and the record at its instant; `bad` with the offset where there is none */
+struct reader {
+    size_t at;
+    bool bad;
+    size_t offset;
+    uint32_t instant;
+    uint32_t stamp;
+    uint32_t kind;
+    uint32_t task;
+    uint32_t work;
+};
+
+/* the instant so many ticks later, or the first that is too late for every run */
+static uint32_t later(uint32_t instant, uint32_t ticks)
+{
+    uint64_t sum = (uint64_t)instant + ticks;
+    return LONGEST_RUN < sum ? LONGEST_RUN : sum;
+}
+
+static struct reader start_of_trace(struct bytes trace)
+{
+    struct record first = read_record(trace, 0);
+    return (struct reader){.stamp = first.bad ? 0 : first.stamp};
+}
+
+/* after the next record; at the end of the bytes where it can't be read */
+static struct reader passed(struct bytes trace, struct reader r)
+{
+    struct record record = read_record(trace, r.at);
+    if (record.bad)
+        return (struct reader){trace.len, true, record.next, r.instant, r.stamp, r.kind, r.task, r.work};
+    uint32_t instant = later(r.instant, record.stamp - r.stamp);
+    return (struct reader){record.next, false, 0, instant, record.stamp, record.kind, record.task, record.work};
+}
+
+static size_t counted(size_t releases, uint32_t kind)
+{
+    return kind == RELEASE ? releases + 1 : releases;
+}
+
+/* The replay's four passes: survey.rt, rebuild.rt, order.rt, ending.rt and compare.rt */
+
+/* the ticks of the run and the number of releases; where it is bad, the offset that refusal 9 names */
+struct extent {
+    bool bad;
+    size_t offset;
+    uint32_t ticks;
+    size_t releases;
+};
+
+static struct extent survey(struct bytes trace)
+{
+    struct reader r = start_of_trace(trace);
+    size_t releases = 0;
+    while (r.at < trace.len) {
+        r = passed(trace, r);
+        releases = counted(releases, r.kind);
+    }
+    if (r.bad)
+        return (struct extent){.bad = true, .offset = r.offset};
+    return (struct extent){.ticks = trace.len == 0 ? 0 : r.instant + 1, .releases = releases};
+}
+
+static struct checked check_extent(uint32_t ticks, size_t releases)
+{
+    return LONGEST_RUN < ticks || MOST_JOBS < releases ? bad(10, 0) : FINE;
+}
+
+static void rebuild(struct bytes trace, uint32_t *jobs)
+{
+    struct reader r = start_of_trace(trace);
+    size_t j = 0;
+    while (r.at < trace.len) {
+        r = passed(trace, r);
+        if (r.kind == RELEASE) {
+            jobs[3 * j] = r.instant;
+            jobs[3 * j + 1] = r.task;
+            jobs[3 * j + 2] = r.work;
+        }
+        j = counted(j, r.kind);
+    }
+}
+
+/* whether b may come right after a */
+static bool goes_before(struct reader a, struct reader b)
+{
+    if (a.instant < b.instant)
+        return true;
+    if (a.instant != b.instant)
+        return false;
+    if (b.kind < a.kind)
+        return true;
+    if (b.kind != a.kind)
+        return false;
+    return a.task < b.task;
+}
+
+/* the first record that is against the order, or release number `illegal`, if one of these comes */
+static struct checked first_bad(struct bytes trace, size_t illegal)
+{
+    struct reader r = start_of_trace(trace);
+    size_t j = 0;
+    for (size_t i = 0; r.at < trace.len; i++) {
+        struct reader previous = r;
+        r = passed(trace, r);
+        if (i != 0 && !goes_before(previous, r))
+            return bad(11, i);
+        if (r.kind == RELEASE && j == illegal)
+            return bad(11, i);
+        j = counted(j, r.kind);
+    }
+    return FINE;
+}
+
+static struct checked check_records(struct list tasks, uint32_t ticks, struct bytes trace, struct list jobs)
+{
+    struct checked c = check_jobs(tasks, ticks, jobs);
+    return first_bad(trace, is_bad(c) ? c.place : jobs.len / 3);
+}
+
+/* a completion; or none, where a side has ended */
+struct seen {
+    bool none;
+    uint32_t instant;
+    uint32_t task;
+};
+
+/* the best job so far, and the first instant that is too late to be before it */
+struct best {
+    size_t job;
+    uint64_t until;
+};
+
+static struct best nearer(struct best best, size_t j, uint32_t count, uint64_t finish, uint32_t after)
+{
+    if (count == 0)
+        return best;
+    if (finish <= after)
+        return best;
+    if (best.until <= finish)
+        return best;
+    return (struct best){j, finish};
+}
+
+/* the machine's first completion after one instant and no later than another */
+static struct seen completion_after(struct list jobs, const uint32_t *counts, uint32_t after, uint32_t last)
+{
+    size_t count = jobs.len / 3;
+    struct best best = {count, (uint64_t)last + 1};
+    for (size_t j = 0; j < count; j++)
+        best = nearer(best, j, counts[j], (uint64_t)release_of(jobs, j) + counts[j], after);
+    if (count <= best.job)
+        return (struct seen){.none = true};
+    return (struct seen){false, best.until, task_of(jobs, best.job)};
+}
+
+/* the first pair that differs, if one does */
+struct compared {
+    bool differ;
+    struct seen trace;
+    struct seen machine;
+};
+
+static struct compared compare(struct bytes trace, struct list jobs, const uint32_t *counts, uint32_t last)
+{
+    struct reader r = start_of_trace(trace);
+    uint32_t after = 0;
+    while (r.at < trace.len) {
+        r = passed(trace, r);
+        if (r.kind == RELEASE)
+            continue;
+        struct seen machine = completion_after(jobs, counts, after, last);
+        if (machine.none || r.instant != machine.instant || r.task != machine.task)
+            return (struct compared){true, {false, r.instant, r.task}, machine};
+        after = r.instant;
+    }
+    struct seen machine = completion_after(jobs, counts, after, last);
+    return (struct compared){!machine.none, {.none = true}, machine};
+}
+
+/* The replay: replay.rt. Its room is cleared before it is filled, as that of the proved code. */
+
+static uint32_t lesser(struct seen trace, struct seen machine)
+{
+    if (trace.none)
+        return machine.instant;
+    if (machine.none)
+        return trace.instant;
+    return trace.instant <= machine.instant ? trace.instant : machine.instant;
+}
+
+static struct palikudyom_answer by_difference(struct compared c)
+{
+    if (!c.differ)
+        return one(PALIKUDYOM_SAME, 0);
+    if (c.trace.none)
+        return (struct palikudyom_answer){PALIKUDYOM_TRACE_ENDED, 0, 0, c.machine.instant, c.machine.task};
+    if (c.machine.none)
+        return two(PALIKUDYOM_MACHINE_ENDED, c.trace.instant, c.trace.task);
+    return (struct palikudyom_answer){PALIKUDYOM_DIFFERS, c.trace.instant, c.trace.task, c.machine.instant, c.machine.task};
+}
+
+/* a miss up to the last instant, and no later than any difference, is named instead of it */
+static struct palikudyom_answer named(struct palikudyom_answer ran, uint32_t last, struct compared c)
+{
+    if (ran.code == PALIKUDYOM_REFUSED)
+        return ran;
+    if (ran.code == PALIKUDYOM_MISSED && ran.a <= last && (!c.differ || ran.a <= lesser(c.trace, c.machine)))
+        return two(PALIKUDYOM_TRACE_MISSED, ran.a, ran.b);
+    return by_difference(c);
+}
+
+struct palikudyom_answer plain_replay(uint32_t frame, const uint32_t *at, size_t len, const uint32_t *tasks_at, size_t tasks_len,
+                                      const uint8_t *trace_at, size_t trace_len)
+{
+    struct list windows = {at, len};
+    struct list tasks = {tasks_at, tasks_len};
+    struct bytes trace = {trace_at, trace_len};
+    struct extent extent = survey(trace);
+    if (extent.bad)
+        return refused(bad(9, extent.offset));
+    struct checked c = or_else(check_group(frame, windows, tasks), check_extent(extent.ticks, extent.releases));
+    if (is_bad(c))
+        return refused(c);
+    uint32_t numbers[3 * MOST_JOBS] = {0};
+    rebuild(trace, numbers);
+    struct list jobs = {numbers, 3 * extent.releases};
+    c = check_records(tasks, extent.ticks, trace, jobs);
+    if (is_bad(c))
+        return refused(c);
+    uint32_t counts[MOST_JOBS] = {0};
+    struct palikudyom_answer ran = plain_run(frame, at, len, tasks_at, tasks_len, extent.ticks, jobs.at, jobs.len, counts, MOST_JOBS);
+    uint32_t last = extent.ticks == 0 ? 0 : extent.ticks - 1;
+    return named(ran, last, compare(trace, jobs, counts, last));
+}
+
+END_OF_FILE

@@ -1,4 +1,4 @@
-/* The six timed entries in plain C, as palikudyom.h declares the proved ones: the same arguments, the same answers and the same buffers after a call. */
+/* The eight timed entries in plain C, as palikudyom.h declares the proved ones: the same arguments, the same answers and the same buffers after a call. */
 #ifndef PLAIN_H
 #define PLAIN_H
 
@@ -18,8 +18,20 @@ struct palikudyom_answer plain_bound(uint32_t frame, const uint32_t *windows, si
 struct palikudyom_answer plain_run(uint32_t frame, const uint32_t *windows, size_t windows_len, const uint32_t *tasks, size_t tasks_len, uint32_t ticks,
                                    const uint32_t *jobs, size_t jobs_len, uint32_t *counts, size_t counts_len);
 
+struct palikudyom_answer plain_replay(uint32_t frame, const uint32_t *windows, size_t windows_len, const uint32_t *tasks, size_t tasks_len,
+                                      const uint8_t *trace, size_t trace_len);
+
 /* The same run, but late jobs are looked for in all 32 places at every tick. */
 struct palikudyom_answer plain_run_every_tick(uint32_t frame, const uint32_t *windows, size_t windows_len, const uint32_t *tasks, size_t tasks_len,
                                                 uint32_t ticks, const uint32_t *jobs, size_t jobs_len, uint32_t *counts, size_t counts_len);
+
+/*
+ * The last bytes of a file's code, in a line of 64 of their own. The linker goes on with the next file, after bench.c with plain.c and after that with
+ * the library: each begins 16 bytes into a line, whatever comes before. Where a loop lies in such lines can cost it a quarter of its time.
+ */
+#define END_OF_FILE                                                                                  \
+    __attribute__((used, aligned(64), section(".text.end_of_file"))) static void end_of_file(void) \
+    {                                                                                                \
+    }
 
 #endif
