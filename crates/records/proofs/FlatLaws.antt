@@ -1,12 +1,12 @@
 -- The numbers of a group's first records, as they are written one record after the other
 use mathlib.Core.Path.{_≡_, refl, sym, ap, _∙_}
-use mathlib.Core.List.{List, [], _∷_, _++_, append-assoc}
+use mathlib.Core.List.{List, [], _∷_, _++_}
 use Prim.Native.Nat.{ℕ, zero, suc, _+_, _*_, _<_, _≤_, min}
 use native.Mathlib.Omega.{arith}
 use native.Mathlib.Numerals.{add-one}
 use native.Mathlib.Decide.{decLe}
-use lib.ListN.{length, getD, take, set, length-set, length-map}
-use lib.Seq.{length-take-le, take-suc-set, take-all, take-nil}
+use lib.ListN.{length, getD, take, length-map}
+use lib.Seq.{length-take-le, take-all, take-nil}
 use mir.Val.{Val}
 use denote.Laws.{Is}
 use denote.Struct.Laws as LL

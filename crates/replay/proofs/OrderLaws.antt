@@ -10,8 +10,8 @@ use native.Mathlib.Decide.{ℕ-discrete, decLt}
 use lib.Dec.{eqb}
 use lib.ListN.{length, take, length-append, length-take}
 use lib.Seq.{getD-at, take-at, getD-take, take-take}
-use borrow.Author.Tests.{lt-ltb, le-ltb, eq-eqb, ne-eqb, eqb-true, not-false}
-use Rattle.scope.specs.Numbers.{lexically, first, bit, pieces, piecesFrom}
+use borrow.Author.Tests.{le-ltb, eq-eqb, eqb-true, not-false}
+use Rattle.scope.specs.Numbers.{first, bit, pieces, piecesFrom}
 use Rattle.scope.specs.Limits.{mostTicks, mostJobs}
 use Rattle.scope.specs.Tasks.{Task, tasksOf}
 use Rattle.scope.specs.Jobs.{Job, job, jobsOf, jobLegal, badJob}

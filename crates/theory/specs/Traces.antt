@@ -16,7 +16,7 @@ use Rattle.scope.specs.Plan.{Read, Read.read, Read.bad, andRead, readNumber, nu
 use Rattle.scope.specs.Trace.{Stamped, readKind, readWork, readRecord, recordsWithin, traceOf, elapsed, Record, timedFrom, firstStamp, timed, lastInstant}
 use Rattle.scope.specs.Trace.{ticksOf, recordAt, recordBytes, traceBytes, stampedFrom, shifted}
 use Rattle.scope.specs.Replay.{replayAnswer}
-use Rattle.theory.specs.Every.{Every, EveryTwo, every-at, every-imp}
+use Rattle.theory.specs.Every.{Every, EveryTwo, every-imp}
 use Rattle.theory.specs.Seven.{bad-not-read, number-most, written-number, written-groups}
 use Rattle.theory.specs.Reading.{groups-size}
 use Rattle.theory.specs.Series.{drop-past}
