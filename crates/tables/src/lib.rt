@@ -1,6 +1,7 @@
 // What a table and a group are, their checks, and what every entry answers. Each public function is total: any numbers at all may be lent.
 pub mod answer;
 pub mod board;
+pub mod cursor;
 pub mod length;
 pub mod list;
 pub mod task;

@@ -45,7 +45,7 @@ impl Window {
     }
 
     // Whether the window gives tick k of a frame.
-    fn holds(self, board: Board, k: u64) -> bool
+    pub(crate) fn holds(self, board: Board, k: u64) -> bool
         ensures { λ r. ⌜ r ≡ gives (boardOf board) (windowOf self) k ⌝ }
     {
         let start = self.start as u64;

@@ -8,10 +8,10 @@ use native.Mathlib.Omega.{arith}
 use native.Mathlib.Nat.{mod-eq-of-lt}
 use native.Mathlib.Decide.{ℕ-discrete, decLt}
 use lib.Dec.{leb, ltb}
-use lib.ListN.{length}
+use lib.ListN.{length, List·getD-eq-default}
 use borrow.Author.Tests.{ltb-true, leb-true, lt-ltb, le-ltb, le-leb, lt-leb, ne-eqb, not-false}
 use Rattle.scope.specs.Ticks.{Periodic}
-use Rattle.scope.specs.Windows.{Board, Window, windowAt, windowFits, gives, covers, supplied, windowLegal, badWindow}
+use Rattle.scope.specs.Windows.{Board, Window, window, windowAt, windowFits, gives, covers, supplied, windowLegal, badWindow}
 use Rattle.theory.specs.Numbers.{and-both, both-and, first-none}
 use Rattle.theory.specs.Windows.{supplied-periodic}
 
@@ -111,6 +111,26 @@ module _ (b : Board) (ws : List Window) (legal : badWindow b ws ≡ none) where
   off-gap i k h l m =
       here k (omega (arith, fits i h)) ∙ covers-no b k ws
       (λ j u. elim (decLt j i) [ yes v ↦ none-up-to (i - 1) k (omega arith) l j (omega arith) | no v ↦ none-from i k h m j (omega arith) u ])
+
+  -- where the windows before window i have ended by k, and window i, if there is one, has not, only window i can give k
+  pub covers-by : (i k : ℕ) → i ≤ length ws → (0 < i → endOf (i - 1) ≤ k) → (i < length ws → k < endOf i) → covers b ws k ≡ gives b (windowAt ws i) k
+  covers-by i k h past ahead =
+      elim (decLt i (length ws)) [
+        | yes l ↦ elim (decLt k (startOf i)) [
+          | yes m ↦
+              let none-here : gives b (windowAt ws i) k ≡ false = gives-before b (windowAt ws i) k m in
+              covers-no b k ws (λ j u. elim (decLt j i) [ yes v ↦ before-it j v | no v ↦ none-from i k l m j (omega arith) u ]) ∙ sym none-here
+          | no m ↦
+              let here-it : gives b (windowAt ws i) k ≡ true = gives-in b (windowAt ws i) k (omega arith) (ahead l) in
+              covers-at b k ws i l here-it ∙ sym here-it
+        ]
+        | no l ↦
+            let past-it : windowAt ws i ≡ window 0 0 = List·getD-eq-default ws (window 0 0) (omega arith) in
+            covers-no b k ws (λ j u. before-it j (omega arith)) ∙ sym (ap (λ (w : Window). gives b w k) past-it ∙ gives-after b (window 0 0) k (omega arith))
+      ]
+    where
+      before-it : (j : ℕ) → j < i → gives b (windowAt ws j) k ≡ false
+      before-it j v = none-up-to (i - 1) k (omega arith) (past (omega arith)) j (omega arith)
 
   off-tail : (k : ℕ) → endOf (length ws - 1) ≤ k → k < b .frame → σ k ≡ false
   off-tail k l m = here k m ∙ covers-no b k ws (λ j u. none-up-to (length ws - 1) k (omega arith) l j (omega arith))
