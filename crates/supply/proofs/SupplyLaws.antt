@@ -1,35 +1,22 @@
--- Supply as the loops count it: tick by tick, start by start, and by whole frames
-use mathlib.Core.Path.{_≡_, refl, ap}
+-- The least supply as the code finds it: one start where a window ends after the other, and by whole frames
+use mathlib.Core.Path.{_≡_, refl, sym, ap, _∙_}
 use mathlib.Core.Bool.{Bool}
-use Prim.Native.Nat.{ℕ, _+_, _*_, _/_, _%_, _≤_, min}
+use mathlib.Core.List.{List}
+use Prim.Native.Nat.{ℕ, _+_, _-_, _*_, _/_, _%_, _≤_, _<_, min}
 use native.Mathlib.Omega.{arith}
-use native.Mathlib.Nat.{mod-add-div', le-trans}
-use native.Mathlib.Numerals.{add-one}
-use Rattle.scope.specs.Numbers.{bit, least}
+use native.Mathlib.Nat.{zero-add, mod-add-div', le-trans, le-antisymm}
+use lib.ListN.{length}
+use borrow.Author.Count.{below-more}
+use Rattle.scope.specs.Limits.{mostFrame}
 use Rattle.scope.specs.Ticks.{Periodic, supply, perFrame, leastSupply}
-use Rattle.theory.specs.Ticks.{supply-le, least-over-all-starts, least-frames}
-
--- ---- tick by tick, and start by start
-
-module _ (σ : ℕ → Bool) where
-  pub supply-none : (s : ℕ) → supply σ s 0 ≡ 0
-  unfolding supply
-  supply-none s = refl
-
-  -- one tick more
-  pub supply-more : (s n : ℕ) → supply σ s (n + 1) ≡ supply σ s n + bit (σ (s + n))
-  unfolding supply
-  supply-more s n = rw (add-one n)
-
-  -- over no start: the supply from 0
-  pub least-first : (t : ℕ) → leastSupply σ 0 t ≡ supply σ 0 t
-  unfolding leastSupply least
-  least-first t = refl
-
-  -- one start more
-  pub least-more : (n t : ℕ) → leastSupply σ (n + 1) t ≡ min (leastSupply σ n t) (supply σ n t)
-  unfolding leastSupply least
-  least-more n t = rw (add-one n)
+use Rattle.scope.specs.Windows.{Board, Window, windowsOf, windowAt, suppliedBy}
+use Rattle.theory.specs.Answers.{LegalTable}
+use Rattle.theory.specs.Ticks.{supply-le, supply-up, least-over-all-starts, least-frames}
+use Rattle.theory.specs.Rows as rows
+use Rattle.theory.specs.Rows.{startOf, endOf, table-row, supply-between, ends-enough, place-first, place-end, place-next, place-round, place-whole}
+use Rattle.supply.specs.declared.row.Place.{Place}
+use Rattle.supply.specs.Places.{first, Behind}
+use Rattle.supply.proofs.PlaceLaws.{behind-on, behind-first}
 
 -- ---- by whole frames
 
@@ -42,3 +29,83 @@ module _ (σ : ℕ → Bool) (P : ℕ) (per : Periodic σ P) where
   -- no more than there are ticks
   pub least-at-most : (t : ℕ) → leastSupply σ P t ≤ t
   least-at-most t = le-trans (least-over-all-starts σ P per 0 t) (supply-le σ 0 t)
+
+-- ---- start by start
+
+module _ (b : Board) (ws : List ℕ) (ok : LegalTable b ws) (t : ℕ) where
+  abbrev σ : ℕ → Bool
+  σ = suppliedBy b ws
+
+  abbrev P : ℕ
+  P = b .frame
+
+  abbrev n : ℕ
+  n = length ws / 2
+
+  abbrev row : rows.Row σ P n (startOf ws) (endOf ws)
+  row = table-row b ws ok
+
+  -- the ends of the first i windows are tried as starts: none of them has less than `low`. `earlier` ticks are supplied before window i, and the place
+  -- is not past the end of a stretch from there
+  pub record Tried (i low earlier : ℕ) (p : Place) : Type 0 where
+    pub few : i ≤ n
+    pub least : leastSupply σ P t ≤ low
+    pub each : (k : ℕ) → k < i → low ≤ supply σ (endOf ws k) t
+    pub sum : i < n → rows.Place σ P n (startOf ws) (endOf ws) row i 0 earlier
+    pub whole : n ≤ i → earlier ≡ perFrame σ P
+    pub behind : i < n → Behind b ws p (startOf ws i + t)
+
+  pub tried-none : (p : Place) → p ≡ first → Tried 0 t 0 p
+  tried-none p e = record {
+    few = omega arith;
+    least = least-at-most σ P (row .repeats) t;
+    each = λ k h. absurd (omega arith);
+    sum = λ h. place-first σ P n (startOf ws) (endOf ws) row;
+    whole = λ h. absurd (omega (arith, row .some));
+    behind = λ h. behind-first b ws ok p e (startOf ws 0 + t);
+  }
+
+  module _ (i low earlier : ℕ) (p : Place) (so : Tried i low earlier p) (h : i < n) (w : Window) (read : w ≡ windowAt (windowsOf ws) i) where
+    starts : w .start ≡ startOf ws i
+    starts = ap (λ (v : Window). v .start) read
+
+    ends : w .end ≡ endOf ws i
+    ends = ap (λ (v : Window). v .end) read
+
+    -- where the window that is read stands
+    pub window-in : (w .start ≤ w .end) × (w .end ≤ P)
+    window-in = omega (arith, starts, ends, row .order i h, row .inside i h)
+
+    pub still-behind : Behind b ws p (w .end + t)
+    still-behind = behind-on b ws p (startOf ws i + t) (w .end + t) (omega (arith, starts, ends, window-in .0)) (so .behind h)
+
+    abbrev passed : ℕ
+    passed = earlier + (w .end - w .start)
+
+    -- what is supplied before the start that is tried
+    pub before-start : passed ≡ supply σ 0 (w .end)
+    before-start = rw (starts, ends) (place-end σ P n (startOf ws) (endOf ws) row i 0 earlier (so .sum h) ∙ ap (supply σ 0) (zero-add (endOf ws i)))
+
+    module _ (all : ℕ) (told : all ≡ supply σ 0 (w .end + t)) where
+      -- and in the stretch
+      pub here : (passed ≤ all) × (all - passed ≡ supply σ (endOf ws i) t)
+      here = omega (arith, before-start, supply-between σ (w .end) t, ap (λ (k : ℕ). supply σ k t) ends)
+
+      pub tried-next : (q : Place) → Behind b ws q (w .end + t) → Tried (i + 1) (min low (all - passed)) passed q
+      tried-next q at = record {
+        few = omega arith;
+        least = omega (arith, so .least, here .1, least-over-all-starts σ P (row .repeats) (endOf ws i) t);
+        each = below-more (λ (k : ℕ). min low (all - passed) ≤ supply σ (endOf ws k) t) i (λ k u. omega (arith, so .each k u)) (omega (arith, here .1));
+        sum = λ u. rw (starts, ends) (place-next σ P n (startOf ws) (endOf ws) row i 0 earlier (so .sum h) u);
+        whole = λ u.
+            place-whole σ P n (startOf ws) (endOf ws) row passed
+            (rw (starts, ends) (place-round σ P n (startOf ws) (endOf ws) row i 0 earlier (so .sum h) u));
+        behind = λ u. behind-on b ws q (w .end + t) (startOf ws (i + 1) + t) (omega (arith, ends, row .apart i u)) at;
+      }
+
+  -- all are tried
+  pub all-tried : (i low earlier : ℕ) (p : Place) → n ≤ i → Tried i low earlier p → (low ≡ leastSupply σ P t) × (earlier ≡ perFrame σ P)
+  all-tried i low earlier p h so = (
+    le-antisymm (ends-enough σ P n (startOf ws) (endOf ws) row t low (λ k u. so .each k (omega arith))) (so .least),
+    so .whole h,
+  )

@@ -1,4 +1,5 @@
-pub mod Slid
+pub mod Places
+pub mod Marks
 pub mod Refused
 pub mod Outage
 pub mod Applied

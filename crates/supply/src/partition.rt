@@ -1,5 +1,4 @@
-use crate::supply::least_of;
-use crate::supply::supply_from;
+use crate::supply::least_at_ends;
 use tables::answer::Amount;
 use tables::answer::Checked;
 use tables::answer::Delay;
@@ -11,38 +10,65 @@ ghost use mathlib.Core.Path.{_≡_};
 ghost use Prim.Native.Nat.{_+_, _-_, _<_, _≤_, max};
 ghost use lib.ListN.{length};
 ghost use Rattle.scope.specs.Limits.{mostFrame};
-ghost use Rattle.scope.specs.Numbers.{written};
+ghost use Rattle.scope.specs.Numbers.{bit, written};
 ghost use Rattle.scope.specs.Ticks.{perFrame};
 ghost use Rattle.scope.specs.Windows.{suppliedBy};
-ghost use Rattle.scope.specs.Partition.{rises, within, lag, delay as delayBy, outage as outageBy};
-ghost use Rattle.scope.specs.Answers.{criticalOf, criticalAnswer, criticalOut, delayAnswer, outageAnswer};
+ghost use Rattle.scope.specs.Partition.{rises, within, maximalRuns, lag, delay as delayBy, outage as outageBy};
+ghost use Rattle.scope.specs.Answers.{criticalAnswer, criticalOut, delayAnswer, outageAnswer};
 ghost use Rattle.theory.specs.Answers.{LegalTable};
 ghost use Rattle.tables.specs.Told.{boardOf, no, toldAmount, toldDelay};
+ghost use Rattle.supply.specs.Marks.{marked, Marked};
 
-// Whether k is a tick of the frame at which the least supply rises.
-fn is_critical(board: Board, windows: &[u32], k: u32) -> bool
-    ensures { λ r. ⌜ r ≡ within (rises (suppliedBy (boardOf board) (now (windows .entry))) (board .frame)) (board .frame) k ⌝ }
+// The marks of a frame's ticks, none set.
+fn unmarked() -> [u8; Board::LONGEST as usize]
+    ensures { λ r. ⌜ length r ≡ mostFrame ⌝ }
+{
+    [0; Board::LONGEST as usize]
+}
+
+fn mark(set: bool) -> u8
+    ensures { λ r. ⌜ r ≡ bit set ⌝ }
+{
+    if set { 1 } else { 0 }
+}
+
+// Marks the ticks of a frame at which the least supply rises: each length is asked for once.
+fn mark_rises(board: Board, windows: &[u32], marks: &mut [u8])
+    requires { ⌜ LegalTable (boardOf board) (now windows) × (board .frame ≤ length (now marks)) ⌝ }
+    ensures { λ _. ⌜ Marked (rises (suppliedBy (boardOf board) (now (windows .entry))) (board .frame)) (board .frame) (now (marks .exit)) ⌝ }
 {
     let frame = board.frame;
+    let mut least = 0;
+    let mut k = 0;
+    while k < frame {
+        let next = least_at_ends(board, windows, k + 1);
+        marks[k as usize] = mark(least < next.supply);
+        least = next.supply;
+        k += 1;
+    }
+}
+
+// Whether k is a tick of the frame that is marked.
+fn is_marked(frame: u32, marks: &[u8], k: u32) -> bool
+    requires { ⌜ frame ≤ length (now marks) ⌝ }
+    ensures { λ r. ⌜ r ≡ within (marked (now (marks .entry))) frame k ⌝ }
+{
     if frame <= k {
         return false;
     }
-    let here = least_of(board, windows, k);
-    let next = least_of(board, windows, k + 1);
-    here < next
+    marks[k as usize] == 1
 }
 
-// How many numbers the critical partition has.
-fn count_edges(board: Board, windows: &[u32]) -> u32
-    requires { ⌜ board .frame ≤ mostFrame ⌝ }
-    ensures { λ r. ⌜ r ≡ length (criticalOf (boardOf board) (now (windows .entry))) ⌝ }
+// How many numbers the maximal runs of marked ticks have.
+fn count_edges(frame: u32, marks: &[u8]) -> u32
+    requires { ⌜ (frame ≤ mostFrame) × (frame ≤ length (now marks)) ⌝ }
+    ensures { λ r. ⌜ r ≡ length (maximalRuns (marked (now (marks .entry))) frame) ⌝ }
 {
-    let frame = board.frame;
     let mut n = 0;
     let mut before = false;
     let mut k = 0;
     while k < frame + 1 {
-        let here = is_critical(board, windows, k);
+        let here = is_marked(frame, marks, k);
         if here != before {
             n += 1;
         }
@@ -52,17 +78,16 @@ fn count_edges(board: Board, windows: &[u32]) -> u32
     n
 }
 
-// Writes the critical partition at the front of out.
-fn write_edges(board: Board, windows: &[u32], out: &mut [u32])
-    requires { ⌜ (board .frame ≤ mostFrame) × (length (criticalOf (boardOf board) (now windows)) ≤ length (now out)) ⌝ }
-    ensures { λ r. ⌜ now (out .exit) ≡ written (criticalOf (boardOf board) (now (windows .entry))) (now (out .entry)) ⌝ }
+// Writes them at the front of out.
+fn write_edges(frame: u32, marks: &[u8], out: &mut [u32])
+    requires { ⌜ (frame ≤ mostFrame) × (frame ≤ length (now marks)) × (length (maximalRuns (marked (now marks)) frame) ≤ length (now out)) ⌝ }
+    ensures { λ r. ⌜ now (out .exit) ≡ written (maximalRuns (marked (now (marks .entry))) frame) (now (out .entry)) ⌝ }
 {
-    let frame = board.frame;
     let mut at: usize = 0;
     let mut before = false;
     let mut k = 0;
     while k < frame + 1 {
-        let here = is_critical(board, windows, k);
+        let here = is_marked(frame, marks, k);
         if here != before {
             out[at] = k;
             at += 1;
@@ -88,12 +113,15 @@ pub fn critical(board: Board, windows: &[u32], out: &mut [u32]) -> Amount
     match check_table(board, windows) {
         Checked::Bad(r) => refuse(r, out),
         Checked::Fine => {
-            let numbers = count_edges(board, windows) as u64;
+            let frame = board.frame;
+            let mut marks = unmarked();
+            mark_rises(board, windows, &mut marks);
+            let numbers = count_edges(frame, &marks) as u64;
             let count = numbers / 2;
             if (out.len() as u64) < numbers {
                 refuse(Refusal::Room(numbers), out)
             } else {
-                write_edges(board, windows, out);
+                write_edges(frame, &marks, out);
                 Amount::Of(count)
             }
         }
@@ -102,18 +130,18 @@ pub fn critical(board: Board, windows: &[u32], out: &mut [u32]) -> Amount
 
 // A·t − P·(least supply of t), where `whole` is A.
 fn lag_of(board: Board, windows: &[u32], whole: u32, t: u32) -> u64
-    requires { ⌜ (0 < board .frame) × (board .frame ≤ mostFrame) × (t ≤ board .frame)
+    requires { ⌜ LegalTable (boardOf board) (now windows) × (t ≤ board .frame)
         × (whole ≡ perFrame (suppliedBy (boardOf board) (now windows)) (board .frame)) ⌝ }
     ensures { λ r. ⌜ r ≡ lag (suppliedBy (boardOf board) (now (windows .entry))) (board .frame) t ⌝ }
 {
     let frame = board.frame;
-    let least = least_of(board, windows, t);
-    (whole as u64) * (t as u64) - (frame as u64) * (least as u64)
+    let least = least_at_ends(board, windows, t);
+    (whole as u64) * (t as u64) - (frame as u64) * (least.supply as u64)
 }
 
 // The greatest of these over t in 0 to P.
 fn delay_of(board: Board, windows: &[u32], whole: u32) -> u64
-    requires { ⌜ (0 < board .frame) × (board .frame ≤ mostFrame) × (whole ≡ perFrame (suppliedBy (boardOf board) (now windows)) (board .frame)) ⌝ }
+    requires { ⌜ LegalTable (boardOf board) (now windows) × (whole ≡ perFrame (suppliedBy (boardOf board) (now windows)) (board .frame)) ⌝ }
     ensures { λ r. ⌜ r ≡ delayBy (suppliedBy (boardOf board) (now (windows .entry))) (board .frame) ⌝ }
 {
     let frame = board.frame;
@@ -136,8 +164,7 @@ pub fn delay(board: Board, windows: &[u32]) -> Delay
     match check_table(board, windows) {
         Checked::Bad(r) => Delay::Refused(r),
         Checked::Fine => {
-            let frame = board.frame;
-            let per_frame = supply_from(board, windows, 0, frame);
+            let per_frame = least_at_ends(board, windows, 0).whole;
             let delay = delay_of(board, windows, per_frame);
             Delay::Of { delay, per_frame }
         }

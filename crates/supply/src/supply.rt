@@ -1,3 +1,6 @@
+use crate::row::Place;
+use crate::row::moved;
+use crate::row::upto;
 use tables::answer::Amount;
 use tables::answer::Checked;
 use tables::answer::Supplied;
@@ -5,66 +8,62 @@ use tables::board::Board;
 use tables::length::check_length;
 use tables::window::check_table;
 use tables::window::is_on;
+use tables::window::window_at;
 ghost use mathlib.Core.Path.{_≡_};
-ghost use Prim.Native.Nat.{_<_};
-ghost use Rattle.scope.specs.Numbers.{bit};
-ghost use Rattle.scope.specs.Ticks.{supply, leastSupply};
+ghost use Prim.Native.Nat.{_≤_, min};
+ghost use Rattle.scope.specs.Limits.{mostLength};
+ghost use Rattle.scope.specs.Ticks.{perFrame, leastSupply};
 ghost use Rattle.scope.specs.Windows.{suppliedBy};
 ghost use Rattle.scope.specs.Answers.{suppliedAnswer, leastSupplyAnswer};
+ghost use Rattle.theory.specs.Answers.{LegalTable};
 ghost use Rattle.tables.specs.Told.{boardOf, toldSupplied, toldAmount};
 
-// 1 for a supplied tick, 0 for another.
-pub fn tick_of(board: Board, windows: &[u32], tick: u64) -> u32
-    ensures { λ r. ⌜ r ≡ bit (suppliedBy (boardOf board) (now (windows .entry)) tick) ⌝ }
-{
-    if is_on(board, windows, tick) { 1 } else { 0 }
+// The least supply of a length, and A, which is the whole frame's.
+pub(crate) struct Least {
+    pub supply: u32,
+    pub whole: u32,
 }
 
-// The supplied ticks among the `length` ticks from `start` on.
-pub fn supply_from(board: Board, windows: &[u32], start: u32, length: u32) -> u32
-    ensures { λ r. ⌜ r ≡ supply (suppliedBy (boardOf board) (now (windows .entry))) start length ⌝ }
+fn lesser(a: u32, b: u32) -> u32
+    ensures { λ r. ⌜ r ≡ min a b ⌝ }
 {
-    let mut n = 0;
+    if b < a { b } else { a }
+}
+
+// The least supply of a length of at most a frame, over the starts where a window ends. Both ends of the stretch only move forward: what is supplied
+// before its start is the sum of the windows so far, what is supplied before its end is told by a place in the row.
+pub(crate) fn least_at_ends(board: Board, windows: &[u32], length: u32) -> Least
+    requires { ⌜ LegalTable (boardOf board) (now windows) × (length ≤ board .frame) ⌝ }
+    ensures { λ r. ⌜ (r .supply ≡ leastSupply (suppliedBy (boardOf board) (now (windows .entry))) (board .frame) length)
+        × (r .whole ≡ perFrame (suppliedBy (boardOf board) (now (windows .entry))) (board .frame)) ⌝ }
+{
+    let count = windows.len() / 2;
+    let mut least = length;
+    let mut earlier = 0;
+    let mut place = Place::first();
     let mut i = 0;
-    while i < length {
-        n += tick_of(board, windows, start as u64 + i as u64);
+    while i < count {
+        let window = window_at(windows, i);
+        let end = window.end + length;
+        earlier += window.end - window.start;
+        place = moved(board, windows, place, end);
+        least = lesser(least, upto(windows, place, end) - earlier);
         i += 1;
     }
-    n
+    Least {
+        supply: least,
+        whole: earlier,
+    }
 }
 
-// The least supply over the starts of a frame, by moving the start tick by tick.
-fn least_over_starts(board: Board, windows: &[u32], length: u32) -> u32
-    requires { ⌜ length < 4294967295 ⌝ }
+// The least supply of a length: A for each whole frame, and the least supply of the rest.
+fn least_of(board: Board, windows: &[u32], length: u32) -> u32
+    requires { ⌜ LegalTable (boardOf board) (now windows) × (length ≤ mostLength) ⌝ }
     ensures { λ r. ⌜ r ≡ leastSupply (suppliedBy (boardOf board) (now (windows .entry))) (board .frame) length ⌝ }
 {
     let frame = board.frame;
-    let mut n = supply_from(board, windows, 0, length);
-    let mut least = n;
-    let mut start = 0;
-    while start < frame {
-        if n < least {
-            least = n;
-        }
-        let comes = tick_of(board, windows, start as u64 + length as u64);
-        let goes = tick_of(board, windows, start as u64);
-        n = n + comes - goes;
-        start += 1;
-    }
-    least
-}
-
-// The least supply of a length: A for each whole frame, and the least supply of the rest. With a frame of no ticks the only start is 0.
-pub fn least_of(board: Board, windows: &[u32], length: u32) -> u32
-    ensures { λ r. ⌜ r ≡ leastSupply (suppliedBy (boardOf board) (now (windows .entry))) (board .frame) length ⌝ }
-{
-    let frame = board.frame;
-    if frame == 0 {
-        return supply_from(board, windows, 0, length);
-    }
-    let whole = supply_from(board, windows, 0, frame);
-    let rest = least_over_starts(board, windows, length % frame);
-    length / frame * whole + rest
+    let rest = least_at_ends(board, windows, length % frame);
+    length / frame * rest.whole + rest.supply
 }
 
 // Whether a tick is supplied. Refusals 1 2 3.

@@ -17,6 +17,7 @@ pub mod Exact
 pub mod Bound
 pub mod Outage
 pub mod LongestGap
+pub mod Rows
 pub mod Spaced
 pub mod Jobs
 pub mod Reached

@@ -1,0 +1,32 @@
+use mathlib.Core.Path.{ap}
+use native.Mathlib.Omega.{arith}
+use Prim.Native.Nat.{_-_}
+use borrow.Author.Needs.{needs}
+use Rattle.scope.specs.Windows.{Window}
+use Rattle.supply.proofs.row.upto.Statement.{statement}
+use Rattle.supply.proofs.row.upto.Tie as tie
+use Rattle.supply.proofs.row.upto.Reads as reads
+use Rattle.supply.proofs.row.upto.Lts as lts
+use Rattle.tables.proofs.window.window_at.Reads as window-at-reads
+
+window-at-requires : tie.Need-window-at-requires
+window-at-requires c κs = search needs
+
+add-start : tie.Need-add-start
+add-start c = omega (arith, ap (λ (w : Window). w .start) (c .before .window-at .ensures))
+
+returns : tie.Need-returns
+returns c = omega (arith, ap (λ (w : Window). w .start) (c .before .before .window-at .ensures))
+
+sub-result : tie.Need-sub-result
+sub-result c = search needs
+
+add-result : tie.Need-add-result
+add-result c = omega (arith, ap (λ (w : Window). w .start) (c .before .before .window-at .ensures))
+
+returns-2 : tie.Need-returns-2
+returns-2 c = omega (arith, ap (λ (w : Window). w .start) (c .before .before .window-at .ensures))
+
+pub upto-spec : {M : Type 1} → statement M
+upto-spec =
+    tie.close (tie.spec window-at-requires add-start returns sub-result add-result returns-2)

@@ -1,0 +1,143 @@
+use mathlib.Core.Path.{_≡_, _∙_}
+use mathlib.Core.List.{List}
+use native.Mathlib.Omega.{arith}
+use Prim.Native.Nat.{ℕ, _+_, _-_, _/_, _≤_, _<_}
+use lib.ListN as lists
+use borrow.Author.Needs.{needs}
+use Rattle.scope.specs.Limits.{mostFrame}
+use Rattle.scope.specs.Ticks.{supply}
+use Rattle.scope.specs.Windows.{Board, Window, suppliedBy}
+use Rattle.theory.specs.Ticks.{supply-le}
+use Rattle.theory.specs.Answers.{LegalTable}
+use Rattle.tables.specs.Told.{boardOf, windowOf}
+use Rattle.supply.proofs.PlaceLaws.{small, upto-is}
+use Rattle.supply.proofs.SupplyLaws.{Tried, tried-none, window-in, still-behind, before-start, here, tried-next, all-tried}
+use Rattle.supply.proofs.supply.least_at_ends.Statement.{statement}
+use Rattle.supply.proofs.supply.least_at_ends.Tie as tie
+use Rattle.supply.proofs.supply.least_at_ends.Reads as reads
+use Rattle.supply.proofs.supply.least_at_ends.Lts as lts
+use Rattle.supply.proofs.row.Place.first.Reads as first-reads
+use Rattle.supply.proofs.row.moved.Reads as moved-reads
+use Rattle.supply.proofs.row.upto.Reads as upto-reads
+use Rattle.supply.proofs.supply.lesser.Reads as lesser-reads
+use Rattle.tables.proofs.window.window_at.Reads as window-at-reads
+
+abbrev Inv-loop : tie.InvT-loop
+Inv-loop board windows length count least₀ earlier₀ place₀ i₀ least earlier place i =
+    (ok : LegalTable (boardOf board) windows) × Tried (boardOf board) windows ok length i least earlier place
+
+abbrev μ-loop : tie.MeasureT-loop
+μ-loop board windows length count least₀ earlier₀ place₀ i₀ least earlier place i = count - i
+
+first-requires : tie.Need-first-requires Inv-loop μ-loop
+first-requires c κs = search needs
+
+loop-holds : tie.Need-loop-holds Inv-loop μ-loop
+loop-holds c = let ok = c .before .before .pre .0 in (ok, tried-none _ _ ok _ _ (c .first .ensures))
+
+window-at-requires : tie.Need-window-at-requires Inv-loop μ-loop
+window-at-requires c κs = search needs
+
+-- what is known of the window that is read, whose end is tried as a start
+record Known (b : Board) (ws : List ℕ) (t earlier : ℕ) (w : Window) : Type 0 where
+  pub order : w .start ≤ w .end
+  pub inside : w .end ≤ b .frame
+  pub passed : earlier + (w .end - w .start) ≤ b .frame
+  pub frame-most : b .frame ≤ mostFrame
+  pub short : t ≤ b .frame
+
+known : (c : tie.After-window-at Inv-loop μ-loop) →
+    let a = c .before .before .before .before .before .args in
+    Known (boardOf (a .board)) (a .windows .now) (a .length) (c .before .before .loop .earlier) (windowOf (c .window-at .result))
+known c =
+    let e = c .before .before .before .before .before in
+    let l = c .before .before .loop in
+    let b = boardOf (e .args .board) in
+    let ws = e .args .windows .now in
+    let w = windowOf (c .window-at .result) in
+    let read = c .window-at .ensures in
+    let h : l .i < lists.length ws / 2 = omega arith in
+    let inside = window-in b ws (l .inv .0) (e .args .length) (l .i) (l .least) (l .earlier) (l .place) (l .inv .1) h w read in
+    record {
+      order = inside .0;
+      inside = inside .1;
+      passed = omega (
+        arith,
+        inside .1,
+        before-start b ws (l .inv .0) (e .args .length) (l .i) (l .least) (l .earlier) (l .place) (l .inv .1) h w read,
+        supply-le (suppliedBy b ws) 0 (w .end),
+      );
+      frame-most = l .inv .0 .frame-most;
+      short = e .pre .1;
+    }
+
+add-end : tie.Need-add-end Inv-loop μ-loop
+add-end c = omega (arith, known (c .before))
+
+sub-earlier : tie.Need-sub-earlier Inv-loop μ-loop
+sub-earlier c = known (c .before .before) .order
+
+add-earlier : tie.Need-add-earlier Inv-loop μ-loop
+add-earlier c = omega (arith, known (c .before .before))
+
+moved-requires : tie.Need-moved-requires Inv-loop μ-loop
+moved-requires c κs =
+    let l = c .before .before .before .before .loop in
+    (still-behind _ _ (l .inv .0) _ (l .i) _ _ _ (l .inv .1) (omega arith) _ (c .before .before .window-at .ensures), omega (arith, known (c .before .before)))
+
+upto-requires : tie.Need-upto-requires Inv-loop μ-loop
+upto-requires c κs =
+    let m = c .moved in omega (arith, small _ _ (m .result) (m .ensures .0 .stands), known (c .before .before .before))
+
+-- what the place tells
+all-is : (c : tie.After-upto Inv-loop μ-loop) → let a = c .before .before .before .before .before .before .before .before .before .args in
+    c .upto .result ≡ supply (suppliedBy (boardOf (a .board)) (a .windows .now)) 0 (c .before .before .before .before .window-at .result .end + a .length)
+all-is c = let m = c .before .moved in c .upto .ensures ∙ upto-is _ _ (m .result) _ (m .ensures .0) (m .ensures .1)
+
+sub-lesser : tie.Need-sub-lesser Inv-loop μ-loop
+sub-lesser c =
+    let w = c .before .before .before .before in
+    let l = w .before .before .loop in
+    here _ _ (l .inv .0) _ (l .i) _ _ _ (l .inv .1) (omega arith) _ (w .window-at .ensures) _ (all-is c) .0
+
+lesser-requires : tie.Need-lesser-requires Inv-loop μ-loop
+lesser-requires c κs = search needs
+
+add-i : tie.Need-add-i Inv-loop μ-loop
+add-i c = search needs
+
+loop-less : tie.Need-loop-less Inv-loop μ-loop
+loop-less c = search needs
+
+loop-again : tie.Need-loop-again Inv-loop μ-loop
+loop-again c =
+    let u = c .before in
+    let w = u .before .before .before .before in
+    let l = w .before .before .loop in (
+      l .inv .0,
+      rw (c .lesser .ensures) (tried-next _ _ (l .inv .0) _ (l .i) _ _ _ (l .inv .1) (omega arith) _ (w .window-at .ensures) _ (all-is u) _ (u .before .moved .ensures .0)),
+    )
+
+returns : tie.Need-returns Inv-loop μ-loop
+returns c = let l = c .before .loop in all-tried _ _ (l .inv .0) _ (l .i) _ _ _ (omega arith) (l .inv .1)
+
+pub least-at-ends-spec : {M : Type 1} → statement M
+least-at-ends-spec =
+    tie.close
+    (tie.spec
+    Inv-loop
+    μ-loop
+    first-requires
+    loop-holds
+    window-at-requires
+    add-end
+    sub-earlier
+    add-earlier
+    moved-requires
+    upto-requires
+    sub-lesser
+    lesser-requires
+    add-i
+    loop-less
+    loop-again
+    returns)
