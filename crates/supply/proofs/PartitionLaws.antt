@@ -1,5 +1,5 @@
 -- The loops over the ticks of a frame, turn by turn: the critical partition and the delay
-use mathlib.Core.Path.{_≡_, refl, sym, ap, _∙_}
+use mathlib.Core.Path.{_≡_, refl, sym, ap, _∙_, fun-ext}
 use mathlib.Core.Bool.{Bool, true, false, cond, not, _&&_, Bool·beq}
 use mathlib.Core.List.{List, [], _∷_, _++_}
 use mathlib.Core.Logic.{inl, inr}
@@ -7,18 +7,22 @@ use Prim.Native.Nat.{ℕ, zero, suc, _+_, _-_, _≤_, _<_, max}
 use native.Mathlib.Nat.{add-zero}
 use native.Mathlib.Numerals.{add-one}
 use native.Mathlib.Omega.{arith}
-use lib.Dec.{ltb}
+use native.Mathlib.Decide.{decLt}
+use lib.Dec.{ltb, eqb}
 use lib.ListN.{length, set, length-append}
+use lib.Seq.{getD-set-same, getD-set-other}
+use borrow.Author.Count.{below-more}
 use borrow.Author.Tests.{lt-ltb, le-ltb}
-use Rattle.scope.specs.Numbers.{greatest, keep, written}
+use Rattle.scope.specs.Numbers.{bit, greatest, keep, written}
 use Rattle.scope.specs.Ticks.{leastSupply}
 use Rattle.scope.specs.Windows.{Board, suppliedBy}
 use Rattle.scope.specs.Partition.{rises, within, edge, maximalRuns, critical}
 use Rattle.scope.specs.Answers.{Fault.fine, Fault.fault, tableFault, roomFault, criticalOf, criticalFault}
 use Rattle.theory.specs.Numbers.{bool-cases}
 use Rattle.theory.specs.Lists.{keep-hit, keep-miss}
-use Rattle.theory.specs.MaximalRuns.{within-in}
+use Rattle.theory.specs.MaximalRuns.{within-in, within-out}
 use Rattle.theory.specs.Buffers.{written-more}
+use Rattle.supply.specs.Marks.{marked, Marked}
 use Rattle.tables.proofs.FaultLaws.{if-true, if-false, or-fault, or-fine}
 
 -- ---- the numbers kept among 0, 1, .., n − 1
@@ -92,26 +96,57 @@ module _ (q : ℕ → Bool) where
       differ false true = refl
       differ false false = refl
 
+-- ---- maximal runs
+
+-- the edges of the runs of p among the ticks below n, up to tick k
+abbrev pub edges : (ℕ → Bool) → ℕ → ℕ → List ℕ
+edges p n k = keep (edge (within p n)) k
+
+-- with the end of the frame they are all
+pub edges-all : (p : ℕ → Bool) (n : ℕ) → edges p n (n + 1) ≡ maximalRuns p n
+unfolding maximalRuns
+edges-all p n = refl
+
+-- ---- marks
+
+-- one tick more is marked
+pub marked-more : (p : ℕ → Bool) (k m : ℕ) (marks : List ℕ) → k < length marks → m ≡ bit (p k) → Marked p k marks → Marked p (k + 1) (set marks k m)
+unfolding marked
+marked-more p k m marks h e so = below-more (λ (j : ℕ). marked (set marks k m) j ≡ p j) k other this
+  where
+    other : (j : ℕ) → j < k → marked (set marks k m) j ≡ p j
+    other j l = ap (λ (x : ℕ). eqb x 1) (getD-set-other marks k j m 0 (λ f. omega arith)) ∙ so j l
+
+    one : (t : Bool) → eqb (bit t) 1 ≡ t
+    one true = refl
+    one false = refl
+
+    this : marked (set marks k m) k ≡ p k
+    this = ap (λ (x : ℕ). eqb x 1) (getD-set-same marks k m 0 h ∙ e) ∙ one (p k)
+
+-- the runs of what is marked are the pattern's
+pub marked-runs : (p : ℕ → Bool) (n : ℕ) (marks : List ℕ) → Marked p n marks → maximalRuns (marked marks) n ≡ maximalRuns p n
+unfolding maximalRuns
+marked-runs p n marks so = ap (λ (q : ℕ → Bool). keep (edge q) (n + 1)) (fun-ext same)
+  where
+    same : (k : ℕ) → within (marked marks) n k ≡ within p n k
+    same k =
+        elim (decLt k n) [
+          | yes l ↦ within-in (marked marks) n k l ∙ so k l ∙ sym (within-in p n k l)
+          | no l ↦ within-out (marked marks) n k (omega arith) ∙ sym (within-out p n k (omega arith))
+        ]
+
 -- ---- the critical partition
 
--- the ticks of one frame at which the least supply rises
-abbrev pub risen : Board → List ℕ → ℕ → Bool
-risen b ws = within (rises (suppliedBy b ws) (b .frame)) (b .frame)
+-- the runs of the ticks at which the least supply rises
+pub critical-runs : (b : Board) (ws : List ℕ) → maximalRuns (rises (suppliedBy b ws) (b .frame)) (b .frame) ≡ criticalOf b ws
+unfolding critical
+critical-runs b ws = refl
 
--- where it rises or stops to rise, among the ticks 0 to k − 1
-abbrev pub edges : Board → List ℕ → ℕ → List ℕ
-edges b ws k = keep (edge (risen b ws)) k
-
--- at the end of the frame these are the critical partition
-pub edges-critical : (b : Board) (ws : List ℕ) → edges b ws (b .frame + 1) ≡ criticalOf b ws
-unfolding critical maximalRuns
-edges-critical b ws = refl
-
--- inside the frame the code's comparison of two least supplies tells it
-pub risen-in : (b : Board) (ws : List ℕ) (k : ℕ) → k < b .frame →
-    ltb (leastSupply (suppliedBy b ws) (b .frame) k) (leastSupply (suppliedBy b ws) (b .frame) (k + 1)) ≡ risen b ws k
+-- two least supplies that follow each other tell whether it rises
+pub rises-by : (σ : ℕ → Bool) (P k m n : ℕ) → m ≡ leastSupply σ P k → n ≡ leastSupply σ P (k + 1) → ltb m n ≡ rises σ P k
 unfolding rises
-risen-in b ws k h = sym (within-in (rises (suppliedBy b ws) (b .frame)) (b .frame) k h)
+rises-by σ P k m n e f = rw (e, f)
 
 -- what its entry refuses: a table that has a fault, then a buffer that is too short
 module _ (b : Board) (ws : List ℕ) (room : ℕ) where

@@ -35,7 +35,8 @@ fn mark(set: bool) -> u8
 // Marks the ticks of a frame at which the least supply rises: each length is asked for once.
 fn mark_rises(board: Board, windows: &[u32], marks: &mut [u8])
     requires { ⌜ LegalTable (boardOf board) (now windows) × (board .frame ≤ length (now marks)) ⌝ }
-    ensures { λ _. ⌜ Marked (rises (suppliedBy (boardOf board) (now (windows .entry))) (board .frame)) (board .frame) (now (marks .exit)) ⌝ }
+    ensures { λ _. ⌜ Marked (rises (suppliedBy (boardOf board) (now (windows .entry))) (board .frame)) (board .frame) (now (marks .exit))
+        × (length (now (marks .exit)) ≡ length (now (marks .entry))) ⌝ }
 {
     let frame = board.frame;
     let mut least = 0;

@@ -11,7 +11,7 @@ use Rattle.supply.proofs.partition.delay.Tie as tie
 use Rattle.supply.proofs.partition.delay.Reads as reads
 use Rattle.supply.proofs.partition.delay.Lts as lts
 use Rattle.supply.proofs.partition.delay_of.Reads as delay-of-reads
-use Rattle.supply.proofs.supply.supply_from.Reads as supply-from-reads
+use Rattle.supply.proofs.supply.least_at_ends.Reads as least-at-ends-reads
 use Rattle.tables.proofs.window.check_table.Reads as check-table-reads
 
 -- past the match the table has no fault
@@ -27,11 +27,11 @@ enum-known-r c = search needs
 enum-told : tie.Need-enum-told
 enum-told c = search needs
 
-supply-from-requires : tie.Need-supply-from-requires
-supply-from-requires c κs = search needs
+least-at-ends-requires : tie.Need-least-at-ends-requires
+least-at-ends-requires c κs = (table-legal _ _ (fine-at c), omega arith)
 
 delay-of-requires : tie.Need-delay-of-requires
-delay-of-requires c κs = let w = table-legal _ _ (fine-at (c .before)) in (omega arith, omega arith, c .supply-from .ensures)
+delay-of-requires c κs = let w = table-legal _ _ (fine-at (c .before)) in (w, c .least-at-ends .ensures .1)
 
 returns : tie.Need-returns
 unfolding delayAnswer
@@ -40,7 +40,7 @@ returns c = refused-by _ _ (sym (c .before .before .before .check-table .ensures
 returns-2 : tie.Need-returns-2
 unfolding delayAnswer
 returns-2 c =
-    ap₂ (λ (d a : ℕ). given (record { delay = d; A = a })) (c .delay-of .ensures) (c .before .supply-from .ensures)
+    ap₂ (λ (d a : ℕ). given (record { delay = d; A = a })) (c .delay-of .ensures) (c .before .least-at-ends .ensures .1)
     ∙ given-by _ _ (fine-at (c .before .before))
 
 pub delay-spec : {M : Type 1} → statement M
@@ -50,7 +50,7 @@ delay-spec =
     check-table-requires
     enum-known-r
     enum-told
-    supply-from-requires
+    least-at-ends-requires
     delay-of-requires
     returns
     returns-2)

@@ -28,7 +28,7 @@ add-loop : tie.Need-add-loop Inv-loop μ-loop
 add-loop c = search needs
 
 lag-of-requires : tie.Need-lag-of-requires Inv-loop μ-loop
-lag-of-requires c κs = (omega arith, omega arith, omega arith, c .before .before .before .pre .2)
+lag-of-requires c κs = let p = c .before .before .before .pre in (p .0, omega arith, p .1)
 
 add-t : tie.Need-add-t Inv-loop μ-loop
 add-t c = search needs

@@ -1,5 +1,6 @@
 use mathlib.Core.Path.{_≡_, sym, ap, _∙_}
 use Rattle.scope.specs.Answers.{Fault.fine, Answer.given, tableFault, lengthFault, _orElse_, leastSupplyAnswer}
+use Rattle.theory.specs.Answers.{table-legal, length-legal}
 use Rattle.tables.specs.Told.{boardOf, faultOf}
 use Rattle.tables.proofs.FaultLaws.{or-fault, or-fine, refused-by, given-by}
 use borrow.Author.Needs.{needs}
@@ -37,7 +38,7 @@ enum-told-2 : tie.Need-enum-told-2
 enum-told-2 c = search needs
 
 least-of-requires : tie.Need-least-of-requires
-least-of-requires c κs = search needs
+least-of-requires c κs = (table-legal _ _ (table-fine (c .before .before .before)), length-legal _ (length-fine c))
 
 cast-t11 : tie.Need-cast-t11
 cast-t11 c = search needs
