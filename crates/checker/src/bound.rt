@@ -1,4 +1,4 @@
-use supply::supply::least_of;
+use crate::least::least_of;
 use tables::answer::Bound;
 use tables::answer::Checked;
 use tables::answer::Refusal;
@@ -12,7 +12,7 @@ ghost use Rattle.scope.specs.Limits.{mostOfTask, mostLength};
 ghost use Rattle.scope.specs.Windows.{suppliedBy};
 ghost use Rattle.scope.specs.Tasks.{tasksOf};
 ghost use Rattle.scope.specs.Bound.{ceil, asked, response};
-ghost use Rattle.scope.specs.Answers.{boundAnswer, Answer.given};
+ghost use Rattle.scope.specs.Answers.{boundAnswer, tableFault, Fault.fine, Answer.given};
 ghost use Rattle.theory.specs.Answers.{LegalGroup};
 ghost use Rattle.tables.specs.Told.{boardOf, toldBound};
 
@@ -41,20 +41,23 @@ fn asked_of(tasks: &[u32], index: usize, length: u32) -> u64
     sum
 }
 
-// The least length up to the deadline whose least supply is at least what is asked.
+// The least length up to the deadline whose least supply is at least what is asked. What is asked never falls, and a tick more supplies at most one
+// more: as many ticks as are missing are needed at least, and the lengths between are passed over.
 fn response_of(board: Board, windows: &[u32], tasks: &[u32], index: usize) -> Bound
-    requires { ⌜ LegalGroup (now tasks) × (index < lengthOf (tasksOf (now tasks))) ⌝ }
+    requires { ⌜ (tableFault (boardOf board) (now windows) ≡ fine) × LegalGroup (now tasks) × (index < lengthOf (tasksOf (now tasks))) ⌝ }
     ensures { λ r. ⌜ toldBound r ≡ given (response (suppliedBy (boardOf board) (now (windows .entry))) (board .frame) (tasksOf (now (tasks .entry))) index) ⌝ }
 {
     let task = task_at(tasks, index);
-    let deadline = task.deadline;
-    let mut length = 1;
+    let deadline = task.deadline as u64;
+    let mut length: u64 = 1;
     while length <= deadline {
-        let least = least_of(board, windows, length);
-        if asked_of(tasks, index, length) <= least as u64 {
-            return Bound::Of(length);
+        let ticks = length as u32;
+        let least = least_of(board, windows, ticks) as u64;
+        let asked = asked_of(tasks, index, ticks);
+        if asked <= least {
+            return Bound::Of(ticks);
         }
-        length += 1;
+        length += asked - least;
     }
     Bound::NoBound
 }

@@ -1,4 +1,4 @@
-use supply::supply::least_of;
+use crate::least::least_of;
 use tables::answer::Amount;
 use tables::answer::Checked;
 use tables::answer::Margin;

@@ -2,4 +2,7 @@
 pub mod bound;
 pub mod cycle;
 pub mod demand;
+mod least;
+mod rise;
+mod stretch;
 pub mod verdict;

@@ -1,56 +1,65 @@
 use crate::cycle::Cycle;
 use crate::cycle::cycle_of;
-use crate::demand::demand_of;
-use supply::supply::least_of;
-use supply::supply::supply_from;
-use supply::supply::tick_of;
+use crate::least::least_of;
+use crate::rise::first_due;
+use crate::rise::rise_at;
+use crate::stretch::first_ticks;
+use crate::stretch::slid;
 use tables::answer::Checked;
 use tables::answer::Refusal;
 use tables::answer::Verdict;
 use tables::board::Board;
+use tables::task::Task;
 use tables::task::check_group;
 ghost use mathlib.Core.Path.{_≡_};
-ghost use Prim.Native.Nat.{_≤_, _<_};
-ghost use lib.Dec.{ltb};
-ghost use Rattle.scope.specs.Limits.{mostCycle};
+ghost use mathlib.Core.Bool.{cond};
+ghost use Prim.Native.Nat.{_≤_};
+ghost use lib.Dec.{leb};
+ghost use Rattle.scope.specs.Limits.{mostCycle, mostLength};
 ghost use Rattle.scope.specs.Ticks.{leastSupply};
 ghost use Rattle.scope.specs.Windows.{suppliedBy};
 ghost use Rattle.scope.specs.Tasks.{tasksOf};
 ghost use Rattle.scope.specs.Verdict.{verdict as verdictBy};
-ghost use Rattle.scope.specs.Answers.{verdictAnswer, Answer.given};
+ghost use Rattle.scope.specs.Answers.{verdictAnswer, tableFault, Fault.fine, Answer.given};
 ghost use Rattle.theory.specs.Answers.{LegalGroup};
 ghost use Rattle.tables.specs.Told.{boardOf, toldVerdict};
 
-// Whether the demand of a length exceeds its least supply. A demand that has not risen above `before`, which the least supply carries, needs no supply.
-fn exceeds(board: Board, windows: &[u32], length: u32, before: u64, demand: u64) -> bool
-    requires { ⌜ before ≤ leastSupply (suppliedBy (boardOf board) (now windows)) (board .frame) length ⌝ }
-    ensures { λ r. ⌜ r ≡ ltb (leastSupply (suppliedBy (boardOf board) (now (windows .entry))) (board .frame) length) demand ⌝ }
+// A number that the least supply of a length carries: `known` where that carries the demand too, else the least supply.
+fn carried(board: Board, windows: &[u32], length: u32, known: u32, demand: u64) -> u32
+    requires { ⌜ (tableFault (boardOf board) (now windows) ≡ fine) × (length ≤ mostLength) ⌝ }
+    ensures { λ r. ⌜ r ≡ cond (leb demand known) known (leastSupply (suppliedBy (boardOf board) (now (windows .entry))) (board .frame) length) ⌝ }
 {
-    if demand <= before {
-        return false;
+    if demand <= known as u64 {
+        return known;
     }
-    let least = least_of(board, windows, length);
-    (least as u64) < demand
+    least_of(board, windows, length)
 }
 
-// The first length whose demand exceeds the least supply, and its first start that holds the least supply.
+// The first length whose demand exceeds the least supply, and its first start that holds the least supply. Lengths at which the demand does not rise
+// are passed over. Whole frames give every start as much, so the starts are compared on the rest of the length.
 fn search(board: Board, windows: &[u32], tasks: &[u32], cycle: u32) -> Verdict
-    requires { ⌜ (0 < board .frame) × LegalGroup (now tasks) × (cycle ≤ mostCycle) ⌝ }
+    requires { ⌜ (tableFault (boardOf board) (now windows) ≡ fine) × LegalGroup (now tasks) × (cycle ≤ mostCycle) ⌝ }
     ensures { λ r. ⌜ toldVerdict r ≡ given (verdictBy (suppliedBy (boardOf board) (now (windows .entry)))
         (board .frame) (tasksOf (now (tasks .entry))) cycle) ⌝ }
 {
     let frame = board.frame;
     let mut found = Verdict::Meets { cycle };
-    let mut before = 0;
-    let mut length = 1;
+    let mut due = [0; Task::MOST];
+    first_due(tasks, &mut due);
+    let mut demand = 0;
+    let mut supply = 0;
+    let mut length = rise_at(tasks, &mut due, 0).next;
     'search: while length <= cycle {
-        let demand = demand_of(tasks, length);
-        if exceeds(board, windows, length, before, demand) {
-            let supply = least_of(board, windows, length);
+        let risen = rise_at(tasks, &mut due, length);
+        demand += risen.by;
+        supply = carried(board, windows, length, supply, demand);
+        if (supply as u64) < demand {
+            let rest = length % frame;
+            let least = least_of(board, windows, rest);
+            let mut stretch = first_ticks(board, windows, rest);
             let mut start = 0;
-            let mut n = supply_from(board, windows, 0, length);
             while start < frame {
-                if n == supply {
+                if stretch.supply == least {
                     found = Verdict::Miss {
                         length,
                         start,
@@ -59,14 +68,11 @@ fn search(board: Board, windows: &[u32], tasks: &[u32], cycle: u32) -> Verdict
                     };
                     break 'search;
                 }
-                let comes = tick_of(board, windows, start as u64 + length as u64);
-                let goes = tick_of(board, windows, start as u64);
-                n = n + comes - goes;
+                stretch = slid(board, windows, stretch);
                 start += 1;
             }
         }
-        before = demand;
-        length += 1;
+        length = risen.next;
     }
     found
 }

@@ -10,6 +10,7 @@ pub mod MaximalRuns
 pub mod Partition
 pub mod Delay
 pub mod Tasks
+pub mod Dues
 pub mod Cycle
 pub mod Horizon
 pub mod Answers
