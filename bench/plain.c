@@ -132,6 +132,30 @@ static struct checked check_table(uint32_t frame, struct list windows)
     return or_else(list, or_else(board, each));
 }
 
+/* Tables: cursor.rt */
+
+/* a tick of the frame and the window at hand there: the first one that ends after the tick */
+struct cursor {
+    uint32_t tick;
+    size_t window;
+};
+
+/* one tick on; past the last window none is at hand up to the end of the frame */
+static struct cursor next_tick(uint32_t frame, struct list windows, struct cursor at)
+{
+    uint32_t tick = at.tick + 1;
+    if (tick == frame)
+        return (struct cursor){0, 0};
+    if (at.window < windows.len / 2 && end_of(windows, at.window) == tick)
+        return (struct cursor){tick, at.window + 1};
+    return (struct cursor){tick, at.window};
+}
+
+static bool is_on(struct list windows, struct cursor at)
+{
+    return at.window < windows.len / 2 && window_holds(windows, at.window, at.tick);
+}
+
 /* Groups: task.rt */
 
 static uint32_t work_of(struct list tasks, size_t i)
@@ -191,7 +215,96 @@ static struct checked check_length(uint32_t length)
     return LONGEST_LENGTH < length ? bad(7, 0) : FINE;
 }
 
+/* Supply: row.rt */
+
+/* window `index` of the frame that begins at tick `base`, with the supplied ticks before that window */
+struct place {
+    size_t index;
+    uint32_t base;
+    uint32_t before;
+};
+
+static uint32_t end_at(struct list windows, struct place at)
+{
+    return at.base + end_of(windows, at.index);
+}
+
+/* after the last window of a frame comes the first of the next frame */
+static struct place next_window(uint32_t frame, struct list windows, struct place at)
+{
+    uint32_t before = at.before + (end_of(windows, at.index) - start_of(windows, at.index));
+    if (at.index + 1 < windows.len / 2)
+        return (struct place){at.index + 1, at.base, before};
+    return (struct place){0, at.base + frame, before};
+}
+
+/* on to the first window that ends after tick x */
+static struct place moved(uint32_t frame, struct list windows, struct place at, uint32_t x)
+{
+    while (end_at(windows, at) <= x)
+        at = next_window(frame, windows, at);
+    return at;
+}
+
+/* the supplied ticks before tick x, from the place of the first window that ends after it */
+static uint32_t upto(struct list windows, struct place at, uint32_t x)
+{
+    uint32_t start = at.base + start_of(windows, at.index);
+    return x <= start ? at.before : at.before + (x - start);
+}
+
 /* Supply: supply.rt */
+
+/* the least supply of a length, and A, which is the whole frame's */
+struct least {
+    uint32_t supply;
+    uint32_t whole;
+};
+
+static uint32_t smaller(uint32_t a, uint32_t b)
+{
+    return b < a ? b : a;
+}
+
+/* of a length of at most a frame: over the starts where a window ends */
+static struct least least_at_ends(uint32_t frame, struct list windows, uint32_t length)
+{
+    size_t count = windows.len / 2;
+    uint32_t least = length;
+    uint32_t earlier = 0;
+    struct place at = {0, 0, 0};
+    for (size_t i = 0; i < count; i++) {
+        uint32_t end = end_of(windows, i) + length;
+        earlier += end_of(windows, i) - start_of(windows, i);
+        at = moved(frame, windows, at, end);
+        least = smaller(least, upto(windows, at, end) - earlier);
+    }
+    return (struct least){least, earlier};
+}
+
+static uint32_t least_of(uint32_t frame, struct list windows, uint32_t length)
+{
+    struct least rest = least_at_ends(frame, windows, length % frame);
+    return length / frame * rest.whole + rest.supply;
+}
+
+static struct palikudyom_answer least_supply(uint32_t frame, struct list windows, uint32_t length)
+{
+    struct checked table = check_table(frame, windows);
+    if (is_bad(table))
+        return refused(table);
+    struct checked asked = check_length(length);
+    if (is_bad(asked))
+        return refused(asked);
+    return one(PALIKUDYOM_AMOUNT, least_of(frame, windows, length));
+}
+
+struct palikudyom_answer plain_least_supply(uint32_t frame, const uint32_t *at, size_t len, uint32_t length)
+{
+    return least_supply(frame, (struct list){at, len}, length);
+}
+
+/* The least supply as it was before request 3: a tick is looked for in all windows, and every start of a frame is tried */
 
 static bool covered(struct list windows, uint32_t k)
 {
@@ -202,14 +315,9 @@ static bool covered(struct list windows, uint32_t k)
     return false;
 }
 
-static bool is_supplied(uint32_t frame, struct list windows, uint32_t k)
-{
-    return covered(windows, k % frame);
-}
-
 static uint32_t tick_of(uint32_t frame, struct list windows, uint32_t k)
 {
-    return is_supplied(frame, windows, k) ? 1 : 0;
+    return covered(windows, k % frame) ? 1 : 0;
 }
 
 static uint32_t supply_from(uint32_t frame, struct list windows, uint32_t start, uint32_t length)
@@ -221,7 +329,7 @@ static uint32_t supply_from(uint32_t frame, struct list windows, uint32_t start,
 }
 
 /* the start moves on by a tick */
-static uint32_t slid(uint32_t frame, struct list windows, uint32_t start, uint32_t length, uint32_t n)
+static uint32_t slid_by_tick(uint32_t frame, struct list windows, uint32_t start, uint32_t length, uint32_t n)
 {
     uint32_t comes = tick_of(frame, windows, start + length);
     uint32_t goes = tick_of(frame, windows, start);
@@ -235,47 +343,48 @@ static uint32_t least_over_starts(uint32_t frame, struct list windows, uint32_t 
     for (uint32_t start = 0; start < frame; start++) {
         if (n < least)
             least = n;
-        n = slid(frame, windows, start, length, n);
+        n = slid_by_tick(frame, windows, start, length, n);
     }
     return least;
 }
 
-static uint32_t least_of(uint32_t frame, struct list windows, uint32_t length)
-{
-    uint32_t whole = supply_from(frame, windows, 0, frame);
-    uint32_t rest = least_over_starts(frame, windows, length % frame);
-    return length / frame * whole + rest;
-}
-
-struct palikudyom_answer plain_least_supply(uint32_t frame, const uint32_t *at, size_t len, uint32_t length)
+struct palikudyom_answer plain_least_supply_by_ticks(uint32_t frame, const uint32_t *at, size_t len, uint32_t length)
 {
     struct list windows = {at, len};
-    struct checked table = check_table(frame, windows);
-    if (is_bad(table))
-        return refused(table);
-    struct checked asked = check_length(length);
-    if (is_bad(asked))
-        return refused(asked);
-    return one(PALIKUDYOM_AMOUNT, least_of(frame, windows, length));
+    struct checked c = or_else(check_table(frame, windows), check_length(length));
+    if (is_bad(c))
+        return refused(c);
+    uint32_t whole = supply_from(frame, windows, 0, frame);
+    uint32_t rest = least_over_starts(frame, windows, length % frame);
+    return one(PALIKUDYOM_AMOUNT, length / frame * whole + rest);
 }
 
 /* Critical partition, delay and outage: partition.rt */
 
-static bool is_critical(uint32_t frame, struct list windows, uint32_t k)
+/* marks the ticks of a frame at which the least supply rises */
+static void mark_rises(uint32_t frame, struct list windows, uint8_t *marks)
+{
+    uint32_t least = 0;
+    for (uint32_t k = 0; k < frame; k++) {
+        struct least next = least_at_ends(frame, windows, k + 1);
+        marks[k] = least < next.supply ? 1 : 0;
+        least = next.supply;
+    }
+}
+
+static bool is_marked(uint32_t frame, const uint8_t *marks, uint32_t k)
 {
     if (frame <= k)
         return false;
-    uint32_t here = least_of(frame, windows, k);
-    uint32_t next = least_of(frame, windows, k + 1);
-    return here < next;
+    return marks[k] == 1;
 }
 
-static uint32_t count_edges(uint32_t frame, struct list windows)
+static uint32_t count_edges(uint32_t frame, const uint8_t *marks)
 {
     uint32_t n = 0;
     bool before = false;
     for (uint32_t k = 0; k < frame + 1; k++) {
-        bool here = is_critical(frame, windows, k);
+        bool here = is_marked(frame, marks, k);
         if (here != before)
             n++;
         before = here;
@@ -283,35 +392,38 @@ static uint32_t count_edges(uint32_t frame, struct list windows)
     return n;
 }
 
-static void write_edges(uint32_t frame, struct list windows, uint32_t *out)
+static void write_edges(uint32_t frame, const uint8_t *marks, uint32_t *out)
 {
     size_t at = 0;
     bool before = false;
     for (uint32_t k = 0; k < frame + 1; k++) {
-        bool here = is_critical(frame, windows, k);
+        bool here = is_marked(frame, marks, k);
         if (here != before)
             out[at++] = k;
         before = here;
     }
 }
 
+/* the marks are cleared before they are set, as those of the proved code */
 struct palikudyom_answer plain_critical(uint32_t frame, const uint32_t *at, size_t len, uint32_t *out, size_t out_len)
 {
     struct list windows = {at, len};
     struct checked table = check_table(frame, windows);
     if (is_bad(table))
         return refused(table);
-    uint64_t numbers = count_edges(frame, windows);
+    uint8_t marks[LONGEST_FRAME] = {0};
+    mark_rises(frame, windows, marks);
+    uint64_t numbers = count_edges(frame, marks);
     if (out_len < numbers)
         return refused(bad(8, numbers));
-    write_edges(frame, windows, out);
+    write_edges(frame, marks, out);
     return one(PALIKUDYOM_AMOUNT, numbers / 2);
 }
 
 static uint64_t lag_of(uint32_t frame, struct list windows, uint32_t whole, uint32_t t)
 {
-    uint32_t least = least_of(frame, windows, t);
-    return (uint64_t)whole * t - (uint64_t)frame * least;
+    struct least least = least_at_ends(frame, windows, t);
+    return (uint64_t)whole * t - (uint64_t)frame * least.supply;
 }
 
 static uint64_t delay_of(uint32_t frame, struct list windows, uint32_t whole)
@@ -331,7 +443,7 @@ struct palikudyom_answer plain_delay(uint32_t frame, const uint32_t *at, size_t 
     struct checked table = check_table(frame, windows);
     if (is_bad(table))
         return refused(table);
-    uint32_t per_frame = supply_from(frame, windows, 0, frame);
+    uint32_t per_frame = least_at_ends(frame, windows, 0).whole;
     return two(PALIKUDYOM_DELAY, delay_of(frame, windows, per_frame), per_frame);
 }
 
@@ -357,7 +469,15 @@ struct palikudyom_answer plain_outage(uint32_t frame, const uint32_t *at, size_t
     return one(PALIKUDYOM_AMOUNT, outage_of(frame, windows));
 }
 
-/* The verdict: demand.rt, cycle.rt, verdict.rt */
+/* The checker's least supply: least.rt. The entry is asked, so the table is checked at each ask. */
+
+static uint32_t least_asked(uint32_t frame, struct list windows, uint32_t length)
+{
+    struct palikudyom_answer least = least_supply(frame, windows, length);
+    return least.code == PALIKUDYOM_AMOUNT ? least.a : 0;
+}
+
+/* The margin: demand.rt */
 
 static uint64_t demand_of_task(struct list tasks, size_t i, uint32_t length)
 {
@@ -375,6 +495,20 @@ static uint64_t demand_of(struct list tasks, uint32_t length)
         sum += demand_of_task(tasks, i, length);
     return sum;
 }
+
+struct palikudyom_answer plain_margin(uint32_t frame, const uint32_t *at, size_t len, const uint32_t *tasks_at, size_t tasks_len, uint32_t length)
+{
+    struct list windows = {at, len};
+    struct list tasks = {tasks_at, tasks_len};
+    struct checked c = or_else(check_group(frame, windows, tasks), check_length(length));
+    if (is_bad(c))
+        return refused(c);
+    uint64_t supply = least_asked(frame, windows, length);
+    uint64_t demand = demand_of(tasks, length);
+    return supply < demand ? one(PALIKUDYOM_BELOW, demand - supply) : one(PALIKUDYOM_MARGIN, supply - demand);
+}
+
+/* The verdict: cycle.rt */
 
 static uint64_t gcd(uint64_t a, uint64_t b)
 {
@@ -395,29 +529,114 @@ static uint32_t cycle_of(uint32_t frame, struct list tasks)
     return h;
 }
 
-/* a demand that has not risen needs no supply */
-static bool exceeds(uint32_t frame, struct list windows, uint32_t length, uint64_t before, uint64_t demand)
+/* The verdict: rise.rt */
+
+/* what the demand rises by at a length, and the next length at which it rises */
+struct rise {
+    uint64_t by;
+    uint32_t next;
+};
+
+/* the first deadline of each task */
+static void first_due(struct list tasks, uint32_t *due)
 {
-    if (demand <= before)
-        return false;
-    return least_of(frame, windows, length) < demand;
+    size_t count = tasks.len / 3;
+    for (size_t i = 0; i < count; i++)
+        due[i] = deadline_of(tasks, i);
 }
 
+/* the work of a job that is due at a length */
+static uint64_t work_at(uint32_t due, uint32_t length, uint32_t work)
+{
+    return due == length ? work : 0;
+}
+
+/* the deadline after that of a job that is due at a length */
+static uint32_t due_after(uint32_t due, uint32_t length, uint32_t period)
+{
+    return due == length ? length + period : due;
+}
+
+/* on to a length: the deadlines that are reached move on by a period */
+static struct rise rise_at(struct list tasks, uint32_t *due, uint32_t length)
+{
+    size_t count = tasks.len / 3;
+    struct rise rise = {0, NEVER};
+    for (size_t i = 0; i < count; i++) {
+        uint32_t here = due[i];
+        uint32_t later = due_after(here, length, period_of(tasks, i));
+        rise.by += work_at(here, length, work_of(tasks, i));
+        due[i] = later;
+        rise.next = smaller(rise.next, later);
+    }
+    return rise;
+}
+
+/* The verdict: stretch.rt */
+
+/* the cursors of the first tick and of the one after the last, and the supplied ticks */
+struct stretch {
+    struct cursor from;
+    struct cursor to;
+    uint32_t supply;
+};
+
+static uint32_t tick_at(struct list windows, struct cursor at)
+{
+    return is_on(windows, at) ? 1 : 0;
+}
+
+static struct stretch first_ticks(uint32_t frame, struct list windows, uint32_t length)
+{
+    struct stretch stretch = {{0, 0}, {0, 0}, 0};
+    for (uint32_t i = 0; i < length; i++) {
+        stretch.supply += tick_at(windows, stretch.to);
+        stretch.to = next_tick(frame, windows, stretch.to);
+    }
+    return stretch;
+}
+
+/* one tick comes and one goes */
+static struct stretch slid(uint32_t frame, struct list windows, struct stretch stretch)
+{
+    uint32_t comes = tick_at(windows, stretch.to);
+    uint32_t goes = tick_at(windows, stretch.from);
+    return (struct stretch){next_tick(frame, windows, stretch.from), next_tick(frame, windows, stretch.to), stretch.supply + comes - goes};
+}
+
+/* The verdict: verdict.rt */
+
+/* `known` where that carries the demand too, else the least supply */
+static uint32_t carried(uint32_t frame, struct list windows, uint32_t length, uint32_t known, uint64_t demand)
+{
+    if (demand <= known)
+        return known;
+    return least_asked(frame, windows, length);
+}
+
+/* whole frames give every start as much, so the starts are compared on the rest of the length */
 static struct palikudyom_answer search(uint32_t frame, struct list windows, struct list tasks, uint32_t cycle)
 {
-    uint64_t before = 0;
-    for (uint32_t length = 1; length <= cycle; length++) {
-        uint64_t demand = demand_of(tasks, length);
-        if (exceeds(frame, windows, length, before, demand)) {
-            uint32_t supply = least_of(frame, windows, length);
-            uint32_t n = supply_from(frame, windows, 0, length);
+    uint32_t due[MOST_TASKS] = {0};
+    first_due(tasks, due);
+    uint64_t demand = 0;
+    uint32_t supply = 0;
+    uint32_t length = rise_at(tasks, due, 0).next;
+    while (length <= cycle) {
+        struct rise rise = rise_at(tasks, due, length);
+        demand += rise.by;
+        supply = carried(frame, windows, length, supply, demand);
+        if (supply < demand) {
+            uint32_t rest = length % frame;
+            uint32_t least = least_asked(frame, windows, rest);
+            struct stretch stretch = first_ticks(frame, windows, rest);
             for (uint32_t start = 0; start < frame; start++) {
-                if (n == supply)
+                if (stretch.supply == least)
                     return (struct palikudyom_answer){PALIKUDYOM_MISS, length, start, demand, supply};
-                n = slid(frame, windows, start, length, n);
+                stretch = slid(frame, windows, stretch);
             }
         }
-        before = demand;
+        length = rise.next;
     }
     return one(PALIKUDYOM_MEETS, cycle);
 }
@@ -450,13 +669,17 @@ static uint64_t asked_of(struct list tasks, size_t index, uint32_t length)
     return sum;
 }
 
+/* as many ticks as are missing are needed at least: the lengths between are passed over */
 static struct palikudyom_answer response_of(uint32_t frame, struct list windows, struct list tasks, size_t index)
 {
-    uint32_t deadline = deadline_of(tasks, index);
-    for (uint32_t length = 1; length <= deadline; length++) {
-        uint32_t least = least_of(frame, windows, length);
-        if (asked_of(tasks, index, length) <= least)
+    uint64_t deadline = deadline_of(tasks, index);
+    uint64_t length = 1;
+    while (length <= deadline) {
+        uint64_t least = least_asked(frame, windows, length);
+        uint64_t asked = asked_of(tasks, index, length);
+        if (asked <= least)
             return one(PALIKUDYOM_BOUND, length);
+        length += asked - least;
     }
     return one(PALIKUDYOM_NO_BOUND, 0);
 }
@@ -565,6 +788,7 @@ static struct checked check_run(uint32_t frame, struct list windows, struct list
 /* The tick machine: pending.rt, places.rt, state.rt, late.rt, tick.rt, run.rt */
 
 struct run_state {
+    struct cursor at;
     uint32_t pending;
     size_t next;
     uint32_t backlog;
@@ -680,10 +904,11 @@ __attribute__((always_inline)) static inline struct palikudyom_answer run_legal(
     struct run_state s = {.soon = NEVER, .done = NO_JOB};
     uint32_t k = 0;
     while (k < ticks) {
-        bool on = is_supplied(frame, windows, k);
+        bool on = is_on(windows, s.at);
         release(tasks, jobs, k, &s);
         count_backlog(&s);
         step(&s, on ? earliest(&s) : NO_TASK);
+        s.at = next_tick(frame, windows, s.at);
         k++;
         note(jobs, k, s.done, counts);
         if (!every_tick && k < s.soon)

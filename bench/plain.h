@@ -1,4 +1,4 @@
-/* The eight timed entries in plain C, as palikudyom.h declares the proved ones: the same arguments, the same answers and the same buffers after a call. */
+/* The nine timed entries in plain C, as palikudyom.h declares the proved ones: the same arguments, the same answers and the same buffers after a call. */
 #ifndef PLAIN_H
 #define PLAIN_H
 
@@ -11,6 +11,8 @@ struct palikudyom_answer plain_critical(uint32_t frame, const uint32_t *windows,
 struct palikudyom_answer plain_delay(uint32_t frame, const uint32_t *windows, size_t windows_len);
 struct palikudyom_answer plain_outage(uint32_t frame, const uint32_t *windows, size_t windows_len);
 
+struct palikudyom_answer plain_margin(uint32_t frame, const uint32_t *windows, size_t windows_len, const uint32_t *tasks, size_t tasks_len, uint32_t length);
+
 struct palikudyom_answer plain_verdict(uint32_t frame, const uint32_t *windows, size_t windows_len, const uint32_t *tasks, size_t tasks_len);
 
 struct palikudyom_answer plain_bound(uint32_t frame, const uint32_t *windows, size_t windows_len, const uint32_t *tasks, size_t tasks_len, uint32_t index);
@@ -20,6 +22,9 @@ struct palikudyom_answer plain_run(uint32_t frame, const uint32_t *windows, size
 
 struct palikudyom_answer plain_replay(uint32_t frame, const uint32_t *windows, size_t windows_len, const uint32_t *tasks, size_t tasks_len,
                                       const uint8_t *trace, size_t trace_len);
+
+/* The least supply as it was before request 3: every start of a frame is tried, and each tick is looked for in all windows. */
+struct palikudyom_answer plain_least_supply_by_ticks(uint32_t frame, const uint32_t *windows, size_t windows_len, uint32_t length);
 
 /* The same run, but late jobs are looked for in all 32 places at every tick. */
 struct palikudyom_answer plain_run_every_tick(uint32_t frame, const uint32_t *windows, size_t windows_len, const uint32_t *tasks, size_t tasks_len,
