@@ -6,12 +6,12 @@ use Prim.Native.Nat.{ℕ, suc, _+_, _-_, _*_, _/_, _≤_, _<_}
 use native.Mathlib.Omega.{arith}
 use native.Mathlib.Nat.{div-le-self, mul-le-mul}
 use native.Mathlib.Numerals.{add-one}
+use native.Mathlib.Decide.{decLt}
 use lib.ListN.{length}
-use borrow.Author.Count.{below-more}
 use borrow.Author.Tests.{le-leb, lt-leb}
 use Rattle.scope.specs.Limits.{mostTasks, mostOfTask, mostLength}
 use Rattle.scope.specs.Numbers.{sum}
-use Rattle.scope.specs.Ticks.{leastSupply}
+use Rattle.scope.specs.Ticks.{Periodic, leastSupply}
 use Rattle.scope.specs.Windows.{Board, suppliedBy}
 use Rattle.scope.specs.Tasks.{Task, task, tasksOf, taskAt}
 use Rattle.scope.specs.Bound.{Bound.bound, Bound.noBound, ceil, asked, suffices, orNoBound, response}
@@ -20,7 +20,8 @@ use Rattle.theory.specs.Numbers.{sum-le, sum-same, none-first, some-first}
 use Rattle.theory.specs.Lists.{pieces-length}
 use Rattle.theory.specs.Answers.{LegalGroup}
 use Rattle.theory.specs.Tasks.{TaskRule}
-use Rattle.theory.specs.Bound.{test-enough, test-no}
+use Rattle.theory.specs.Bound.{asked-up, test-enough, test-no}
+use Rattle.theory.specs.Ticks.{least-up-by}
 use Rattle.tables.proofs.FaultLaws.{if-true, if-false, refused-first, refused-then, given-then}
 use Rattle.tables.proofs.TaskLaws.{read-rule}
 
@@ -65,6 +66,10 @@ askedTo-most ts i t j ok h l m =
       sum-le (λ k. askedBy t (x k)) (λ k. (mostLength + mostOfTask) * mostOfTask) j (λ k u. asked-most (x k) t (read-rule ts k (x k) ok (omega arith) refl) h),
     )
 
+pub asked-at-most : (ts : List ℕ) (i t : ℕ) → LegalGroup ts → t ≤ mostLength → i < length ts / 3 →
+    asked (tasksOf ts) i t ≤ mostTasks * ((mostLength + mostOfTask) * mostOfTask) + mostOfTask
+asked-at-most ts i t ok h l = omega (arith, askedTo-whole (tasksOf ts) i t, askedTo-most ts i t i ok h l (omega arith))
+
 -- ---- the first length that suffices
 
 -- no length below t suffices
@@ -76,8 +81,16 @@ module _ (σ : ℕ → Bool) (P : ℕ) (ts : List Task) (i : ℕ) where
   pub short-first : Short σ P ts i 1
   short-first u l = test-no σ P ts i u (λ h. absurd (omega arith))
 
-  pub short-next : (t n a : ℕ) → n ≡ leastSupply σ P t → a ≡ asked ts i t → n < a → Short σ P ts i t → Short σ P ts i (t + 1)
-  short-next t n a en ea h low = below-more (λ (u : ℕ). suffices σ P ts i u ≡ false) t low (test-no σ P ts i t (λ l e. omega (arith, e)))
+  -- as many ticks as are missing at t are needed at least: what is asked never falls, and a tick more supplies at most one more
+  pub short-next : Periodic σ P → (t n a : ℕ) → n ≡ leastSupply σ P t → a ≡ asked ts i t → n < a → Short σ P ts i t → Short σ P ts i (t + (a - n))
+  short-next per t n a en ea h low u l =
+      elim (decLt u t) [
+        | yes v ↦ low u v
+        | no v ↦
+            let on : t + (u - t) ≡ u = omega arith in
+            test-no σ P ts i u (λ w e.
+            omega (arith, e, asked-up ts i t u (omega arith), least-up-by σ P per t (u - t), ap (leastSupply σ P) on))
+      ]
 
   pub bound-found : (t n a d : ℕ) → 1 ≤ t → t ≤ d → d ≡ (taskAt ts i) .D → n ≡ leastSupply σ P t → a ≡ asked ts i t → a ≤ n → Short σ P ts i t →
       bound t ≡ response σ P ts i

@@ -68,6 +68,9 @@ demandTo-most ts t i ok h l =
       sum-le (λ k. taskDemand (x k) t) (λ k. mostLength * mostOfTask) i (λ k j. task-most (x k) t (read-rule ts k (x k) ok (omega arith) refl) h),
     )
 
+pub demand-most : (ts : List ℕ) (t : ℕ) → LegalGroup ts → t ≤ mostLength → demand (tasksOf ts) t ≤ mostTasks * (mostLength * mostOfTask)
+demand-most ts t ok h = omega (arith, demandTo-whole ts t (length ts / 3) refl, demandTo-most ts t (length ts / 3) ok h (omega arith))
+
 -- ---- the difference of two naturals as a signed number
 
 as-sub : (a b : ℕ) → pos a -ℤ pos b ≡ subℕ a b

@@ -1,4 +1,7 @@
 pub mod CycleLaws
 pub mod DemandLaws
+pub mod LeastLaws
+pub mod RiseLaws
+pub mod StretchLaws
 pub mod VerdictLaws
 pub mod BoundLaws

@@ -4,16 +4,39 @@ use mathlib.Core.Bool.{Bool, true, false, false≢true}
 use mathlib.Core.Logic.{_↔_}
 use mathlib.Core.Option.{Option, none, some}
 use mathlib.Core.List.{List}
-use Prim.Native.Nat.{ℕ, suc, _≤_, _<_}
+use Prim.Native.Nat.{ℕ, suc, _+_, _-_, _*_, _≤_, _<_}
 use native.Mathlib.Omega.{arith}
+use native.Mathlib.Nat.{mul-le-mul-right, div-mul-le-self, le-div-iff-mul-le, div-zero}
+use native.Mathlib.Decide.{decLt}
 use Rattle.scope.specs.Numbers.{first}
 use Rattle.scope.specs.Ticks.{leastSupply}
 use Rattle.scope.specs.Windows.{Board, suppliedBy}
 use Rattle.scope.specs.Tasks.{Task, tasksOf, taskAt}
-use Rattle.scope.specs.Bound.{Bound, Bound.bound, Bound.noBound, asked, suffices, orNoBound, response}
+use Rattle.scope.specs.Bound.{Bound, Bound.bound, Bound.noBound, ceil, asked, suffices, orNoBound, response}
 use Rattle.scope.specs.Answers.{Answer.given, boundAnswer}
-use Rattle.theory.specs.Numbers.{fits-true, true-fits, first-none, none-first, first-some, some-first}
+use Rattle.theory.specs.Numbers.{sum-le, fits-true, true-fits, first-none, none-first, first-some, some-first}
 use Rattle.theory.specs.Answers.{bounded}
+
+-- ---- what is asked
+
+ceil-up : (T t u : ℕ) → t ≤ u → ceil t T ≤ ceil u T
+ceil-up T t u h =
+    elim (decLt 0 T) [
+      | yes p ↦
+          let less : ceil t T * T ≤ u + (T - 1) = omega (arith, div-mul-le-self (t + (T - 1)) T) in
+          le-div-iff-mul-le p .1 less
+      | no p ↦ let e : T ≡ 0 = omega arith in rw (e, div-zero) (omega arith)
+    ]
+
+-- it never falls
+pub asked-up : (ts : List Task) (i t u : ℕ) → t ≤ u → asked ts i t ≤ asked ts i u
+unfolding asked
+asked-up ts i t u h =
+    omega (
+      arith,
+      sum-le (λ j. ceil t ((taskAt ts j) .T) * (taskAt ts j) .C) (λ j. ceil u ((taskAt ts j) .T) * (taskAt ts j) .C) i
+          (λ j l. mul-le-mul-right ((taskAt ts j) .C) (ceil-up ((taskAt ts j) .T) t u h)),
+    )
 
 -- ---- over any pattern
 

@@ -55,6 +55,13 @@ module _ (σ : ℕ → Bool) (P : ℕ) (per : Periodic σ P) where
       let e : P + t ≡ t + P = omega arith in
       omega (arith, supply-split σ s P t, supply-split σ s t P, supply-frame s, supply-frame (s + t), ap (supply σ s) e)
 
+  -- whole frames more hold A each, from any start
+  pub supply-frames : (q s t : ℕ) → supply σ s (t + q * P) ≡ supply σ s t + q * perFrame σ P
+  supply-frames zero s t = let e : t + 0 * P ≡ t = omega arith in omega (arith, ap (supply σ s) e)
+  supply-frames (suc q) s t =
+      let e : t + suc q * P ≡ t + q * P + P = omega arith in
+      omega (arith, ap (supply σ s) e, supply-split σ s (t + q * P) P, supply-frame (s + (t + q * P)), supply-frames q s t)
+
   pub supply-shifts : (q s t : ℕ) → supply σ (s + q * P) t ≡ supply σ s t
   supply-shifts zero s t = let e : s + 0 * P ≡ s = omega arith in ap (λ (k : ℕ). supply σ k t) e
   supply-shifts (suc q) s t =
@@ -121,6 +128,11 @@ module _ (σ : ℕ → Bool) (P : ℕ) (per : Periodic σ P) where
   least-up-one t =
       let m = least-is-met t in omega (arith, m .2, least-over-all-starts (m .0) (suc t), bit-le (σ (m .0 + t)))
 
+  -- and so on
+  pub least-up-by : (t n : ℕ) → leastSupply σ P (t + n) ≤ leastSupply σ P t + n
+  least-up-by t zero = omega (arith, ap (leastSupply σ P) (add-zero t))
+  least-up-by t (suc n) = omega (arith, ap (leastSupply σ P) (add-suc t n), least-up-one (t + n), least-up-by t n)
+
   -- two stretches together have no less than the two alone
   pub least-superadditive : (a b : ℕ) → leastSupply σ P a + leastSupply σ P b ≤ leastSupply σ P (a + b)
   least-superadditive a b =
@@ -167,3 +179,16 @@ module _ (σ : ℕ → Bool) (P : ℕ) (per : Periodic σ P) where
     where
       no-less : (a b : ℕ) → (b < a → ⊥) → a ≤ b
       no-less a b q = omega arith
+
+  -- whole frames give every start as much: the least start of a length is that of the rest
+  pub least-start-rest : (t : ℕ) → leastStart σ P (t % P) ≡ leastStart σ P t
+  least-start-rest t =
+      let f = least-start (t % P) in
+      least-start-unique t (leastStart σ P (t % P)) (omega (arith, f .1, whole (leastStart σ P (t % P)), all))
+      (λ r l. omega (arith, f .2 r l, whole r, all))
+    where
+      whole : (s : ℕ) → supply σ s t ≡ supply σ s (t % P) + t / P * perFrame σ P
+      whole s = ap (supply σ s) (sym (mod-add-div' t P)) ∙ supply-frames (t / P) s (t % P)
+
+      all : leastSupply σ P t ≡ leastSupply σ P (t % P) + t / P * perFrame σ P
+      all = ap (leastSupply σ P) (sym (mod-add-div' t P)) ∙ least-frames (t / P) (t % P)

@@ -1,6 +1,6 @@
 use Rattle.checker.proofs.BoundLaws.{bound-refused, bound-absent, bound-given}
 use Rattle.tables.specs.Told.{boardOf, faultOf}
-use Rattle.theory.specs.Answers.{checked-legal}
+use Rattle.theory.specs.Answers.{orElse-fine, checked-legal}
 use Rattle.theory.specs.Lists.{pieces-length}
 use Rattle.scope.specs.Answers.{Fault.fine, _orElse_, tableFault, groupFault}
 use Rattle.scope.specs.Tasks.{task}
@@ -30,8 +30,8 @@ group-fine c = sym (c .before .before .check-group .ensures) ∙ ap faultOf (c .
 
 response-of-requires : tie.Need-response-of-requires
 response-of-requires c κs =
-    let k = checked-legal _ _ _ (group-fine (c .before)) in
-    (k .1, omega (arith, pieces-length _ 3 task (c .before .before .before .before .before .before .args .tasks .now)))
+    let e = group-fine (c .before) in
+    (orElse-fine (tableFault _ _) (groupFault _) e .0, checked-legal _ _ _ e .1, omega (arith, pieces-length _ 3 task (c .before .before .before .before .before .before .args .tasks .now)))
 
 returns : tie.Need-returns
 returns c = bound-refused _ _ _ _ (sym (c .before .before .before .check-group .ensures) ∙ ap faultOf (c .before .r .given .1))

@@ -1,6 +1,6 @@
 use mathlib.Core.Path.{_≡_, sym, ap, _∙_}
 use Rattle.scope.specs.Answers.{Fault.fine, _orElse_, Answer.given, tableFault, groupFault, lengthFault}
-use Rattle.theory.specs.Answers.{checked-legal, length-legal}
+use Rattle.theory.specs.Answers.{orElse-fine, checked-legal, length-legal}
 use Rattle.tables.specs.Told.{boardOf, faultOf}
 use Rattle.checker.proofs.DemandLaws.{margin-is, margin-refused, margin-late, margin-given}
 use native.Mathlib.Omega.{arith}
@@ -12,7 +12,7 @@ use Rattle.checker.proofs.demand.margin.Lts as lts
 use Rattle.checker.proofs.demand.demand_of.Reads as demand-of-reads
 use Rattle.checker.proofs.demand.difference.Reads as difference-reads
 use Rattle.tables.proofs.length.check_length.Reads as check-length-reads
-use Rattle.supply.proofs.supply.least_of.Reads as least-of-reads
+use Rattle.checker.proofs.least.least_of.Reads as least-of-reads
 use Rattle.tables.proofs.task.check_group.Reads as check-group-reads
 
 check-group-requires : tie.Need-check-group-requires
@@ -42,7 +42,8 @@ length-fine : (c : tie.After-enum-told2) → lengthFault (c .before .before .bef
 length-fine c = sym (c .before .before .check-length .ensures) ∙ ap faultOf (c .enum-told2 .given .1)
 
 least-of-requires : tie.Need-least-of-requires
-least-of-requires c κs = search needs
+least-of-requires c κs =
+    (orElse-fine (tableFault _ _) (groupFault _) (group-fine (c .before .before .before)) .0, length-legal _ (length-fine c))
 
 demand-of-requires : tie.Need-demand-of-requires
 demand-of-requires c κs =

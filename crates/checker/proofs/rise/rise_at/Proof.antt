@@ -1,8 +1,13 @@
-use borrow.Author.Needs.{needs}
+use mathlib.Core.Path.{_≡_, refl}
 use native.Mathlib.Omega.{arith}
-use Prim.Native.Nat.{ℕ, _+_, _-_, _*_, _≤_, _<_}
-use lib.ListN.{length}
-use mathlib.Core.Path.{_≡_}
+use Prim.Native.Nat.{_-_, _/_, _≤_, _<_}
+use lib.ListN.{length, length-set}
+use borrow.Author.Needs.{needs}
+use Rattle.scope.specs.Limits.{mostTasks, mostLength}
+use Rattle.theory.specs.Answers.{LegalGroup}
+use Rattle.theory.specs.Tasks.{TaskRule}
+use Rattle.tables.specs.Told.{taskOf}
+use Rattle.checker.proofs.RiseLaws.{Moving, moving-none, in-room, rule, by-most, moving-more, moving-all}
 use Rattle.checker.proofs.rise.rise_at.Statement.{statement}
 use Rattle.checker.proofs.rise.rise_at.Tie as tie
 use Rattle.checker.proofs.rise.rise_at.Reads as reads
@@ -13,70 +18,81 @@ use Rattle.checker.proofs.rise.work_at.Reads as work-at-reads
 use Rattle.tables.proofs.task.task_at.Reads as task-at-reads
 
 abbrev Inv-loop : tie.InvT-loop
-Inv-loop tasks due₀ length count by₀ next₀ i₀ due by next i = ?
+Inv-loop tasks due₀ ticks count by₀ next₀ i₀ due by next i =
+    (i ≤ count) × (ticks ≤ mostLength) × (length due ≡ length due₀) × (ok : LegalGroup tasks) × Moving tasks ok ticks i due by next
 
 abbrev μ-loop : tie.MeasureT-loop
-μ-loop tasks due₀ length count by₀ next₀ i₀ due by next i = ?
+μ-loop tasks due₀ ticks count by₀ next₀ i₀ due by next i = count - i
 
--- src/rise.rt:67:5
 loop-holds : tie.Need-loop-holds Inv-loop μ-loop
-loop-holds c = search needs
+loop-holds c =
+    let p = c .before .before .pre in (omega arith, p .1, refl, p .0, moving-none _ (p .0) _ _ _ (omega arith) (p .2))
 
--- src/rise.rt:68:13
 task-at-requires : tie.Need-task-at-requires Inv-loop μ-loop
 task-at-requires c κs = search needs
 
--- src/rise.rt:69:20
+-- what is known of task i: there is a place for its deadline, and it keeps its rule
+known : (c : tie.After-task-at Inv-loop μ-loop) → let l = c .before .before .loop in
+    (l .i < length (l .due)) × (length (l .due) ≡ mostTasks) × TaskRule (taskOf (c .task-at .result))
+known c =
+    let l = c .before .before .loop in (
+      in-room _ (l .inv .3) _ (l .i) _ _ _ (l .inv .4) (omega arith) _ (c .task-at .ensures),
+      l .inv .4 .size,
+      rule _ (l .inv .3) _ (l .i) _ _ _ (l .inv .4) (omega arith) _ (c .task-at .ensures),
+    )
+
 mul-here : tie.Need-mul-here Inv-loop μ-loop
-mul-here c = search needs
+mul-here c = omega (arith, known c)
 
--- src/rise.rt:69:20
 slice-read-here : tie.Need-slice-read-here Inv-loop μ-loop
-slice-read-here c = search needs
+slice-read-here c = known (c .before) .0
 
--- src/rise.rt:70:13
 due-after-requires : tie.Need-due-after-requires Inv-loop μ-loop
-due-after-requires c κs = search needs
+due-after-requires c κs =
+    let k = c .before in (k .before .before .loop .inv .1, known k .2 .period-most)
 
--- src/rise.rt:71:15
 work-at-requires : tie.Need-work-at-requires Inv-loop μ-loop
 work-at-requires c κs = search needs
 
--- src/rise.rt:71:9
 add-by : tie.Need-add-by Inv-loop μ-loop
-add-by c = search needs
+add-by c =
+    let k = c .before .before .before in
+    let l = k .before .before .loop in
+    omega (arith, by-most _ (l .inv .3) _ (l .i) _ _ _ (l .inv .4) (omega arith) _ (k .task-at .ensures) _ _ (c .before .due-after .ensures) (c .work-at .ensures) (l .inv .1))
 
--- src/rise.rt:72:9
 mul-due : tie.Need-mul-due Inv-loop μ-loop
-mul-due c = search needs
+mul-due c = omega (arith, known (c .before .before .before))
 
--- src/rise.rt:72:9
 slice-write-due : tie.Need-slice-write-due Inv-loop μ-loop
-slice-write-due c = search needs
+slice-write-due c = known (c .before .before .before) .0
 
--- src/rise.rt:73:9
 lesser-requires : tie.Need-lesser-requires Inv-loop μ-loop
 lesser-requires c κs = search needs
 
--- src/rise.rt:74:9
 add-i : tie.Need-add-i Inv-loop μ-loop
 add-i c = search needs
 
--- src/rise.rt:67:5
 loop-less : tie.Need-loop-less Inv-loop μ-loop
 loop-less c = search needs
 
--- src/rise.rt:67:5
 loop-again : tie.Need-loop-again Inv-loop μ-loop
-loop-again c = search needs
+loop-again c =
+    let w = c .before in
+    let k = w .before .before .before in
+    let l = k .before .before .loop in (
+      omega arith,
+      l .inv .1,
+      simp length-set (l .inv .2),
+      l .inv .3,
+      rw (c .lesser .ensures) (moving-more _ (l .inv .3) _ (l .i) _ _ _ (l .inv .4) (omega arith) _ (k .task-at .ensures) _ _
+          (w .before .due-after .ensures) (w .work-at .ensures)),
+    )
 
--- src/rise.rt:59:1
 same-length : tie.Need-same-length Inv-loop μ-loop
-same-length c = search needs
+same-length c = c .before .loop .inv .2
 
--- src/rise.rt:59:1
 returns : tie.Need-returns Inv-loop μ-loop
-returns c = search needs
+returns c = let l = c .before .loop in moving-all _ (l .inv .3) _ (l .i) _ _ _ (omega arith) (l .inv .4)
 
 pub rise-at-spec : {M : Type 1} → statement M
 rise-at-spec =

@@ -1,8 +1,11 @@
-use borrow.Author.Needs.{needs}
 use native.Mathlib.Omega.{arith}
-use Prim.Native.Nat.{ℕ, _+_, _-_, _*_, _≤_, _<_}
-use lib.ListN.{length}
 use mathlib.Core.Path.{_≡_}
+use Prim.Native.Nat.{_-_, _≤_}
+use borrow.Author.Needs.{needs}
+use Rattle.scope.specs.Limits.{mostFrame}
+use Rattle.theory.specs.Answers.{LegalTable}
+use Rattle.tables.specs.Told.{boardOf}
+use Rattle.checker.proofs.StretchLaws.{on-le, Counted, counted-none, counted-more, counted-all}
 use Rattle.checker.proofs.stretch.first_ticks.Statement.{statement}
 use Rattle.checker.proofs.stretch.first_ticks.Tie as tie
 use Rattle.checker.proofs.stretch.first_ticks.Reads as reads
@@ -12,50 +15,55 @@ use Rattle.tables.proofs.cursor.Cursor.new.Reads as new-reads
 use Rattle.tables.proofs.cursor.Cursor.next.Reads as next-reads
 
 abbrev Inv-loop : tie.InvT-loop
-Inv-loop board windows length to₀ supply₀ i₀ to supply i = ?
+Inv-loop board windows length to₀ supply₀ i₀ to supply i =
+    (i ≤ length) × (length ≤ mostFrame) × (ok : LegalTable (boardOf board) windows) × Counted (boardOf board) windows ok i to supply
 
 abbrev μ-loop : tie.MeasureT-loop
-μ-loop board windows length to₀ supply₀ i₀ to supply i = ?
+μ-loop board windows length to₀ supply₀ i₀ to supply i = length - i
 
--- src/stretch.rt:30:9
 new-requires : tie.Need-new-requires Inv-loop μ-loop
 new-requires c κs = search needs
 
--- src/stretch.rt:33:5
 loop-holds : tie.Need-loop-holds Inv-loop μ-loop
-loop-holds c = search needs
+loop-holds c =
+    let p = c .before .before .pre in (omega arith, p .1, p .0, counted-none _ _ (p .0) _ (c .new .ensures))
 
--- src/stretch.rt:34:19
 tick-at-requires : tie.Need-tick-at-requires Inv-loop μ-loop
 tick-at-requires c κs = search needs
 
--- src/stretch.rt:34:9
 add-supply : tie.Need-add-supply Inv-loop μ-loop
-add-supply c = search needs
+add-supply c =
+    let a = c .before .before .before .before .before .args in
+    let l = c .before .before .loop in
+    omega (arith, l .inv .3 .few, c .tick-at .ensures, on-le (boardOf (a .board)) (a .windows .now) (l .to))
 
--- src/stretch.rt:35:9
 next-requires : tie.Need-next-requires Inv-loop μ-loop
 next-requires c κs = search needs
 
--- src/stretch.rt:36:9
 add-i : tie.Need-add-i Inv-loop μ-loop
 add-i c = search needs
 
--- src/stretch.rt:33:5
 loop-less : tie.Need-loop-less Inv-loop μ-loop
 loop-less c = search needs
 
--- src/stretch.rt:33:5
 loop-again : tie.Need-loop-again Inv-loop μ-loop
-loop-again c = search needs
+loop-again c =
+    let l = c .before .before .before .loop in (
+      omega arith,
+      l .inv .1,
+      l .inv .2,
+      counted-more _ _ (l .inv .2) (l .i) (l .to) _ _ _ (l .inv .3) (c .before .tick-at .ensures) (c .next .ensures),
+    )
 
--- src/stretch.rt:38:9
 new-requires-2 : tie.Need-new-requires-2 Inv-loop μ-loop
 new-requires-2 c κs = search needs
 
--- src/stretch.rt:26:1
 returns : tie.Need-returns Inv-loop μ-loop
-returns c = search needs
+returns c =
+    let a = c .before .before .before .before .before .args in
+    let l = c .before .before .loop in
+    let e : l .i ≡ a .length = omega arith in
+    counted-all _ _ (l .inv .2) _ _ _ _ (rw e at (l .inv .3)) (c .new2 .ensures)
 
 pub first-ticks-spec : {M : Type 1} → statement M
 first-ticks-spec =

@@ -1,7 +1,7 @@
-use native.Mathlib.Omega.{arith}
-use Prim.Native.Nat.{ℕ, _+_, _-_, _*_, _≤_, _<_}
-use lib.ListN.{length}
 use mathlib.Core.Path.{_≡_}
+use native.Mathlib.Omega.{arith}
+use Rattle.tables.specs.Told.{boardOf}
+use Rattle.checker.proofs.StretchLaws.{on-le}
 use borrow.Author.Needs.{needs}
 use Rattle.checker.proofs.stretch.slid.Statement.{statement}
 use Rattle.checker.proofs.stretch.slid.Tie as tie
@@ -10,42 +10,32 @@ use Rattle.checker.proofs.stretch.slid.Lts as lts
 use Rattle.checker.proofs.stretch.tick_at.Reads as tick-at-reads
 use Rattle.tables.proofs.cursor.Cursor.next.Reads as next-reads
 
--- src/stretch.rt:50:9
 tick-at-requires : tie.Need-tick-at-requires
 tick-at-requires c κs = search needs
 
--- src/stretch.rt:51:9
 tick-at-requires-2 : tie.Need-tick-at-requires-2
 tick-at-requires-2 c κs = search needs
 
--- src/stretch.rt:53:15
 next-requires : tie.Need-next-requires
 next-requires c κs = search needs
 
--- src/stretch.rt:54:13
 next-requires-2 : tie.Need-next-requires-2
 next-requires-2 c κs = search needs
 
--- src/stretch.rt:55:17
 add-t11 : tie.Need-add-t11
-add-t11 c = search needs
+add-t11 c =
+    let e = c .before .before .before .before .before .before .before in
+    omega (arith, e .pre .few, c .before .before .before .tick-at .ensures, on-le (boardOf (e .args .board)) (e .args .windows .now) (e .args .stretch .to))
 
--- src/stretch.rt:55:17
 sub-t12 : tie.Need-sub-t12
-sub-t12 c = search needs
+sub-t12 c =
+    let e = c .before .before .before .before .before .before .before in
+    omega (arith, e .pre .there, c .before .before .before .tick-at .ensures, c .before .before .tick-at2 .ensures)
 
--- src/stretch.rt:43:1
 returns : tie.Need-returns
-returns c = search needs
+returns c = rw (c .before .next .ensures, c .next2 .ensures, c .before .before .before .tick-at .ensures, c .before .before .tick-at2 .ensures)
 
 pub slid-spec : {M : Type 1} → statement M
 slid-spec =
     tie.close
-    (tie.spec
-    tick-at-requires
-    tick-at-requires-2
-    next-requires
-    next-requires-2
-    add-t11
-    sub-t12
-    returns)
+    (tie.spec tick-at-requires tick-at-requires-2 next-requires next-requires-2 add-t11 sub-t12 returns)

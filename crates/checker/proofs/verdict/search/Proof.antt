@@ -1,158 +1,173 @@
-use Rattle.scope.specs.Answers.{Answer.given}
+use mathlib.Core.Path.{_≡_, refl, sym, ap, _∙_}
 use mathlib.Core.Logic.{⊎-elim}
-use Rattle.scope.specs.Ticks.{leastSupply, supply as supplyOf}
-use Rattle.scope.specs.Windows.{windowsOf, suppliedBy}
-use Rattle.scope.specs.Tasks.{tasksOf}
-use Rattle.theory.specs.Windows.{supplied-periodic}
-use Rattle.supply.specs.Slid.{supply-slid}
+use Prim.Native.Nat.{_+_, _-_, _%_, _≤_, _<_}
+use native.Mathlib.Omega.{arith}
+use native.Mathlib.Nat.{mod-lt}
+use borrow.Author.Needs.{needs}
+use Rattle.scope.specs.Limits.{mostFrame, mostTasks, mostOfTask, mostLength}
+use Rattle.scope.specs.Ticks.{Periodic}
+use Rattle.scope.specs.Windows.{suppliedBy}
+use Rattle.scope.specs.Tasks.{tasksOf, demand as demandBy}
+use Rattle.scope.specs.Answers.{Answer.given}
+use Rattle.theory.specs.Answers.{LegalTable, table-legal}
+use Rattle.theory.specs.Rows.{table-row}
 use Rattle.tables.specs.declared.answer.Verdict.the-variants.{Meets}
 use Rattle.tables.specs.Told.{boardOf, toldVerdict}
-use Rattle.checker.proofs.VerdictLaws.{Carried, carried-first, carried-next, carried-on, search-meets, Above, above-next, not-all-above, search-misses}
-use borrow.Author.Needs.{needs}
-use native.Mathlib.Omega.{arith}
-use Prim.Native.Nat.{_+_, _-_, _≤_}
-use mathlib.Core.Path.{_≡_, refl, sym, ap, _∙_}
+use Rattle.checker.specs.Rises.{Risen}
+use Rattle.checker.specs.Stretches.{Spans}
+use Rattle.checker.proofs.DemandLaws.{demand-most}
+use Rattle.checker.proofs.StretchLaws.{spans-slides, spans-on}
+use Rattle.checker.proofs.VerdictLaws.{Reached, Asked, asked, reached-next, reached-first, search-meets, Above, above-next}
+use Rattle.checker.proofs.VerdictLaws.{not-all-above, search-misses}
 use Rattle.checker.proofs.verdict.search.Statement.{statement}
 use Rattle.checker.proofs.verdict.search.Tie as tie
 use Rattle.checker.proofs.verdict.search.Reads as reads
 use Rattle.checker.proofs.verdict.search.Lts as lts
-use Rattle.checker.proofs.demand.demand_of.Reads as demand-of-reads
-use Rattle.supply.proofs.supply.least_of.Reads as least-of-reads
-use Rattle.supply.proofs.supply.supply_from.Reads as supply-from-reads
-use Rattle.supply.proofs.supply.tick_of.Reads as tick-of-reads
-use Rattle.checker.proofs.verdict.exceeds.Reads as exceeds-reads
+use Rattle.checker.proofs.least.least_of.Reads as least-of-reads
+use Rattle.checker.proofs.rise.first_due.Reads as first-due-reads
+use Rattle.checker.proofs.rise.rise_at.Reads as rise-at-reads
+use Rattle.checker.proofs.stretch.first_ticks.Reads as first-ticks-reads
+use Rattle.checker.proofs.stretch.slid.Reads as slid-reads
+use Rattle.checker.proofs.verdict.carried.Reads as carried-reads
 
 abbrev Inv-loop : tie.InvT-loop
-Inv-loop board windows tasks cycle frame found₀ before length demand supply start₀ n₀ found start n =
-    let σ = suppliedBy (boardOf board) windows in
-    (start ≤ board .frame) × (found ≡ Meets cycle) × (n ≡ supplyOf σ start length) × Above σ (board .frame) length start
+Inv-loop board windows tasks cycle frame found₀ due demand supply length risen rest least stretch₀ start₀ found stretch start =
+    (start ≤ board .frame) × (found ≡ Meets cycle) × Spans (boardOf board) windows start rest stretch
+    × Above (suppliedBy (boardOf board) windows) (board .frame) rest start
 
 abbrev μ-loop : tie.MeasureT-loop
-μ-loop board windows tasks cycle frame found₀ before length demand supply start₀ n₀ found start n = board .frame - start
+μ-loop board windows tasks cycle frame found₀ due demand supply length risen rest least stretch₀ start₀ found stretch start = board .frame - start
 
 abbrev Inv-search : tie.InvT-search
-Inv-search board windows tasks cycle frame found₀ before₀ length₀ found before length =
-    let σ = suppliedBy (boardOf board) windows in
-    (1 ≤ length) × (length ≤ cycle + 1) × (found ≡ Meets cycle) × (before ≤ leastSupply σ (board .frame) length)
-    × Carried σ (board .frame) (tasksOf tasks) length
+Inv-search board windows tasks cycle frame found₀ due₀ demand₀ supply₀ length₀ found due demand supply length =
+    (found ≡ Meets cycle) × Reached (suppliedBy (boardOf board) windows) (board .frame) (tasksOf tasks) length demand supply due
 
 abbrev μ-search : tie.MeasureT-search
-μ-search board windows tasks cycle frame found₀ before₀ length₀ found before length = cycle + 1 - length
+μ-search board windows tasks cycle frame found₀ due₀ demand₀ supply₀ length₀ found due demand supply length = cycle + 1 - length
+
+slice-aggregate-first-due : tie.Need-slice-aggregate-first-due Inv-loop μ-loop Inv-search μ-search
+slice-aggregate-first-due c = search needs
+
+first-due-requires : tie.Need-first-due-requires Inv-loop μ-loop Inv-search μ-search
+first-due-requires c κs = (c .before .before .before .pre .1, refl)
+
+slice-aggregate-rise-at : tie.Need-slice-aggregate-rise-at Inv-loop μ-loop Inv-search μ-search
+slice-aggregate-rise-at c = search needs
+
+rise-at-requires : tie.Need-rise-at-requires Inv-loop μ-loop Inv-search μ-search
+rise-at-requires c κs = (c .before .before .before .before .before .before .pre .1, omega arith, c .before .before .first-due .ensures)
 
 search-holds : tie.Need-search-holds Inv-loop μ-loop Inv-search μ-search
 search-holds c =
-    let a = c .before .before in
-    let per = supplied-periodic (boardOf (a .args .board)) (windowsOf (a .args .windows .now)) (a .pre .0) in
-    (omega arith, omega arith, refl, omega arith, carried-first _ _ per _ (a .pre .1 .rules))
+    let e = c .before .before .before .before .before .before .before .before in
+    (refl, reached-first _ _ (table-row _ _ (table-legal _ _ (e .pre .0)) .repeats) _ (e .pre .1 .rules) _ _ (c .before .rise-at .ensures))
 
-demand-of-requires : tie.Need-demand-of-requires Inv-loop μ-loop Inv-search μ-search
-demand-of-requires c κs = search needs
+slice-aggregate-rise-at-2 : tie.Need-slice-aggregate-rise-at-2 Inv-loop μ-loop Inv-search μ-search
+slice-aggregate-rise-at-2 c = search needs
 
-exceeds-requires : tie.Need-exceeds-requires Inv-loop μ-loop Inv-search μ-search
-exceeds-requires c κs = c .before .before .search .inv .3
+rise-at-requires-2 : tie.Need-rise-at-requires-2 Inv-loop μ-loop Inv-search μ-search
+rise-at-requires-2 c κs =
+    let s = c .before .before .search in
+    (c .before .before .before .before .before .before .before .before .before .before .before .pre .1, omega (arith, c .before .before .before .before .before .before .before .before .before .before .before .pre .2), s .inv .1 .dues)
+
+-- the demand of the length, which is small
+add-demand : tie.Need-add-demand Inv-loop μ-loop Inv-search μ-search
+add-demand c =
+    let e = c .before .before .before .before .before .before .before .before .before .before .before .before .before .before in
+    let s = c .before .before .before .before .before .search in
+    omega (arith, s .inv .1 .demanded, c .before .before .rise-at2 .ensures .by, demand-most (e .args .tasks .now) (s .length) (e .pre .1) (omega (arith, e .pre .2)))
+
+carried-requires : tie.Need-carried-requires Inv-loop μ-loop Inv-search μ-search
+carried-requires c κs = (c .before .before .before .before .before .before .before .before .before .before .before .before .before .before .pre .0, omega (arith, c .before .before .before .before .before .before .before .before .before .before .before .before .before .before .pre .2))
+
+-- what is known of the table
+legal-at : (c : tie.After-carried Inv-loop μ-loop Inv-search μ-search) → let a = c .before .before .before .before .before .before .before .before .before .before .before .before .before .before .before .args in LegalTable (boardOf (a .board)) (a .windows .now)
+legal-at c = table-legal _ _ (c .before .before .before .before .before .before .before .before .before .before .before .before .before .before .before .pre .0)
+
+per-at : (c : tie.After-carried Inv-loop μ-loop Inv-search μ-search) → let a = c .before .before .before .before .before .before .before .before .before .before .before .before .before .before .before .args in
+    Periodic (suppliedBy (boardOf (a .board)) (a .windows .now)) (a .board .frame)
+per-at c = table-row _ _ (legal-at c) .repeats
+
+-- and of the length
+asked-at : (c : tie.After-carried Inv-loop μ-loop Inv-search μ-search) →
+    let a = c .before .before .before .before .before .before .before .before .before .before .before .before .before .before .before .args in
+    let s = c .before .before .before .before .before .before .search in
+    let r = c .before .before .before .rise-at2 in
+    Asked (suppliedBy (boardOf (a .board)) (a .windows .now)) (a .board .frame) (tasksOf (a .tasks .now))
+    (s .length) (s .demand + r .result .by) (c .carried .result) (r .last .1 .0) (r .result)
+asked-at c = asked _ _ (per-at c) _ _ _ _ _ _ _ _ (c .before .before .before .before .before .before .search .inv .1) (c .before .before .before .rise-at2 .ensures) (c .carried .ensures)
+
+-- the rest of the length is less than a frame
+rest-less : (c : tie.After-carried Inv-loop μ-loop Inv-search μ-search) →
+    (c .before .before .before .before .before .before .search .length % c .before .before .before .before .before .before .before .before .before .before .before .before .before .before .before .args .board .frame < c .before .before .before .before .before .before .before .before .before .before .before .before .before .before .before .args .board .frame) × (c .before .before .before .before .before .before .before .before .before .before .before .before .before .before .before .args .board .frame ≤ mostFrame)
+rest-less c = (mod-lt (c .before .before .before .before .before .before .search .length) (legal-at c .frame), legal-at c .frame-most)
+
+cast-if1 : tie.Need-cast-if1 Inv-loop μ-loop Inv-search μ-search
+cast-if1 c = search needs
+
+rem-rest : tie.Need-rem-rest Inv-loop μ-loop Inv-search μ-search
+rem-rest c = legal-at (c .before) .frame
 
 least-of-requires : tie.Need-least-of-requires Inv-loop μ-loop Inv-search μ-search
-least-of-requires c κs = search needs
+least-of-requires c κs = (c .before .before .before .before .before .before .before .before .before .before .before .before .before .before .before .before .pre .0, omega (arith, rest-less (c .before)))
 
-supply-from-requires : tie.Need-supply-from-requires Inv-loop μ-loop Inv-search μ-search
-supply-from-requires c κs = search needs
+first-ticks-requires : tie.Need-first-ticks-requires Inv-loop μ-loop Inv-search μ-search
+first-ticks-requires c κs = (legal-at (c .before .before), omega (arith, rest-less (c .before .before)))
 
 loop-holds : tie.Need-loop-holds Inv-loop μ-loop Inv-search μ-search
-loop-holds c =
-    (omega arith, c .before .before .before .before .before .before .search .inv .2, c .supply-from .ensures, λ r l. absurd (omega arith))
+loop-holds c = (omega arith, c .before .before .before .before .before .before .before .before .before .search .inv .0, c .first-ticks .ensures, λ r l. absurd (omega arith))
 
-cast-tick-of : tie.Need-cast-tick-of Inv-loop μ-loop Inv-search μ-search
-cast-tick-of c = search needs
-
-cast-tick-of-2 : tie.Need-cast-tick-of-2 Inv-loop μ-loop Inv-search μ-search
-cast-tick-of-2 c = search needs
-
-add-tick-of : tie.Need-add-tick-of Inv-loop μ-loop Inv-search μ-search
-add-tick-of c = search needs
-
-tick-of-requires : tie.Need-tick-of-requires Inv-loop μ-loop Inv-search μ-search
-tick-of-requires c κs = search needs
-
-cast-tick-of-3 : tie.Need-cast-tick-of-3 Inv-loop μ-loop Inv-search μ-search
-cast-tick-of-3 c = search needs
-
-tick-of-requires-2 : tie.Need-tick-of-requires-2 Inv-loop μ-loop Inv-search μ-search
-tick-of-requires-2 c κs = search needs
-
--- the start moves on by a tick
-slid : (c : tie.After-tick-of2 Inv-loop μ-loop Inv-search μ-search) →
-    let d = c .before .before .before .before in
-    let s = d .before .before .before .before .before .before .before in
-    let a = s .before .before .before .args in
-    let sum = d .loop .n + c .before .tick-of .result in
-    (sum ≤ s .search .length + 1) × (c .tick-of2 .result ≤ sum)
-    × (sum - c .tick-of2 .result ≡ supplyOf (suppliedBy (boardOf (a .board)) (a .windows .now)) (d .loop .start + 1) (s .search .length))
-slid c =
-    let d = c .before .before .before .before in
-    let s = d .before .before .before .before .before .before .before in
-    let a = s .before .before .before .args in
-    supply-slid (suppliedBy (boardOf (a .board)) (a .windows .now)) (d .loop .start) (s .search .length) _ _ _
-    (d .loop .inv .2) (c .before .tick-of .ensures) (c .tick-of2 .ensures)
-
-add-n : tie.Need-add-n Inv-loop μ-loop Inv-search μ-search
-add-n c = omega (arith, slid c)
-
-sub-n : tie.Need-sub-n Inv-loop μ-loop Inv-search μ-search
-sub-n c = omega (arith, slid c)
+slid-requires : tie.Need-slid-requires Inv-loop μ-loop Inv-search μ-search
+slid-requires c κs =
+    let d = c .before .before .before .before .before .before .before in spans-slides _ _ (legal-at d) _ _ _ (c .before .before .before .loop .inv .2) (omega (arith, rest-less d))
 
 add-start : tie.Need-add-start Inv-loop μ-loop Inv-search μ-search
-add-start c = search needs
+add-start c = omega (arith, c .before .before .before .loop-test .taken, rest-less (c .before .before .before .before .before .before .before .before))
 
 loop-less : tie.Need-loop-less Inv-loop μ-loop Inv-search μ-search
-loop-less c = search needs
+loop-less c = omega (arith, c .before .before .before .loop-test .taken)
 
 loop-again : tie.Need-loop-again Inv-loop μ-loop Inv-search μ-search
 loop-again c =
-    let d = c .before .before .before .before in
-    let a = d .before .before .before .before .before .before .before .before .before .before in
-    let per = supplied-periodic (boardOf (a .args .board)) (windowsOf (a .args .windows .now)) (a .pre .0) in (
-      omega arith,
-      d .loop .inv .1,
-      slid c .2,
-      above-next _ _ per (tasksOf (a .args .tasks .now)) _ _ _ _ (d .before .before .least-of .ensures)
-          (d .loop .inv .2) (c .before .before .if2 .left) (d .loop .inv .3),
+    let d = c .before .before .before .before .before .before .before .before in
+    let l = c .before .before .before .before .loop in
+    let n = c .before in (
+      omega (arith, c .before .before .before .loop-test .taken),
+      l .inv .1,
+      spans-on _ _ (legal-at d) _ _ _ (l .inv .2) _ (c .slid .ensures),
+      above-next _ _ (per-at d) (tasksOf (d .before .before .before .before .before .before .before .before .before .before .before .before .before .before .before .args .tasks .now)) _ _ _ _ (c .before .before .before .before .before .before .least-of .ensures) (l .inv .2 .held) (n .if2 .left) (l .inv .3),
     )
 
-add-length : tie.Need-add-length Inv-loop μ-loop Inv-search μ-search
-add-length c = search needs
-
 search-less : tie.Need-search-less Inv-loop μ-loop Inv-search μ-search
-search-less c = search needs
+search-less c =
+    let d = c .before .before .before .before .before in absurd (not-all-above _ _ (per-at d) (tasksOf (d .before .before .before .before .before .before .before .before .before .before .before .before .before .before .before .args .tasks .now)) _ _ (c .loop-test .left) (c .before .loop .inv .3))
 
 search-again : tie.Need-search-again Inv-loop μ-loop Inv-search μ-search
 search-again c =
-    let a = c .before .before .before .before .before .before .before in
-    let per = supplied-periodic (boardOf (a .args .board)) (windowsOf (a .args .windows .now)) (a .pre .0) in
-    let l = c .before .before .before .before .search in
-    let e = c .before .before .demand-of .ensures .0 in
-    ⊎-elim (λ w. absurd (not-all-above _ _ per (tasksOf (a .args .tasks .now)) _ _ (w .4 .left) (w .3 .inv .3)))
-    (λ w.
-    let fits = sym (c .before .exceeds .ensures) ∙ w .0 .left in
-    (omega arith, omega arith, w .1 ∙ l .inv .2, carried-on _ _ per _ _ _ e fits, carried-next _ _ per _ _ _ e fits (l .inv .4)))
-    (c .if1 .came)
+    let d = c .before .before .before .before .before in absurd (not-all-above _ _ (per-at d) (tasksOf (d .before .before .before .before .before .before .before .before .before .before .before .before .before .before .before .args .tasks .now)) _ _ (c .loop-test .left) (c .before .loop .inv .3))
+
+search-less-2 : tie.Need-search-less-2 Inv-loop μ-loop Inv-search μ-search
+search-less-2 c = omega (arith, asked-at (c .before) .risen .later, c .before .before .before .before .before .before .search-test .taken)
+
+search-again-2 : tie.Need-search-again-2 Inv-loop μ-loop Inv-search μ-search
+search-again-2 c =
+    let d = c .before in
+    (c .before .before .before .before .before .before .before .search .inv .0, reached-next _ _ (per-at d) _ (d .before .before .before .before .before .before .before .before .before .before .before .before .before .before .before .pre .1 .rules) _ _ _ _ _ (asked-at d) (c .if1 .left))
 
 returns : tie.Need-returns Inv-loop μ-loop Inv-search μ-search
 returns c =
-    let a = c .before .before .before .before in
-    let per = supplied-periodic (boardOf (a .args .board)) (windowsOf (a .args .windows .now)) (a .pre .0) in
+    let e = c .before .before .before .before .before .before .before .before .before .before in
     let l = c .before .search in
-    ap toldVerdict (l .inv .2) ∙ ap given (search-meets _ _ per _ _ (l .length) (omega arith) (l .inv .4))
+    let per = table-row _ _ (table-legal _ _ (e .pre .0)) .repeats in
+    ap toldVerdict (l .inv .0) ∙ ap given (search-meets _ _ per _ _ (l .length) (c .search-test .left) (l .inv .1 .past))
 
 returns-2 : tie.Need-returns-2 Inv-loop μ-loop Inv-search μ-search
 returns-2 c =
-    let d = c .before .before in
-    let s = d .before .before .before .before .before .before .before in
-    let a = s .before .before .before in
-    let per = supplied-periodic (boardOf (a .args .board)) (windowsOf (a .args .windows .now)) (a .pre .0) in
+    let d = c .before .before .before .before .before .before .before in
+    let l = c .before .before .before .loop in
     ap given
-    (search-misses _ _ per _ _ _ _ _ _ _ (omega arith) (s .search .inv .4) (d .before .before .before .before .before .demand-of .ensures .0)
-    (d .before .before .least-of .ensures) (sym (d .before .before .before .before .exceeds .ensures) ∙ d .before .before .before .if1 .taken)
-    (d .loop .inv .2) (c .if2 .taken) (d .loop .inv .3))
+    (search-misses _ _ (per-at d) _ _ _ _ _ _ _ _ _ _ (d .before .before .before .before .before .search-test .taken) (asked-at d) (c .before .before .before .before .before .before .if1 .taken)
+    (c .before .before .before .before .before .least-of .ensures) (l .inv .2 .held) (c .if2 .taken) (l .inv .3))
 
 pub search-spec : {M : Type 1} → statement M
 search-spec =
@@ -162,25 +177,27 @@ search-spec =
     μ-loop
     Inv-search
     μ-search
+    slice-aggregate-first-due
+    first-due-requires
+    slice-aggregate-rise-at
+    rise-at-requires
     search-holds
-    demand-of-requires
-    exceeds-requires
+    slice-aggregate-rise-at-2
+    rise-at-requires-2
+    add-demand
+    carried-requires
+    cast-if1
+    rem-rest
     least-of-requires
-    supply-from-requires
+    first-ticks-requires
     loop-holds
-    cast-tick-of
-    cast-tick-of-2
-    add-tick-of
-    tick-of-requires
-    cast-tick-of-3
-    tick-of-requires-2
-    add-n
-    sub-n
+    slid-requires
     add-start
     loop-less
     loop-again
-    add-length
     search-less
     search-again
+    search-less-2
+    search-again-2
     returns
     returns-2)

@@ -2,7 +2,7 @@ use Rattle.scope.specs.Limits.{mostCycle}
 use Rattle.checker.proofs.VerdictLaws.{verdict-refused, verdict-over, verdict-given}
 use Rattle.checker.proofs.CycleLaws.{was-over, was-found}
 use Rattle.tables.specs.Told.{boardOf, faultOf}
-use Rattle.theory.specs.Answers.{checked-legal}
+use Rattle.theory.specs.Answers.{orElse-fine, checked-legal}
 use Rattle.scope.specs.Windows.{suppliedBy}
 use Rattle.scope.specs.Tasks.{tasksOf}
 use Rattle.scope.specs.Cycle.{cycle}
@@ -50,9 +50,9 @@ enum-known-cycle c = search needs
 
 search-requires : tie.Need-search-requires
 search-requires c κs =
-    let k = checked-legal _ _ _ (group-fine (c .before .before .before .before)) in
+    let e = group-fine (c .before .before .before .before) in
     let h = cycle-fine c in
-    (k .0 .frame, k .1, omega (arith, h))
+    (orElse-fine (tableFault _ _) (groupFault _) e .0, checked-legal _ _ _ e .1, omega (arith, h))
 
 returns : tie.Need-returns
 returns c = verdict-refused _ _ _ (sym (c .before .before .before .check-group .ensures) ∙ ap faultOf (c .before .r .given .1))
