@@ -1,6 +1,7 @@
 /*
  * Times the proved entries beside plain C ones of the same algorithms, and prints Markdown tables. Every timed input is first asked of both:
  * a difference in the answer or in the lent buffer ends the program with status 1, and so does an answer that the input's words do not tell.
+ * A bar that is not met is only told, for a busy machine can miss any.
  */
 #define _POSIX_C_SOURCE 200809L
 #include "palikudyom.h"
@@ -25,13 +26,17 @@ enum {
 static const double SHORTEST = 0.05; /* seconds that a measurement takes at least */
 static const double LONG = 0.4;      /* seconds after which a measurement is long */
 
+/* request 3's bars, beside those in seconds */
+static const double LEAST_GAIN = 10000;   /* of the least supply's worst input */
+static const double HIGHEST_RATIO = 1.10; /* to plain C */
+
 struct input {
     uint32_t frame;
     uint32_t windows[128];
     size_t windows_len;
     uint32_t tasks[96];
     size_t tasks_len;
-    uint32_t asked; /* the length of a least supply, the index of a bound, the ticks of a run */
+    uint32_t asked; /* the length of a least supply or margin, the index of a bound, the ticks of a run */
     uint32_t jobs[3 * MOST_JOBS];
     size_t jobs_len;
     uint8_t trace[(RELEASE_BYTES + COMPLETION_BYTES) * MOST_JOBS]; /* of the run of these jobs */
@@ -63,6 +68,11 @@ typedef struct palikudyom_answer ask(const struct input *x, uint32_t *buffer);
         (void)buffer;                                                                                                   \
         return side##_outage(x->frame, x->windows, x->windows_len);                                                     \
     }                                                                                                                   \
+    static struct palikudyom_answer side##_asked_for_margin(const struct input *x, uint32_t *buffer)                   \
+    {                                                                                                                   \
+        (void)buffer;                                                                                                   \
+        return side##_margin(x->frame, x->windows, x->windows_len, x->tasks, x->tasks_len, x->asked);                   \
+    }                                                                                                                   \
     static struct palikudyom_answer side##_asked_for_verdict(const struct input *x, uint32_t *buffer)                  \
     {                                                                                                                   \
         (void)buffer;                                                                                                   \
@@ -87,6 +97,12 @@ typedef struct palikudyom_answer ask(const struct input *x, uint32_t *buffer);
 SIDE(palikudyom)
 SIDE(plain)
 
+static struct palikudyom_answer plain_asked_for_least_supply_by_ticks(const struct input *x, uint32_t *buffer)
+{
+    (void)buffer;
+    return plain_least_supply_by_ticks(x->frame, x->windows, x->windows_len, x->asked);
+}
+
 static struct palikudyom_answer plain_asked_for_run_every_tick(const struct input *x, uint32_t *buffer)
 {
     return plain_run_every_tick(x->frame, x->windows, x->windows_len, x->tasks, x->tasks_len, x->asked, x->jobs, x->jobs_len, buffer, ROOM);
@@ -102,10 +118,12 @@ static const struct entry LEAST_SUPPLY = {"least supply", palikudyom_asked_for_l
 static const struct entry CRITICAL = {"critical partition", palikudyom_asked_for_critical, plain_asked_for_critical};
 static const struct entry DELAY = {"delay", palikudyom_asked_for_delay, plain_asked_for_delay};
 static const struct entry OUTAGE = {"outage", palikudyom_asked_for_outage, plain_asked_for_outage};
+static const struct entry MARGIN = {"margin", palikudyom_asked_for_margin, plain_asked_for_margin};
 static const struct entry VERDICT = {"verdict", palikudyom_asked_for_verdict, plain_asked_for_verdict};
 static const struct entry BOUND = {"bound", palikudyom_asked_for_bound, plain_asked_for_bound};
 static const struct entry RUN = {"run", palikudyom_asked_for_run, plain_asked_for_run};
 static const struct entry REPLAY = {"replay", palikudyom_asked_for_replay, plain_asked_for_replay};
+static const struct entry LEAST_SUPPLY_BY_TICKS = {"least supply", palikudyom_asked_for_least_supply, plain_asked_for_least_supply_by_ticks};
 static const struct entry RUN_EVERY_TICK = {"run", palikudyom_asked_for_run, plain_asked_for_run_every_tick};
 
 /* Comparing */
@@ -125,7 +143,8 @@ static int same_answer(struct palikudyom_answer x, struct palikudyom_answer y)
 static uint32_t proved_buffer[ROOM];
 static uint32_t plain_buffer[ROOM];
 
-static void compare(const struct entry *entry, const char *words, uint32_t code, const struct input *x)
+/* `first`: the answer's first number where the words tell it, else 0 */
+static void compare(const struct entry *entry, const char *words, uint32_t code, uint64_t first, const struct input *x)
 {
     for (size_t i = 0; i < ROOM; i++)
         proved_buffer[i] = plain_buffer[i] = UNTOUCHED;
@@ -135,7 +154,7 @@ static void compare(const struct entry *entry, const char *words, uint32_t code,
         fail(entry->name, words, "the two answers differ");
     if (memcmp(proved_buffer, plain_buffer, sizeof proved_buffer) != 0)
         fail(entry->name, words, "the two buffers differ");
-    if (proved.code != code)
+    if (proved.code != code || (first != 0 && proved.a != first))
         fail(entry->name, words, "not the answer that is meant to be timed");
 }
 
@@ -220,7 +239,29 @@ static void spread_windows(struct input *x, uint32_t frame, uint32_t count)
     }
 }
 
-/* windows of one tick at 0, 2, 4 and on: after the last of them a tick's scan passes every window, which is the worst a table can do */
+/* windows at even distances that supply 15 of 16 ticks; the distance a multiple of 16 */
+static void dense_windows(struct input *x, uint32_t frame, uint32_t count)
+{
+    x->frame = frame;
+    x->windows_len = 2 * count;
+    for (uint32_t i = 0; i < count; i++) {
+        x->windows[2 * i] = i * (frame / count);
+        x->windows[2 * i + 1] = i * (frame / count) + frame / count / 16 * 15;
+    }
+}
+
+/* windows of one tick at even distances: the least supply of a length is how often the distance goes into it */
+static void rare_windows(struct input *x, uint32_t frame, uint32_t count)
+{
+    x->frame = frame;
+    x->windows_len = 2 * count;
+    for (uint32_t i = 0; i < count; i++) {
+        x->windows[2 * i] = (i + 1) * (frame / count) - 1;
+        x->windows[2 * i + 1] = (i + 1) * (frame / count);
+    }
+}
+
+/* windows of one tick at 0, 2, 4 and on */
 static void early_windows(struct input *x, uint32_t frame, uint32_t count)
 {
     x->frame = frame;
@@ -236,6 +277,13 @@ static void add_task(struct input *x, uint32_t work, uint32_t period, uint32_t d
     x->tasks[x->tasks_len++] = work;
     x->tasks[x->tasks_len++] = period;
     x->tasks[x->tasks_len++] = deadline;
+}
+
+/* so many tasks of one tick whose deadlines together are `first`, at most `step`, and every `step` ticks after it */
+static void add_deadlines(struct input *x, uint32_t first, uint32_t step, uint32_t tasks)
+{
+    for (uint32_t i = 0; i < tasks; i++)
+        add_task(x, 1, tasks * step, first + i * step);
 }
 
 /* every task released in full at 0 and then once a period, for a run of `ticks` */
@@ -317,7 +365,7 @@ static void eight_tasks(struct input *x)
         add_task(x, periods[i] / 20, periods[i], periods[i]);
 }
 
-/* Inputs of the first table: small is document 01's table X; worst is about the worst that an entry takes, heavy what ends in about a second */
+/* Inputs of the first table: small is document 01's table X; worst is about the worst that an entry takes */
 
 static void small_table(struct input *x)
 {
@@ -399,7 +447,8 @@ static void typical_replay(struct input *x)
     record_run(x);
 }
 
-static void worst_table(struct input *x)
+/* a stretch from the last window on passes the 64 windows of its frame and the 63 early ones of the next */
+static void early_table(struct input *x)
 {
     early_windows(x, 65536, 64);
 }
@@ -407,47 +456,119 @@ static void worst_table(struct input *x)
 /* the whole frames cost nothing, so 14 frames and 65,535 ticks are as bad as any length */
 static void worst_least_supply(struct input *x)
 {
-    worst_table(x);
+    early_table(x);
     x->asked = 983039;
 }
 
-static void heavy_critical(struct input *x)
+/* the last window ends with the frame: all stretches of 125 ticks and more pass 127 windows and more, and no table has more to pass */
+static void worst_table(struct input *x)
 {
-    early_windows(x, 384, 64);
+    early_table(x);
+    x->windows[127] = 65536;
 }
 
-static void heavy_delay(struct input *x)
+/* one tick in 1,024 is not supplied: the least supply of t ticks is t − 1 − (t − 1) / 1,024 */
+static void gapped_table(struct input *x)
 {
-    early_windows(x, 768, 64);
+    x->frame = 65536;
+    x->windows_len = 128;
+    for (uint32_t i = 0; i < 64; i++) {
+        x->windows[2 * i] = 1024 * i;
+        x->windows[2 * i + 1] = 1024 * i + 1023;
+    }
 }
 
-/* deadlines apart, so that the demand rises at 3,875 lengths and each asks for a least supply */
-static void heavy_verdict(struct input *x)
+/*
+ * Every length but 1, 1,025, 2,049 and on is the deadline of one job: the demand rises at 982,080 lengths, each time to the least supply, so that what
+ * is known of that never suffices. Periods of 48 and 80 make 15 frames of the cycle.
+ */
+static void worst_verdict(struct input *x)
 {
-    early_windows(x, 160, 64);
-    for (uint32_t i = 0; i < 31; i++)
-        add_task(x, 1, 8000, 8000 - 7 * i);
+    gapped_table(x);
+    for (uint32_t step = 32; step <= 1024; step *= 2)
+        add_deadlines(x, step / 2 + 1, step, 1);
+    for (uint32_t first = 2; first < 10; first++)
+        add_deadlines(x, first, 16, 1);
+    for (uint32_t first = 10; first < 15; first++)
+        add_deadlines(x, first, 16, 2);
+    add_deadlines(x, 15, 16, 3);
+    add_deadlines(x, 16, 16, 5);
+}
+
+/* the same lengths, by other tasks: one of them has its only deadline at the cycle, where it asks for one tick too many */
+static void latest_miss(struct input *x)
+{
+    gapped_table(x);
+    add_deadlines(x, 3, 4, 2);
+    for (uint32_t step = 8; step <= 1024; step *= 2)
+        add_deadlines(x, step / 2 + 1, step, 1);
+    for (uint32_t step = 4; step <= 65536; step *= 2)
+        add_deadlines(x, step / 2, step, 1);
+    for (uint32_t i = 1; i < 3; i++)
+        add_task(x, 1, 196608, 65536 * i);
+    for (uint32_t i = 1; i < 5; i++)
+        add_task(x, 1, 983040, 196608 * i);
+    add_task(x, 2, 983040, 983040);
+}
+
+/* one tick in 1,000 is not supplied, but the last window is longer: a length has all 64 of them where it leaves out the first 1,001 ticks of that */
+static void latest_start(struct input *x)
+{
+    x->frame = 65536;
+    x->windows_len = 128;
+    for (uint32_t i = 0; i < 64; i++) {
+        x->windows[2 * i] = 1000 * i;
+        x->windows[2 * i + 1] = 1000 * i + 999;
+    }
+    x->windows[127] = 65535;
+    add_task(x, 64472, 65536, 64535);
+}
+
+/* a length whose rest is the longest; the demand of 32 tasks */
+static void worst_margin(struct input *x)
+{
+    worst_verdict(x);
+    x->asked = 983039;
+}
+
+/* one tick in 1,024, and above the asked task one that takes a tick in 1,025: one or two ticks are missing at every length, so most lengths are asked */
+static void worst_bound(struct input *x)
+{
+    rare_windows(x, 65536, 64);
+    add_task(x, 1, 1025, 1025);
     add_task(x, 1, 1000000, 1000000);
+    x->asked = 1;
 }
 
-/* those above ask for more than is supplied, so that every length up to the deadline is tried */
-static void heavy_bound(struct input *x)
+/* 31 tasks above, by which each ask divides */
+static void broad_bound(struct input *x)
 {
-    early_windows(x, 160, 64);
+    rare_windows(x, 65536, 64);
     for (uint32_t i = 0; i < 31; i++)
-        add_task(x, 1, 2 + i, 2 + i);
-    add_task(x, 1, 4000, 4000);
+        add_task(x, 1, 31761 + 32 * i, 31761 + 32 * i);
+    add_task(x, 1, 1000000, 1000000);
     x->asked = 31;
 }
 
-/* every tick's scan ends at the last window, which supplies it; 32 tasks are released together 128 times: 4,096 jobs */
+/* 32 tasks are released together 128 times: 4,096 jobs */
+static void many_jobs(struct input *x, uint32_t work)
+{
+    for (uint32_t i = 0; i < 32; i++)
+        add_task(x, work, 8593, 8593);
+    release_all(x, LONGEST_RUN);
+}
+
 static void worst_run(struct input *x)
 {
-    early_windows(x, 65536, 64);
-    x->windows[127] = 65536;
-    for (uint32_t i = 0; i < 32; i++)
-        add_task(x, 260, 8593, 8593);
-    release_all(x, LONGEST_RUN);
+    worst_table(x);
+    many_jobs(x, 260);
+}
+
+/* a window begins or ends at most ticks */
+static void dense_run(struct input *x)
+{
+    early_windows(x, 160, 64);
+    many_jobs(x, 100);
 }
 
 /* the last job is released later than in the run's input, when no other is pending, and is complete at the last instant that a trace may have */
@@ -471,31 +592,31 @@ static void table_by_frame(struct input *x, uint32_t frame)
     spread_windows(x, frame, 8);
 }
 
-/* the demand rises at 128 lengths, whatever the table */
-static void three_tasks(struct input *x)
+/* on dense windows 1,024 ticks supply 960 at least, and 959 are asked for, at the last of the lengths one more: each of up to 960 is asked */
+static void tight_tasks(struct input *x, uint32_t lengths)
 {
-    add_task(x, 100, 1024, 1024);
-    add_task(x, 100, 1024, 900);
-    add_task(x, 1, 65536, 65536);
+    add_task(x, 959, 1024, 1024);
+    add_task(x, 1, 1024 * lengths, 1024 * lengths);
 }
 
 static void verdict_by_frame(struct input *x, uint32_t frame)
 {
-    spread_windows(x, frame, 8);
-    three_tasks(x);
+    dense_windows(x, frame, 64);
+    tight_tasks(x, 960);
 }
 
-static void starved_task(struct input *x, uint32_t deadline)
+/* on windows of one tick at the same distance two ticks are missing at all lengths but its multiples: every other length is asked */
+static void starved_task(struct input *x, uint32_t distance, uint32_t deadline)
 {
-    add_task(x, 1, 1, 1);
+    add_task(x, 1, distance, distance);
     add_task(x, 1, deadline, deadline);
     x->asked = 1;
 }
 
 static void bound_by_frame(struct input *x, uint32_t frame)
 {
-    spread_windows(x, frame, 8);
-    starved_task(x, 500);
+    rare_windows(x, frame, 64);
+    starved_task(x, frame / 64, 100000);
 }
 
 static void run_by_frame(struct input *x, uint32_t frame)
@@ -507,25 +628,25 @@ static void run_by_frame(struct input *x, uint32_t frame)
 
 static void least_supply_by_windows(struct input *x, uint32_t count)
 {
-    spread_windows(x, 4096, count);
-    x->asked = 4095;
+    spread_windows(x, 65536, count);
+    x->asked = 65535;
 }
 
 static void table_by_windows(struct input *x, uint32_t count)
 {
-    spread_windows(x, 256, count);
+    spread_windows(x, 4096, count);
 }
 
 static void verdict_by_windows(struct input *x, uint32_t count)
 {
-    spread_windows(x, 1024, count);
-    three_tasks(x);
+    dense_windows(x, 1024, count);
+    tight_tasks(x, 960);
 }
 
 static void bound_by_windows(struct input *x, uint32_t count)
 {
-    spread_windows(x, 1024, count);
-    starved_task(x, 500);
+    rare_windows(x, 1024, count);
+    starved_task(x, 1024 / count, 100000);
 }
 
 static void run_by_windows(struct input *x, uint32_t count)
@@ -541,18 +662,33 @@ static void least_supply_by_length(struct input *x, uint32_t length)
     x->asked = length - 1;
 }
 
-static void verdict_by_cycle(struct input *x, uint32_t cycle)
+static void verdict_by_asks(struct input *x, uint32_t lengths)
 {
-    spread_windows(x, 1000, 8);
-    add_task(x, 100, 1000, 1000);
-    add_task(x, 100, 1000, 800);
-    add_task(x, 1, cycle, cycle);
+    dense_windows(x, 1024, 64);
+    tight_tasks(x, lengths);
+}
+
+/* half of what is supplied is asked for: what is known suffices for nearly as long again */
+static void verdict_by_rises(struct input *x, uint32_t lengths)
+{
+    dense_windows(x, 1024, 64);
+    add_task(x, 1, 2, 2);
+    add_task(x, 1, 2 * lengths, 2 * lengths);
+}
+
+/* all tasks but the first rise once, at the cycle */
+static void verdict_by_tasks(struct input *x, uint32_t count)
+{
+    dense_windows(x, 1024, 64);
+    tight_tasks(x, 960);
+    for (uint32_t i = 2; i < count; i++)
+        add_task(x, 1, 983040, 983040);
 }
 
 static void bound_by_deadline(struct input *x, uint32_t deadline)
 {
-    spread_windows(x, 16, 1);
-    starved_task(x, deadline);
+    rare_windows(x, 65536, 64);
+    starved_task(x, 1024, deadline);
 }
 
 static void run_by_ticks(struct input *x, uint32_t ticks)
@@ -575,48 +711,62 @@ static void replay_by_jobs(struct input *x, uint32_t jobs)
 
 struct one_case {
     const struct entry *entry;
-    const char *words;
+    const char *name;
+    const char *words; /* none where an earlier table has them */
     uint32_t code;
+    uint64_t first; /* the answer's first number where the words tell it, else 0 */
     void (*make)(struct input *x);
+    double bar; /* seconds, 0: none */
 };
 
 static const struct one_case CASES[] = {
-    {&LEAST_SUPPLY, "small: P 8, 2 windows, length 6", PALIKUDYOM_AMOUNT, small_least_supply},
-    {&LEAST_SUPPLY, "typical: P 1,000, 8 windows, length 2,500", PALIKUDYOM_AMOUNT, typical_least_supply},
-    {&LEAST_SUPPLY, "worst: P 65,536, 64 windows, length 983,039", PALIKUDYOM_AMOUNT, worst_least_supply},
-    {&CRITICAL, "small: P 8, 2 windows", PALIKUDYOM_AMOUNT, small_table},
-    {&CRITICAL, "typical: P 1,000, 8 windows", PALIKUDYOM_AMOUNT, typical_table},
-    {&CRITICAL, "heavy: P 384, 64 windows", PALIKUDYOM_AMOUNT, heavy_critical},
-    {&DELAY, "small: P 8, 2 windows", PALIKUDYOM_DELAY, small_table},
-    {&DELAY, "typical: P 1,000, 8 windows", PALIKUDYOM_DELAY, typical_table},
-    {&DELAY, "heavy: P 768, 64 windows", PALIKUDYOM_DELAY, heavy_delay},
-    {&OUTAGE, "small: P 8, 2 windows", PALIKUDYOM_AMOUNT, small_table},
-    {&OUTAGE, "typical: P 1,000, 8 windows", PALIKUDYOM_AMOUNT, typical_table},
-    {&OUTAGE, "worst: P 65,536, 64 windows", PALIKUDYOM_AMOUNT, worst_table},
-    {&VERDICT, "small: P 8, 2 windows, 2 tasks, meets, H 8", PALIKUDYOM_MEETS, small_verdict},
-    {&VERDICT, "typical: P 1,000, 8 windows, 8 tasks, meets, H 10,000", PALIKUDYOM_MEETS, typical_verdict},
-    {&VERDICT, "heavy: P 160, 64 windows, 32 tasks, meets, H 1,000,000", PALIKUDYOM_MEETS, heavy_verdict},
-    {&BOUND, "small: P 8, 2 windows, the lower of 2 tasks", PALIKUDYOM_BOUND, small_bound},
-    {&BOUND, "typical: P 1,000, 8 windows, the lowest of 8 tasks", PALIKUDYOM_BOUND, typical_bound},
-    {&BOUND, "heavy: P 160, 64 windows, the lowest of 32 tasks, D 4,000, no bound", PALIKUDYOM_NO_BOUND, heavy_bound},
-    {&RUN, "small: P 8, 2 windows, 2 tasks, 2 jobs, 10 ticks", PALIKUDYOM_MET, small_run},
-    {&RUN, "typical: P 1,000, 8 windows, 8 tasks, 36 jobs, 10,000 ticks", PALIKUDYOM_MET, typical_run},
-    {&RUN, "worst: P 65,536, 64 windows, 32 tasks, 4,096 jobs, 1,100,000 ticks", PALIKUDYOM_MET, worst_run},
-    {&REPLAY, "small: P 8, 2 windows, 2 tasks, 4 records, 7 ticks", PALIKUDYOM_SAME, small_replay},
-    {&REPLAY, "typical: P 1,000, 8 windows, 8 tasks, 72 records, 9,164 ticks", PALIKUDYOM_SAME, typical_replay},
-    {&REPLAY, "worst: P 65,536, 64 windows, 32 tasks, 8,192 records, 1,100,000 ticks", PALIKUDYOM_SAME, worst_replay},
+    {&LEAST_SUPPLY, "small", "P 8, 2 windows, length 6", PALIKUDYOM_AMOUNT, 0, small_least_supply, 0},
+    {&LEAST_SUPPLY, "typical", "P 1,000, 8 windows, length 2,500", PALIKUDYOM_AMOUNT, 0, typical_least_supply, 0},
+    {&LEAST_SUPPLY, "worst", "P 65,536, 64 windows, length 983,039", PALIKUDYOM_AMOUNT, 0, worst_least_supply, 0},
+    {&CRITICAL, "small", "P 8, 2 windows", PALIKUDYOM_AMOUNT, 0, small_table, 0},
+    {&CRITICAL, "typical", "P 1,000, 8 windows", PALIKUDYOM_AMOUNT, 0, typical_table, 0},
+    {&CRITICAL, "worst", "P 65,536, 64 windows", PALIKUDYOM_AMOUNT, 0, worst_table, 1},
+    {&DELAY, "small", "P 8, 2 windows", PALIKUDYOM_DELAY, 0, small_table, 0},
+    {&DELAY, "typical", "P 1,000, 8 windows", PALIKUDYOM_DELAY, 0, typical_table, 0},
+    {&DELAY, "worst", "P 65,536, 64 windows", PALIKUDYOM_DELAY, 0, worst_table, 1},
+    {&OUTAGE, "small", "P 8, 2 windows", PALIKUDYOM_AMOUNT, 0, small_table, 0},
+    {&OUTAGE, "typical", "P 1,000, 8 windows", PALIKUDYOM_AMOUNT, 0, typical_table, 0},
+    {&OUTAGE, "worst", "P 65,536, 64 windows", PALIKUDYOM_AMOUNT, 0, early_table, 0},
+    {&MARGIN, "worst", "P 65,536, 64 windows, 32 tasks, length 983,039", PALIKUDYOM_MARGIN, 0, worst_margin, 0},
+    {&VERDICT, "small", "P 8, 2 windows, 2 tasks, meets, H 8", PALIKUDYOM_MEETS, 8, small_verdict, 0},
+    {&VERDICT, "typical", "P 1,000, 8 windows, 8 tasks, meets, H 10,000", PALIKUDYOM_MEETS, 10000, typical_verdict, 0},
+    {&VERDICT, "worst", "P 65,536, 64 windows, 32 tasks, meets, H 983,040, 982,080 asks", PALIKUDYOM_MEETS, 983040, worst_verdict, 5},
+    {&VERDICT, "latest miss", "P 65,536, 64 windows, 32 tasks, miss at length 983,040, 982,080 asks", PALIKUDYOM_MISS, 983040, latest_miss, 5},
+    {&VERDICT, "latest start", "P 65,536, 64 windows, 1 task, miss at length 64,535, start 64,001", PALIKUDYOM_MISS, 64535, latest_start, 5},
+    {&BOUND, "small", "P 8, 2 windows, the lower of 2 tasks", PALIKUDYOM_BOUND, 0, small_bound, 0},
+    {&BOUND, "typical", "P 1,000, 8 windows, the lowest of 8 tasks", PALIKUDYOM_BOUND, 0, typical_bound, 0},
+    {&BOUND, "worst", "P 65,536, 64 windows, 2 tasks, D 1,000,000, no bound, 738,432 asks", PALIKUDYOM_NO_BOUND, 0, worst_bound, 5},
+    {&BOUND, "broad", "P 65,536, 64 windows, 32 tasks, D 1,000,000, no bound, 193,205 asks", PALIKUDYOM_NO_BOUND, 0, broad_bound, 5},
+    {&RUN, "small", "P 8, 2 windows, 2 tasks, 2 jobs, 10 ticks", PALIKUDYOM_MET, 0, small_run, 0},
+    {&RUN, "typical", "P 1,000, 8 windows, 8 tasks, 36 jobs, 10,000 ticks", PALIKUDYOM_MET, 0, typical_run, 0},
+    {&RUN, "worst", "P 65,536, 64 windows, 32 tasks, 4,096 jobs, 1,100,000 ticks", PALIKUDYOM_MET, 0, worst_run, 0},
+    {&RUN, "dense", "P 160, 64 windows, 32 tasks, 4,096 jobs, 1,100,000 ticks", PALIKUDYOM_MET, 0, dense_run, 0},
+    {&REPLAY, "small", "P 8, 2 windows, 2 tasks, 4 records, 7 ticks", PALIKUDYOM_SAME, 0, small_replay, 0},
+    {&REPLAY, "typical", "P 1,000, 8 windows, 8 tasks, 72 records, 9,164 ticks", PALIKUDYOM_SAME, 0, typical_replay, 0},
+    {&REPLAY, "worst", "P 65,536, 64 windows, 32 tasks, 8,192 records, 1,100,000 ticks", PALIKUDYOM_SAME, 0, worst_replay, 0},
+};
+
+static const struct one_case BEFORE[] = {
+    {&LEAST_SUPPLY_BY_TICKS, "small", "", PALIKUDYOM_AMOUNT, 0, small_least_supply, 0},
+    {&LEAST_SUPPLY_BY_TICKS, "typical", "", PALIKUDYOM_AMOUNT, 0, typical_least_supply, 0},
+    {&LEAST_SUPPLY_BY_TICKS, "worst", "", PALIKUDYOM_AMOUNT, 0, worst_least_supply, 0},
 };
 
 static const struct one_case CHECKED_ONCE[] = {
-    {&RUN_EVERY_TICK, "small", PALIKUDYOM_MET, small_run},
-    {&RUN_EVERY_TICK, "typical", PALIKUDYOM_MET, typical_run},
-    {&RUN_EVERY_TICK, "worst", PALIKUDYOM_MET, worst_run},
+    {&RUN_EVERY_TICK, "small", "", PALIKUDYOM_MET, 0, small_run, 0},
+    {&RUN_EVERY_TICK, "typical", "", PALIKUDYOM_MET, 0, typical_run, 0},
+    {&RUN_EVERY_TICK, "worst", "", PALIKUDYOM_MET, 0, worst_run, 0},
 };
 
 static const struct one_case BESIDE_RUN[] = {
-    {&REPLAY, "small", PALIKUDYOM_SAME, small_replay},
-    {&REPLAY, "typical", PALIKUDYOM_SAME, typical_replay},
-    {&REPLAY, "worst", PALIKUDYOM_SAME, worst_replay},
+    {&REPLAY, "small", "", PALIKUDYOM_SAME, 0, small_replay, 0},
+    {&REPLAY, "typical", "", PALIKUDYOM_SAME, 0, typical_replay, 0},
+    {&REPLAY, "worst", "", PALIKUDYOM_SAME, 0, worst_replay, 0},
 };
 
 struct growth {
@@ -629,23 +779,25 @@ struct growth {
 };
 
 static const struct growth GROWTHS[] = {
-    {&LEAST_SUPPLY, "P", "8 windows, length P − 1", PALIKUDYOM_AMOUNT, least_supply_by_frame, {1024, 2048, 4096, 8192}},
-    {&CRITICAL, "P", "8 windows", PALIKUDYOM_AMOUNT, table_by_frame, {128, 256, 512, 1024}},
-    {&DELAY, "P", "8 windows", PALIKUDYOM_DELAY, table_by_frame, {256, 512, 1024, 2048}},
-    {&OUTAGE, "P", "8 windows", PALIKUDYOM_AMOUNT, table_by_frame, {256, 512, 1024, 2048}},
-    {&VERDICT, "P", "8 windows, 3 tasks, H 65,536", PALIKUDYOM_MEETS, verdict_by_frame, {1024, 2048, 4096, 8192}},
-    {&BOUND, "P", "8 windows, 2 tasks, D 500, no bound", PALIKUDYOM_NO_BOUND, bound_by_frame, {1024, 2048, 4096, 8192}},
-    {&RUN, "P", "8 windows, 1 task, 50,000 ticks", PALIKUDYOM_MET, run_by_frame, {1024, 2048, 4096, 8192}},
-    {&LEAST_SUPPLY, "windows", "P 4,096, length 4,095", PALIKUDYOM_AMOUNT, least_supply_by_windows, {1, 8, 64}},
-    {&CRITICAL, "windows", "P 256", PALIKUDYOM_AMOUNT, table_by_windows, {1, 8, 64}},
-    {&DELAY, "windows", "P 256", PALIKUDYOM_DELAY, table_by_windows, {1, 8, 64}},
-    {&OUTAGE, "windows", "P 256", PALIKUDYOM_AMOUNT, table_by_windows, {1, 8, 64}},
-    {&VERDICT, "windows", "P 1,024, 3 tasks, H 65,536", PALIKUDYOM_MEETS, verdict_by_windows, {1, 8, 64}},
-    {&BOUND, "windows", "P 1,024, 2 tasks, D 500, no bound", PALIKUDYOM_NO_BOUND, bound_by_windows, {1, 8, 64}},
+    {&LEAST_SUPPLY, "P", "8 windows, length P − 1", PALIKUDYOM_AMOUNT, least_supply_by_frame, {1024, 8192, 65536}},
+    {&CRITICAL, "P", "8 windows", PALIKUDYOM_AMOUNT, table_by_frame, {1024, 8192, 65536}},
+    {&DELAY, "P", "8 windows", PALIKUDYOM_DELAY, table_by_frame, {1024, 8192, 65536}},
+    {&OUTAGE, "P", "8 windows", PALIKUDYOM_AMOUNT, table_by_frame, {1024, 8192, 65536}},
+    {&VERDICT, "P", "64 windows, 2 tasks, 960 rises, all asked", PALIKUDYOM_MEETS, verdict_by_frame, {1024, 8192, 65536}},
+    {&BOUND, "P", "64 windows, 2 tasks, D 100,000, no bound", PALIKUDYOM_NO_BOUND, bound_by_frame, {1024, 8192, 65536}},
+    {&RUN, "P", "8 windows, 1 task, 50,000 ticks", PALIKUDYOM_MET, run_by_frame, {1024, 8192, 65536}},
+    {&LEAST_SUPPLY, "windows", "P 65,536, length 65,535", PALIKUDYOM_AMOUNT, least_supply_by_windows, {1, 8, 64}},
+    {&CRITICAL, "windows", "P 4,096", PALIKUDYOM_AMOUNT, table_by_windows, {1, 8, 64}},
+    {&DELAY, "windows", "P 4,096", PALIKUDYOM_DELAY, table_by_windows, {1, 8, 64}},
+    {&OUTAGE, "windows", "P 4,096", PALIKUDYOM_AMOUNT, table_by_windows, {1, 8, 64}},
+    {&VERDICT, "windows", "P 1,024, 2 tasks, 960 rises, all asked", PALIKUDYOM_MEETS, verdict_by_windows, {1, 8, 64}},
+    {&BOUND, "windows", "P 1,024, 2 tasks, D 100,000, no bound", PALIKUDYOM_NO_BOUND, bound_by_windows, {1, 8, 64}},
     {&RUN, "windows", "P 4,096, 1 task, 50,000 ticks", PALIKUDYOM_MET, run_by_windows, {1, 8, 64}},
     {&LEAST_SUPPLY, "length + 1", "P 1,000, 8 windows", PALIKUDYOM_AMOUNT, least_supply_by_length, {10000, 100000, 1000000}},
-    {&VERDICT, "H", "P 1,000, 8 windows, 3 tasks", PALIKUDYOM_MEETS, verdict_by_cycle, {10000, 100000, 1000000}},
-    {&BOUND, "D", "P 16, 1 window, 2 tasks, no bound", PALIKUDYOM_NO_BOUND, bound_by_deadline, {10000, 100000, 1000000}},
+    {&VERDICT, "rises, all asked", "P 1,024, 64 windows, 2 tasks", PALIKUDYOM_MEETS, verdict_by_asks, {9, 90, 900}},
+    {&VERDICT, "rises, few asked", "P 1,024, 64 windows, 2 tasks", PALIKUDYOM_MEETS, verdict_by_rises, {4608, 46080, 460800}},
+    {&VERDICT, "tasks", "P 1,024, 64 windows, 960 rises, all asked", PALIKUDYOM_MEETS, verdict_by_tasks, {2, 8, 32}},
+    {&BOUND, "D, half of it asked", "P 65,536, 64 windows, 2 tasks, no bound", PALIKUDYOM_NO_BOUND, bound_by_deadline, {10000, 100000, 1000000}},
     {&RUN, "ticks", "P 1,000, 8 windows, 8 tasks", PALIKUDYOM_MET, run_by_ticks, {10000, 100000, 1000000}},
     {&REPLAY, "jobs", "P 1,000, 8 windows, 128 jobs a task", PALIKUDYOM_SAME, replay_by_jobs, {512, 1024, 2048, 4096}},
 };
@@ -673,20 +825,84 @@ static void print_number(uint32_t n)
     }
 }
 
+/* three figures of a number from 1 on */
+static void print_figures(double n)
+{
+    uint32_t unit = 1;
+    while (1000 <= n / unit)
+        unit *= 10;
+    print_number((uint32_t)(n / unit + 0.5) * unit);
+}
+
 static struct input input; /* the one in use: too large for the stack */
 
-static void print_case(const struct one_case *c)
+struct pair {
+    double proved;
+    double plain;
+};
+
+static struct pair time_case(const struct one_case *c)
 {
+    struct pair times;
     memset(&input, 0, sizeof input);
     c->make(&input);
-    compare(c->entry, c->words, c->code, &input);
-    double proved, plain;
-    measure_both(c->entry->proved, c->entry->plain, &input, &proved, &plain);
-    printf("| %s | %s | ", c->entry->name, c->words);
-    print_time(proved);
+    compare(c->entry, c->name, c->code, c->first, &input);
+    measure_both(c->entry->proved, c->entry->plain, &input, &times.proved, &times.plain);
+    return times;
+}
+
+static struct pair print_case(const struct one_case *c)
+{
+    struct pair times = time_case(c);
+    printf("| %s | %s%s%s | ", c->entry->name, c->name, c->words[0] == 0 ? "" : ": ", c->words);
+    print_time(times.proved);
     printf(" | ");
-    print_time(plain);
-    printf(" | %.2f |\n", proved / plain);
+    print_time(times.plain);
+    printf(" | %.2f |\n", times.proved / times.plain);
+    return times;
+}
+
+/* the plain side is what it was before; how many times as long it took */
+static double print_before(const struct one_case *c)
+{
+    struct pair times = time_case(c);
+    double gained = times.plain / times.proved;
+    printf("| %s | %s | ", c->entry->name, c->name);
+    print_time(times.plain);
+    printf(" | ");
+    print_time(times.proved);
+    printf(" | ");
+    print_figures(gained);
+    printf(" |\n");
+    return gained;
+}
+
+static const char *met(int is)
+{
+    return is ? "met" : "not met";
+}
+
+/* after the bar and what was measured: whether it is met, and the same of the ratio to plain C */
+static void print_met(int is, struct pair times)
+{
+    double ratio = times.proved / times.plain;
+    printf(" | %s | %.2f | %s |\n", met(is), ratio, met(ratio <= HIGHEST_RATIO));
+}
+
+static void print_bar(const struct one_case *c, struct pair times)
+{
+    printf("| %s | %s | under %.0f s | ", c->entry->name, c->name, c->bar);
+    print_time(times.proved);
+    print_met(times.proved < c->bar, times);
+}
+
+static void print_gain(const struct one_case *c, struct pair times, double gained)
+{
+    printf("| %s | %s | ", c->entry->name, c->name);
+    print_figures(LEAST_GAIN);
+    printf(" times as fast as before | ");
+    print_figures(gained);
+    print_met(LEAST_GAIN <= gained, times);
 }
 
 /* the proved replay beside the proved run of the same jobs and ticks */
@@ -694,11 +910,11 @@ static void print_beside_run(const struct one_case *c)
 {
     memset(&input, 0, sizeof input);
     c->make(&input);
-    compare(c->entry, c->words, c->code, &input);
-    compare(&RUN, c->words, PALIKUDYOM_MET, &input);
+    compare(c->entry, c->name, c->code, c->first, &input);
+    compare(&RUN, c->name, PALIKUDYOM_MET, 0, &input);
     double replay, run;
     measure_both(c->entry->proved, RUN.proved, &input, &replay, &run);
-    printf("| %s | ", c->words);
+    printf("| %s | ", c->name);
     print_number(input.records);
     printf(" | ");
     print_number(input.asked);
@@ -716,7 +932,7 @@ static void print_growth(const struct growth *g)
     while (count < LENGTH(g->sizes) && g->sizes[count] != 0) {
         memset(&input, 0, sizeof input);
         g->make(&input, g->sizes[count]);
-        compare(g->entry, g->words, g->code, &input);
+        compare(g->entry, g->words, g->code, 0, &input);
         times[count++] = measure_proved(g->entry, &input);
     }
     printf("| %s | %s | %s | ", g->entry->name, g->words, g->grows);
@@ -736,8 +952,21 @@ int main(void)
 {
     printf("The proved code and plain C of the same algorithms:\n\n");
     printf("| entry | input | proved | plain C | ratio |\n|---|---|---:|---:|---:|\n");
+    struct pair times[LENGTH(CASES)];
     for (size_t i = 0; i < LENGTH(CASES); i++)
-        print_case(&CASES[i]);
+        times[i] = print_case(&CASES[i]);
+    printf("\nThe least supply beside that of before, tick by tick in plain C:\n\n");
+    printf("| entry | input | before | proved | times as fast |\n|---|---|---:|---:|---:|\n");
+    double gained = 0;
+    for (size_t i = 0; i < LENGTH(BEFORE); i++)
+        gained = print_before(&BEFORE[i]);
+    printf("\nThe bars, and at most %.2f of plain C:\n\n", HIGHEST_RATIO);
+    printf("| entry | input | bar | measured | | ratio | |\n|---|---|---|---:|---|---:|---|\n");
+    for (size_t i = 0; i < LENGTH(CASES); i++)
+        if (CASES[i].make == worst_least_supply)
+            print_gain(&CASES[i], times[i], gained);
+        else if (CASES[i].bar != 0)
+            print_bar(&CASES[i], times[i]);
     printf("\nThe run's inputs again, beside plain C that looks for a late job in all 32 places at every tick:\n\n");
     printf("| entry | input | proved | plain C | ratio |\n|---|---|---:|---:|---:|\n");
     for (size_t i = 0; i < LENGTH(CHECKED_ONCE); i++)

@@ -141,19 +141,18 @@ struct cursor {
 };
 
 /* one tick on; past the last window none is at hand up to the end of the frame */
-static struct cursor next_tick(uint32_t frame, struct list windows, struct cursor at)
+static void next_tick(uint32_t frame, struct list windows, struct cursor *at)
 {
-    uint32_t tick = at.tick + 1;
-    if (tick == frame)
-        return (struct cursor){0, 0};
-    if (at.window < windows.len / 2 && end_of(windows, at.window) == tick)
-        return (struct cursor){tick, at.window + 1};
-    return (struct cursor){tick, at.window};
+    at->tick++;
+    if (at->tick == frame)
+        *at = (struct cursor){0, 0};
+    else if (at->window < windows.len / 2 && end_of(windows, at->window) == at->tick)
+        at->window++;
 }
 
-static bool is_on(struct list windows, struct cursor at)
+static bool is_on(struct list windows, const struct cursor *at)
 {
-    return at.window < windows.len / 2 && window_holds(windows, at.window, at.tick);
+    return at->window < windows.len / 2 && window_holds(windows, at->window, at->tick);
 }
 
 /* Groups: task.rt */
@@ -224,33 +223,34 @@ struct place {
     uint32_t before;
 };
 
-static uint32_t end_at(struct list windows, struct place at)
+static uint32_t end_at(struct list windows, const struct place *at)
 {
-    return at.base + end_of(windows, at.index);
+    return at->base + end_of(windows, at->index);
 }
 
 /* after the last window of a frame comes the first of the next frame */
-static struct place next_window(uint32_t frame, struct list windows, struct place at)
+static void next_window(uint32_t frame, struct list windows, struct place *at)
 {
-    uint32_t before = at.before + (end_of(windows, at.index) - start_of(windows, at.index));
-    if (at.index + 1 < windows.len / 2)
-        return (struct place){at.index + 1, at.base, before};
-    return (struct place){0, at.base + frame, before};
+    at->before += end_of(windows, at->index) - start_of(windows, at->index);
+    at->index++;
+    if (at->index == windows.len / 2) {
+        at->index = 0;
+        at->base += frame;
+    }
 }
 
 /* on to the first window that ends after tick x */
-static struct place moved(uint32_t frame, struct list windows, struct place at, uint32_t x)
+static void move_on(uint32_t frame, struct list windows, struct place *at, uint32_t x)
 {
     while (end_at(windows, at) <= x)
-        at = next_window(frame, windows, at);
-    return at;
+        next_window(frame, windows, at);
 }
 
 /* the supplied ticks before tick x, from the place of the first window that ends after it */
-static uint32_t upto(struct list windows, struct place at, uint32_t x)
+static uint32_t upto(struct list windows, const struct place *at, uint32_t x)
 {
-    uint32_t start = at.base + start_of(windows, at.index);
-    return x <= start ? at.before : at.before + (x - start);
+    uint32_t start = at->base + start_of(windows, at->index);
+    return x <= start ? at->before : at->before + (x - start);
 }
 
 /* Supply: supply.rt */
@@ -276,8 +276,8 @@ static struct least least_at_ends(uint32_t frame, struct list windows, uint32_t 
     for (size_t i = 0; i < count; i++) {
         uint32_t end = end_of(windows, i) + length;
         earlier += end_of(windows, i) - start_of(windows, i);
-        at = moved(frame, windows, at, end);
-        least = smaller(least, upto(windows, at, end) - earlier);
+        move_on(frame, windows, &at, end);
+        least = smaller(least, upto(windows, &at, end) - earlier);
     }
     return (struct least){least, earlier};
 }
@@ -581,7 +581,7 @@ struct stretch {
     uint32_t supply;
 };
 
-static uint32_t tick_at(struct list windows, struct cursor at)
+static uint32_t tick_at(struct list windows, const struct cursor *at)
 {
     return is_on(windows, at) ? 1 : 0;
 }
@@ -590,18 +590,19 @@ static struct stretch first_ticks(uint32_t frame, struct list windows, uint32_t 
 {
     struct stretch stretch = {{0, 0}, {0, 0}, 0};
     for (uint32_t i = 0; i < length; i++) {
-        stretch.supply += tick_at(windows, stretch.to);
-        stretch.to = next_tick(frame, windows, stretch.to);
+        stretch.supply += tick_at(windows, &stretch.to);
+        next_tick(frame, windows, &stretch.to);
     }
     return stretch;
 }
 
 /* one tick comes and one goes */
-static struct stretch slid(uint32_t frame, struct list windows, struct stretch stretch)
+static void slide(uint32_t frame, struct list windows, struct stretch *stretch)
 {
-    uint32_t comes = tick_at(windows, stretch.to);
-    uint32_t goes = tick_at(windows, stretch.from);
-    return (struct stretch){next_tick(frame, windows, stretch.from), next_tick(frame, windows, stretch.to), stretch.supply + comes - goes};
+    stretch->supply += tick_at(windows, &stretch->to);
+    stretch->supply -= tick_at(windows, &stretch->from);
+    next_tick(frame, windows, &stretch->from);
+    next_tick(frame, windows, &stretch->to);
 }
 
 /* The verdict: verdict.rt */
@@ -633,7 +634,7 @@ static struct palikudyom_answer search(uint32_t frame, struct list windows, stru
             for (uint32_t start = 0; start < frame; start++) {
                 if (stretch.supply == least)
                     return (struct palikudyom_answer){PALIKUDYOM_MISS, length, start, demand, supply};
-                stretch = slid(frame, windows, stretch);
+                slide(frame, windows, &stretch);
             }
         }
         length = rise.next;
@@ -904,11 +905,11 @@ __attribute__((always_inline)) static inline struct palikudyom_answer run_legal(
     struct run_state s = {.soon = NEVER, .done = NO_JOB};
     uint32_t k = 0;
     while (k < ticks) {
-        bool on = is_on(windows, s.at);
+        bool on = is_on(windows, &s.at);
         release(tasks, jobs, k, &s);
         count_backlog(&s);
         step(&s, on ? earliest(&s) : NO_TASK);
-        s.at = next_tick(frame, windows, s.at);
+        next_tick(frame, windows, &s.at);
         k++;
         note(jobs, k, s.done, counts);
         if (!every_tick && k < s.soon)
