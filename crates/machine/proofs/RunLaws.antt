@@ -5,7 +5,7 @@ use Prim.Native.Nat.{ℕ, _≤_, _<_}
 use native.Mathlib.Omega.{arith}
 use lib.ListN.{length}
 use borrow.Author.Tests.{lt-ltb, le-ltb}
-use Rattle.scope.specs.Limits.{mostTicks}
+use Rattle.scope.specs.Limits.{mostTicks, mostJobs}
 use Rattle.scope.specs.Windows.{Board, suppliedBy}
 use Rattle.scope.specs.Tasks.{tasksOf}
 use Rattle.scope.specs.Jobs.{jobsOf, job}
@@ -13,7 +13,7 @@ use Rattle.scope.specs.Machine.{edf}
 use Rattle.scope.specs.Run.{ran}
 use Rattle.scope.specs.Answers.{Fault, Fault.fine, Fault.fault, _orElse_, tableFault, groupFault, jobListFault, jobFault, roomFault, runFault, runAnswer}
 use Rattle.theory.specs.Lists.{pieces-length}
-use Rattle.theory.specs.Answers.{run-given}
+use Rattle.theory.specs.Answers.{LegalTable, run-given}
 use Rattle.tables.proofs.FaultLaws.{or-assoc, given-by}
 use Rattle.jobs.specs.Legal.{Tasks, Jobs}
 use Rattle.jobs.proofs.Legality.{tasks-of, jobs-of}
@@ -41,9 +41,11 @@ module _ (b : Board) (ws ts : List ℕ) (n : ℕ) (js : List ℕ) (room : ℕ) w
       (or-assoc (groupFault ts) J r ∙ ap (λ (f : Fault). groupFault ts orElse f) (or-assoc (jobListFault n js) (jobFault (tasksOf ts) n (jobsOf js)) r))
 
   -- a run without a fault has all that it needs
-  pub legal-run : runFault b ws ts n js room ≡ fine → Tasks (tasksOf ts) × Jobs (tasksOf ts) (jobsOf js) × (n ≤ mostTicks) × (length (jobsOf js) ≤ room)
+  pub legal-run : runFault b ws ts n js room ≡ fine →
+      LegalTable b ws × (Tasks (tasksOf ts) × Jobs (tasksOf ts) (jobsOf js) × (n ≤ mostTicks) × (length (jobsOf js) ≤ room))
   unfolding runAnswer
   legal-run e =
       let answer = ran (suppliedBy b ws) (edf (tasksOf ts) (jobsOf js)) (tasksOf ts) (jobsOf js) n in
       let r = run-given b ws ts n js room _ (sym (given-by (runFault b ws ts n js room) answer e)) in
-      (tasks-of ts (r .group), jobs-of (tasksOf ts) n (jobsOf js) (r .jobs) (r .ticks) (omega (arith, pieces-length _ 3 job js, r .few)), r .ticks, r .roomy)
+      let few : length (jobsOf js) ≤ mostJobs = omega (arith, pieces-length _ 3 job js, r .few) in
+      (r .table, (tasks-of ts (r .group), jobs-of (tasksOf ts) n (jobsOf js) (r .jobs) (r .ticks) few, r .ticks, r .roomy))

@@ -20,6 +20,7 @@ use Rattle.scope.specs.Run.{Outcome, Outcome.met, Outcome.missed, late, judged,
 use Rattle.scope.specs.Answers.{Answer, Answer.given}
 use Rattle.theory.specs.Numbers.{bool-cases, fits-true, true-fits, first-none, none-first}
 use Rattle.theory.specs.Machine.{workLeft-before}
+use Rattle.tables.specs.declared.cursor.Cursor.{Cursor}
 use Rattle.jobs.specs.Legal.{Tasks, Jobs}
 use Rattle.machine.specs.declared.state.RunState.{RunState}
 use Rattle.machine.specs.Places.{allPlaces, noJob, lateTo}
@@ -110,22 +111,22 @@ module _ (σ : ℕ → Bool) (before : ℕ → ℕ → Bool) (ts : List Task) (j
 
   -- ---- a tick
 
-  module _ (choice : Follows before ts js) (s : RunState) (p : List ℕ)
+  module _ (onward : Cursor → Cursor) (choice : Follows before ts js) (s : RunState) (p : List ℕ)
       (is : At σ before ts js (s .instant) s p) (ontime : OnTime σ before ts js (s .instant)) where
     abbrev k : ℕ
     k = s .instant
 
     abbrev t : RunState
-    t = (tickOf σ ts js (whole s p)) .state
+    t = (tickOf σ onward ts js (whole s p)) .state
 
     abbrev q : List ℕ
-    q = (tickOf σ ts js (whole s p)) .places
+    q = (tickOf σ onward ts js (whole s p)) .places
 
     next : At σ before ts js (k + 1) t q
-    next = tick-at ts js tasks legal σ before s p is ontime choice
+    next = tick-at ts js tasks legal σ before s p is ontime onward choice
 
     ends : Ends (workLeft σ before js k) (workLeft σ before js (k + 1)) (length js) (t .done)
-    ends = tick-ends ts js tasks legal σ before s p is ontime choice
+    ends = tick-ends ts js tasks legal σ before s p is ontime onward choice
 
     -- the job that ended can be noted: it is released, for a job has all its work up to then
     pub can-note : (l : List ℕ) → length js ≤ length l → t .done < mostJobs → Noting js (k + 1) (t .done) l
@@ -152,7 +153,7 @@ module _ (σ : ℕ → Bool) (before : ℕ → ℕ → Bool) (ts : List Task) (j
       found = lateTo (t .pending) q (k + 1) mostTasks
 
       end-is : t .end ≡ cond (ltb found noJob) (k + 1) (s .end)
-      end-is = tick-end ts js tasks legal σ before s p is ontime choice
+      end-is = tick-end ts js tasks legal σ before s p is ontime onward choice
 
       -- the run after it
       make : ((t .end ≡ n) × (outcome σ before ts js (k + 1) ≡ met) × OnTime σ before ts js (k + 1)) ⊎ MissedAt σ before ts js (k + 1) (t .end) →
@@ -213,10 +214,11 @@ module _ (σ : ℕ → Bool) (before : ℕ → ℕ → Bool) (ts : List Task) (j
         room = omega (arith, g .kept .same, begins .room);
       }
 
-      pub going-next : Follows before ts js → (s′ : RunState) (p′ c′ : List ℕ) → Ticked σ ts js s p c s′ p′ c′ →
+      pub going-next : (onward : Cursor → Cursor) → Follows before ts js →
+          (s′ : RunState) (p′ c′ : List ℕ) → Ticked σ onward ts js s p c s′ p′ c′ →
           Going σ before ts js n d s′ p′ c′ × (s′ .end - s′ .instant < s .end - s .instant)
-      going-next choice s′ p′ c′ tk =
-          let y = after-tick σ before ts js (begins .tasks) (begins .jobs) choice s p
+      going-next onward choice s′ p′ c′ tk =
+          let y = after-tick σ before ts js (begins .tasks) (begins .jobs) onward choice s p
           (g .at) (still .2) n d c g (omega (arith, still .0)) (still .0) (still .1) (begins .room) in
           rw (tk .counted)
           (subst (λ (w : Whole). Going σ before ts js n d (w .state) (w .places) (noted js (w .state .instant) (w .state .done) c)

@@ -17,6 +17,7 @@ use Rattle.scope.specs.Machine.{pending, workLeft}
 use Rattle.scope.specs.Run.{backlogIn, backlog}
 use Rattle.theory.specs.Numbers.{sum-eq, sum-swap, sum-zero, sum-at, at, at-other, when-none}
 use Rattle.theory.specs.Machine.{workLeft-length, workLeft-before}
+use Rattle.tables.specs.declared.cursor.Cursor.{Cursor}
 use Rattle.jobs.specs.Legal.{Tasks, Jobs}
 use Rattle.machine.specs.declared.state.RunState.{RunState}
 use Rattle.machine.specs.Bits.{mem, members}
@@ -91,6 +92,7 @@ module _ (ts : List Task) (js : List Job) (tasks : Tasks ts) (legal : Jobs ts js
       go : (t : Bool) → ltb (s .instant) (s .soon) ≡ t → Tested p s (cond t s (record {
         instant = s .instant;
         end = cond (ltb (lateTo (s .pending) p (s .instant) mostTasks) noJob) (s .instant) (s .end);
+        cursor = s .cursor;
         next = s .next;
         pending = s .pending;
         backlog = s .backlog;
@@ -130,7 +132,7 @@ module _ (ts : List Task) (js : List Job) (tasks : Tasks ts) (legal : Jobs ts js
     pub fed-holds : (length (fed .places) ≡ allPlaces) × (fed .state .instant ≡ s .instant)
     fed-holds = (released .holds .size, released .instant)
 
-    module _ (choice : Follows before ts js) where
+    module _ (onward : Cursor → Cursor) (choice : Follows before ts js) where
       -- the task that the tick goes to
       abbrev i : ℕ
       i = goesToOf (σ (s .instant)) (fed .state .pending) (fed .places)
@@ -145,7 +147,7 @@ module _ (ts : List Task) (js : List Job) (tasks : Tasks ts) (legal : Jobs ts js
 
       -- the state when the tick is done, before the miss test
       abbrev worked : RunState
-      worked = workedOf i (endedAt i (fed .places)) (countedOf (fed .state))
+      worked = workedOf i (endedAt i (fed .places)) (onward (s .cursor)) (countedOf (fed .state))
 
       at-next : worked .instant ≡ k + 1
       at-next = omega (arith, released .instant, is .now)
@@ -163,7 +165,11 @@ module _ (ts : List Task) (js : List Job) (tasks : Tasks ts) (legal : Jobs ts js
       tested = test-is (workLeft σ before js (k + 1)) (servedAt i (fed .places)) worked
           (did .holds) (rw at-next (released .split)) (did .soon (fed .state .soon) (released .soon))
 
-      pub tick-at : At σ before ts js (k + 1) ((tickOf σ ts js (whole s p)) .state) ((tickOf σ ts js (whole s p)) .places)
+      -- the state and the places after the whole tick
+      abbrev after : Whole
+      after = tickOf σ onward ts js (whole s p)
+
+      pub tick-at : At σ before ts js (k + 1) (after .state) (after .places)
       unfolding tickOf
       tick-at = record {
         now = tested .instant ∙ at-next;
@@ -174,12 +180,11 @@ module _ (ts : List Task) (js : List Job) (tasks : Tasks ts) (legal : Jobs ts js
       }
 
       -- the job that the code says has ended is the one that has
-      pub tick-ends : Ends work (workLeft σ before js (k + 1)) (length js) ((tickOf σ ts js (whole s p)) .state .done)
+      pub tick-ends : Ends work (workLeft σ before js (k + 1)) (length js) (after .state .done)
       unfolding tickOf
       tick-ends = rw (tested .done) (did .ends)
 
       -- the run ends where a job is late
-      pub tick-end : (tickOf σ ts js (whole s p)) .state .end
-          ≡ cond (ltb (lateTo ((tickOf σ ts js (whole s p)) .state .pending) ((tickOf σ ts js (whole s p)) .places) (k + 1) mostTasks) noJob) (k + 1) (s .end)
+      pub tick-end : after .state .end ≡ cond (ltb (lateTo (after .state .pending) (after .places) (k + 1) mostTasks) noJob) (k + 1) (s .end)
       unfolding tickOf
       tick-end = rw (tested .pending) (tested .end ∙ rw (at-next, released .end))

@@ -9,10 +9,14 @@ use lib.Dec.{ltb}
 use lib.ListN.{length, getD, set}
 use Rattle.scope.specs.Limits.{mostTasks, mostTicks, mostJobs}
 use Rattle.scope.specs.Numbers.{first}
+use Rattle.scope.specs.Windows.{Board}
 use Rattle.scope.specs.Tasks.{Task, taskAt}
 use Rattle.scope.specs.Jobs.{Job, releaseOf, taskOf, deadline}
 use Rattle.scope.specs.Machine.{workLeft}
 use Rattle.scope.specs.Run.{Outcome.met, Outcome.missed, late, outcome, backlog, count}
+use Rattle.theory.specs.Answers.{LegalTable}
+use Rattle.tables.specs.declared.cursor.Cursor.{Cursor}
+use Rattle.tables.specs.Cursors.{cursorAt}
 use Rattle.jobs.specs.Legal.{Tasks, Jobs}
 use Rattle.machine.specs.declared.state.RunState.{RunState}
 use Rattle.machine.specs.Bits.{mem}
@@ -62,6 +66,13 @@ pub record Ends (work work′ : List ℕ) (n d : ℕ) : Type 0 where
   pub other : (j : ℕ) → j < n → j ≢ d → 0 < getD work j 0 → 0 < getD work′ j 0
   pub this : (d ≡ noJob) ⊎ ((d < n) × (0 < getD work d 0) × (getD work′ d 0 ≡ 0))
 
+-- ---- the table
+
+-- it is legal, and the cursor of s is at the tick that begins at its instant: so the window at hand gives this tick exactly where it is supplied
+pub record OnTable (b : Board) (ws : List ℕ) (s : RunState) : Type 0 where
+  pub table : LegalTable b ws
+  pub cursor : s .cursor ≡ cursorAt b ws (s .instant)
+
 -- ---- the lent buffer
 
 -- the buffer l is d with f 0, f 1, .., f (m − 1) at its front
@@ -100,9 +111,9 @@ pub record Ready (σ : ℕ → Bool) (before : ℕ → ℕ → Bool) (ts : List 
   pub room : length js ≤ length counts
 
 -- what it leaves
-pub record Ticked (σ : ℕ → Bool) (ts : List Task) (js : List Job) (s : RunState)
+pub record Ticked (σ : ℕ → Bool) (onward : Cursor → Cursor) (ts : List Task) (js : List Job) (s : RunState)
     (places counts : List ℕ) (s′ : RunState) (places′ counts′ : List ℕ) : Type 0 where
-  pub moved : whole s′ places′ ≡ tickOf σ ts js (whole s places)
+  pub moved : whole s′ places′ ≡ tickOf σ onward ts js (whole s places)
   pub counted : counts′ ≡ noted js (s′ .instant) (s′ .done) counts
 
 -- ---- a run of n ticks

@@ -7,6 +7,8 @@ use lib.ListN.{length}
 use Rattle.scope.specs.Limits.{mostTasks, mostNumber}
 use Rattle.scope.specs.Tasks.{Task, taskAt}
 use Rattle.scope.specs.Jobs.{Job, jobAt, releaseOf}
+use Rattle.tables.specs.declared.cursor.Cursor.{Cursor}
+use Rattle.tables.specs.Cursors.{begin}
 use Rattle.machine.specs.Bits.{added, removed, members, noTask}
 use Rattle.machine.specs.Places.{noJob, putAt, servedAt, endedAt, soonestOf, lateTo}
 use Rattle.machine.specs.Rule.{choice}
@@ -22,13 +24,14 @@ whole s p = record { state = s; places = p }
 
 -- before the first of n ticks
 abbrev pub begun : ℕ → RunState
-begun n = record { instant = 0; end = n; next = 0; pending = 0; backlog = 0; soon = mostNumber; done = noJob }
+begun n = record { instant = 0; end = n; cursor = begin; next = 0; pending = 0; backlog = 0; soon = mostNumber; done = noJob }
 
 -- the next job is released: it is of task i, and due at d
 abbrev pub admittedOf : ℕ → ℕ → RunState → RunState
 admittedOf i d s = record {
   instant = s .instant;
   end = s .end;
+  cursor = s .cursor;
   next = s .next + 1;
   pending = added (s .pending) i;
   backlog = s .backlog;
@@ -57,6 +60,7 @@ abbrev pub countedOf : RunState → RunState
 countedOf s = record {
   instant = s .instant;
   end = s .end;
+  cursor = s .cursor;
   next = s .next;
   pending = s .pending;
   backlog = max (s .backlog) (members (s .pending));
@@ -68,11 +72,12 @@ countedOf s = record {
 unfoldable pub goesToOf : Bool → ℕ → List ℕ → ℕ
 goesToOf on pending places = cond on (choice pending places) noTask
 
--- the tick is done; it went to task i, whose job `done` ended, if it is a job
-abbrev pub workedOf : ℕ → ℕ → RunState → RunState
-workedOf i done s = record {
+-- the tick is done; it went to task i, whose job `done` ended, if it is a job, and c is the cursor of the next tick
+abbrev pub workedOf : ℕ → ℕ → Cursor → RunState → RunState
+workedOf i done c s = record {
   instant = s .instant + 1;
   end = s .end;
+  cursor = c;
   next = s .next;
   pending = cond (ltb done noJob) (removed (s .pending) i) (s .pending);
   backlog = s .backlog;
@@ -85,6 +90,7 @@ unfoldable pub testedOf : List ℕ → RunState → RunState
 testedOf places s = cond (ltb (s .instant) (s .soon)) s (record {
   instant = s .instant;
   end = cond (ltb (lateTo (s .pending) places (s .instant) mostTasks) noJob) (s .instant) (s .end);
+  cursor = s .cursor;
   next = s .next;
   pending = s .pending;
   backlog = s .backlog;
@@ -92,14 +98,14 @@ testedOf places s = cond (ltb (s .instant) (s .soon)) s (record {
   done = s .done;
 })
 
--- the end of a tick that goes to task i, once the jobs are released
-abbrev pub finishOf : ℕ → Whole → Whole
-finishOf i w =
+-- the end of a tick that goes to task i, once the jobs are released; c is the cursor of the next tick
+abbrev pub finishOf : ℕ → Cursor → Whole → Whole
+finishOf i c w =
     let places = servedAt i (w .places) in
-    whole (testedOf places (workedOf i (endedAt i (w .places)) (countedOf (w .state)))) places
+    whole (testedOf places (workedOf i (endedAt i (w .places)) c (countedOf (w .state)))) places
 
--- the whole tick
-unfoldable pub tickOf : (ℕ → Bool) → List Task → List Job → Whole → Whole
-tickOf σ ts js w =
+-- the whole tick, where σ says which ticks are supplied, and `onward` moves the cursor
+unfoldable pub tickOf : (ℕ → Bool) → (Cursor → Cursor) → List Task → List Job → Whole → Whole
+tickOf σ onward ts js w =
     let fed = releaseAt ts js w in
-    finishOf (goesToOf (σ (w .state .instant)) (fed .state .pending) (fed .places)) fed
+    finishOf (goesToOf (σ (w .state .instant)) (fed .state .pending) (fed .places)) (onward (w .state .cursor)) fed

@@ -18,6 +18,7 @@ ghost use Rattle.scope.specs.Tasks.{tasksOf};
 ghost use Rattle.scope.specs.Jobs.{jobsOf};
 ghost use Rattle.scope.specs.Run.{ran, counts as countsBy};
 ghost use Rattle.scope.specs.Answers.{Answer.given, roomFault, runFault, runAnswer, runOut};
+ghost use Rattle.theory.specs.Answers.{LegalTable};
 ghost use Rattle.tables.specs.Told.{boardOf, no, faultOf};
 ghost use Rattle.jobs.specs.Legal.{Tasks, Jobs};
 ghost use Rattle.machine.specs.Told.{toldRan};
@@ -61,6 +62,7 @@ fn run_legal(
 ) -> Ran
     ghost { ℕ → ℕ → Bool }
     requires { λ before. ⌜ rule (tasksOf (now tasks)) (jobsOf (now jobs)) ≡ before ⌝ }
+    requires { λ before. ⌜ LegalTable (boardOf board) (now windows) ⌝ }
     requires { λ before. ⌜ Tasks (tasksOf (now tasks)) × Jobs (tasksOf (now tasks)) (jobsOf (now jobs)) × (n ≤ mostTicks)
         × (length (jobsOf (now jobs)) ≤ length (now counts)) ⌝ }
     ensures answer { λ before r. ⌜ toldRan r ≡ given (ran (suppliedBy (boardOf board) (now (windows .entry)))

@@ -1,6 +1,7 @@
 use crate::late::late;
 use crate::pending::Pending;
 use jobs::check::Run;
+use tables::cursor::Cursor;
 use tables::task::Task;
 ghost use mathlib.Core.Path.{_≡_};
 ghost use Prim.Native.Nat.{_+_, _<_, _^_, min, max};
@@ -9,12 +10,13 @@ ghost use Rattle.scope.specs.Limits.{mostTasks, mostJobs};
 ghost use Rattle.machine.specs.Places.{allPlaces};
 ghost use Rattle.machine.specs.State.{begun, admittedOf, countedOf, workedOf, testedOf};
 
-// A run at an instant: the ticks before it are done. The jobs before `next` are released.
+// A run at an instant: the ticks before it are done, and `cursor` is at the tick that begins there. The jobs before `next` are released.
 // The tasks that have a job with work left are pending, and have that job in their places; none of these is due before `soon`.
 // `done` is the job that ended in the last tick, or no job. The run ends at the instant `end`.
 pub(crate) struct RunState {
     pub instant: u32,
     pub end: u32,
+    pub cursor: Cursor,
     pub next: usize,
     pub pending: u32,
     pub backlog: u32,
@@ -35,9 +37,11 @@ impl RunState {
     pub(crate) fn new(n: u32) -> RunState
         ensures { λ r. ⌜ r ≡ begun n ⌝ }
     {
+        let cursor = Cursor::new();
         RunState {
             instant: 0,
             end: n,
+            cursor,
             next: 0,
             pending: 0,
             backlog: 0,
@@ -69,14 +73,15 @@ impl RunState {
         s
     }
 
-    // The tick is done; it went to task i, whose job `done` ended, if it is a job.
-    pub(crate) fn worked(self, i: u32, done: u32) -> RunState
+    // The tick is done; it went to task i, whose job `done` ended, if it is a job. The cursor is at the next tick.
+    pub(crate) fn worked(self, i: u32, done: u32, cursor: Cursor) -> RunState
         requires { ⌜ (self .instant + 1 < 2 ^ 32) × (done < mostJobs → i < mostTasks) ⌝ }
-        ensures { λ r. ⌜ r ≡ workedOf i done self ⌝ }
+        ensures { λ r. ⌜ r ≡ workedOf i done cursor self ⌝ }
     {
         let pending = Pending { bits: self.pending };
         let mut s = self;
         s.instant = self.instant + 1;
+        s.cursor = cursor;
         s.done = done;
         if done < RunState::NO_JOB {
             s.pending = pending.without(i).bits;

@@ -7,7 +7,6 @@ use jobs::job::Job;
 use jobs::job::job_at;
 use tables::board::Board;
 use tables::task::task_at;
-use tables::window::is_on;
 ghost use mathlib.Core.Path.{_≡_};
 ghost use Prim.Native.Nat.{_<_, _≤_};
 ghost use lib.ListN.{length};
@@ -15,13 +14,15 @@ ghost use Rattle.scope.specs.Limits.{mostJobs};
 ghost use Rattle.scope.specs.Windows.{suppliedBy};
 ghost use Rattle.scope.specs.Tasks.{tasksOf};
 ghost use Rattle.scope.specs.Jobs.{jobsOf};
+ghost use Rattle.theory.specs.Answers.{LegalTable};
 ghost use Rattle.tables.specs.Told.{boardOf};
+ghost use Rattle.tables.specs.Cursors.{after};
 ghost use Rattle.jobs.specs.Legal.{Tasks, Jobs};
 ghost use Rattle.jobs.specs.Told.{jobOf};
 ghost use Rattle.machine.specs.Places.{allPlaces};
 ghost use Rattle.machine.specs.State.{whole, nextOf, releaseAt, goesToOf};
 ghost use Rattle.machine.specs.Rule.{rule};
-ghost use Rattle.machine.specs.Relation.{Arriving, noted, Noting, Ready, Ticked, Begins, Over};
+ghost use Rattle.machine.specs.Relation.{Arriving, noted, Noting, OnTable, Ready, Ticked, Begins, Over};
 
 // The next job is released: it takes its task's place.
 fn next_job(s: RunState, tasks: &[u32], job: Job, places: &mut [u32]) -> RunState
@@ -76,7 +77,7 @@ fn note(jobs: &[u32], k: u32, j: u32, counts: &mut [u32])
     counts[x] = k - job_at(jobs, x).release;
 }
 
-// The whole tick, on the state by value.
+// The whole tick, on the state by value. Whether it is supplied, the state's cursor tells: one window is looked at, not the whole table.
 fn step(
     s: RunState,
     board: Board,
@@ -86,17 +87,21 @@ fn step(
     places: &mut [u32],
     counts: &mut [u32],
 ) -> RunState
-    requires { ⌜ Ready (suppliedBy (boardOf board) (now windows)) (rule (tasksOf (now tasks)) (jobsOf (now jobs)))
+    requires { ⌜ OnTable (boardOf board) (now windows) s
+        × Ready (suppliedBy (boardOf board) (now windows)) (rule (tasksOf (now tasks)) (jobsOf (now jobs)))
         (tasksOf (now tasks)) (jobsOf (now jobs)) s (now places) (now counts) ⌝ }
-    ensures { λ r. ⌜ Ticked (suppliedBy (boardOf board) (now (windows .entry))) (tasksOf (now (tasks .entry))) (jobsOf (now (jobs .entry)))
+    ensures { λ r. ⌜ Ticked (suppliedBy (boardOf board) (now (windows .entry))) (after (boardOf board) (now (windows .entry)))
+        (tasksOf (now (tasks .entry))) (jobsOf (now (jobs .entry)))
         s (now (places .entry)) (now (counts .entry)) r (now (places .exit)) (now (counts .exit)) ⌝ }
 {
     let fed = release(s, tasks, jobs, places);
     let counted = fed.counted();
-    let on = is_on(board, windows, s.instant as u64);
+    let cursor = s.cursor;
+    let on = cursor.is_on(board, windows);
     let i = goes_to(on, Pending { bits: fed.pending }, places);
     let done = serve(places, i);
-    let worked = counted.worked(i, done);
+    let next = cursor.next(board, windows);
+    let worked = counted.worked(i, done, next);
     note(jobs, worked.instant, worked.done, counts);
     worked.tested(places)
 }
@@ -111,9 +116,11 @@ fn tick(
     places: &mut [u32],
     counts: &mut [u32],
 )
-    requires { ⌜ Ready (suppliedBy (boardOf board) (now windows)) (rule (tasksOf (now tasks)) (jobsOf (now jobs)))
+    requires { ⌜ OnTable (boardOf board) (now windows) (now s)
+        × Ready (suppliedBy (boardOf board) (now windows)) (rule (tasksOf (now tasks)) (jobsOf (now jobs)))
         (tasksOf (now tasks)) (jobsOf (now jobs)) (now s) (now places) (now counts) ⌝ }
-    ensures { λ _. ⌜ Ticked (suppliedBy (boardOf board) (now (windows .entry))) (tasksOf (now (tasks .entry))) (jobsOf (now (jobs .entry)))
+    ensures { λ _. ⌜ Ticked (suppliedBy (boardOf board) (now (windows .entry))) (after (boardOf board) (now (windows .entry)))
+        (tasksOf (now (tasks .entry))) (jobsOf (now (jobs .entry)))
         (now (s .entry)) (now (places .entry)) (now (counts .entry)) (now (s .exit)) (now (places .exit)) (now (counts .exit)) ⌝ }
 {
     *s = step(*s, board, windows, tasks, jobs, places, counts);
@@ -129,7 +136,7 @@ pub(crate) fn advance(
     places: &mut [u32],
     counts: &mut [u32],
 ) -> RunState
-    requires { ⌜ Begins (tasksOf (now tasks)) (jobsOf (now jobs)) n (now places) (now counts) ⌝ }
+    requires { ⌜ LegalTable (boardOf board) (now windows) × Begins (tasksOf (now tasks)) (jobsOf (now jobs)) n (now places) (now counts) ⌝ }
     ensures { λ r. ⌜ Over (suppliedBy (boardOf board) (now (windows .entry))) (rule (tasksOf (now (tasks .entry))) (jobsOf (now (jobs .entry))))
         (tasksOf (now (tasks .entry))) (jobsOf (now (jobs .entry))) n
         (now (counts .entry)) r (now (places .exit)) (now (counts .exit)) ⌝ }

@@ -6,6 +6,7 @@ use tables::answer::Checked;
 use tables::answer::Supplied;
 use tables::board::Board;
 use tables::length::check_length;
+use tables::window::Window;
 use tables::window::check_table;
 use tables::window::is_on;
 use tables::window::window_at;
@@ -30,6 +31,13 @@ fn lesser(a: u32, b: u32) -> u32
     if b < a { b } else { a }
 }
 
+// The start that is tried for a window: where it ends.
+fn start_after(window: Window) -> u32
+    ensures { λ r. ⌜ r ≡ window .end ⌝ }
+{
+    window.end
+}
+
 // The least supply of a length of at most a frame, over the starts where a window ends. Both ends of the stretch only move forward: what is supplied
 // before its start is the sum of the windows so far, what is supplied before its end is told by a place in the row.
 pub(crate) fn least_at_ends(board: Board, windows: &[u32], length: u32) -> Least
@@ -44,7 +52,7 @@ pub(crate) fn least_at_ends(board: Board, windows: &[u32], length: u32) -> Least
     let mut i = 0;
     while i < count {
         let window = window_at(windows, i);
-        let end = window.end + length;
+        let end = start_after(window) + length;
         earlier += window.end - window.start;
         place = moved(board, windows, place, end);
         least = lesser(least, upto(windows, place, end) - earlier);

@@ -2,13 +2,13 @@
 use mathlib.Core.Path.{_≡_, refl, ap, _∙_}
 use mathlib.Core.Bool.{true}
 use mathlib.Core.Option.{some}
-use mathlib.Core.List.{List, [], _∷_, _++_}
+use mathlib.Core.List.{List, [], _∷_, _++_, map}
 use Prim.Native.Nat.{ℕ, zero, suc, _-_, _*_, _≤_, _<_}
 use native.Mathlib.Omega.{arith}
 use lib.Dec.{ltb}
 use lib.ListN.{length, getD, take, replicate, length-append}
-use Rattle.scope.specs.Numbers.{piecesFrom, pieces, badCount, greatest, lexically}
-use Rattle.scope.specs.Ticks.{leastSupply}
+use Rattle.scope.specs.Numbers.{least, piecesFrom, pieces, badCount, greatest, lexically}
+use Rattle.scope.specs.Ticks.{supply, leastSupply}
 use Rattle.scope.specs.Windows.{suppliedBy}
 use Rattle.scope.specs.Tasks.{tasksOf, demand}
 use Rattle.scope.specs.Verdict.{Verdict.meets, Verdict.miss}
@@ -31,6 +31,7 @@ use Rattle.theory.specs.Numbers.{by-lexically}
 use Rattle.theory.specs.Answers.{run-given}
 use Rattle.theory.specs.Exact.{exact-meets, exact-miss}
 use Rattle.theory.specs.Bound.{exact-bound}
+use Rattle.theory.specs.Rows.{endOf, ends-answer}
 use Rattle.theory.specs.Outage.{outage-run, outage-no-longer, outage-supply, outage-greatest-length, outage-zero, outage-critical, outage-asked}
 use Rattle.theory.specs.Machine.{machine-under}
 use Rattle.theory.specs.Edf.{edf-meets, edf-every}
@@ -91,6 +92,18 @@ w6-exact = exact-miss (on 8) X w6 (miss 6 2 3 2) w6-misses 6 2 3 2 .0 refl
 
 w11-exact : (u : ℕ) → 1 ≤ u → u < 7 → asked (tasksOf w11) 1 u ≤ leastSupply (suppliedBy (on 8) X) 8 u → ⊥
 w11-exact = exact-bound (on 8) X w11 1 (bound 7) w11-bounds 7 .0 refl .3
+
+-- ---- the starts where a window ends: 4 ticks of X hold 1 from tick 2 or from tick 7 on
+
+x-four : leastSupplyAnswer (on 8) X 4 ≡ given 1
+unfolding reply table
+x-four =
+    let lengths : List ℕ = 0 ∷ 1 ∷ 2 ∷ 3 ∷ 4 ∷ 5 ∷ 6 ∷ 7 ∷ 8 ∷ [] in
+    let e : amounts (map (leastSupplyAnswer (on 8) X) lengths) ≡ amounts (map given (0 ∷ 0 ∷ 0 ∷ 0 ∷ 1 ∷ 2 ∷ 2 ∷ 3 ∷ 4 ∷ [])) = row table examples "W1" in
+    cc
+
+x-ends : 1 ≡ least (λ i. supply (suppliedBy (on 8) X) (endOf X i) 4) 2
+x-ends = ends-answer (on 8) X 4 1 x-four
 
 -- ---- the outage that runs over midnight: the lab's table is silent for 6 ticks from tick 5 on, X for 3
 

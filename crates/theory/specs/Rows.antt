@@ -11,12 +11,13 @@ use native.Mathlib.Decide.{decLe}
 use lib.ListN.{length}
 use Rattle.scope.specs.Numbers.{bit, least}
 use Rattle.scope.specs.Ticks.{Periodic, supply, perFrame, leastSupply}
+use Rattle.scope.specs.Answers.{Answer.given, _orElse_, tableFault, lengthFault, leastSupplyAnswer}
 use Rattle.scope.specs.Windows.{Board, Window, window, windowsOf, windowAt, suppliedBy}
 use Rattle.theory.specs.Numbers.{bit-le, least-le, least-met}
 use Rattle.theory.specs.Lists.{pieces-length}
 use Rattle.theory.specs.Ticks.{supply-split, supply-le, supply-slide, supply-up, supply-shift, supply-mod, least-over-all-starts, least-is-met}
 use Rattle.theory.specs.Gaps.{fits, next, on-window, off-gap, off-round, table-periodic}
-use Rattle.theory.specs.Answers.{LegalTable}
+use Rattle.theory.specs.Answers.{LegalTable, orElse-fine, unless-given, table-legal}
 
 -- n stretches in order: σ is on in each of them, off between two, and off from the last to the first one of the next frame. A stretch may be empty, and may
 -- begin where the one before it ends; but the ends rise
@@ -260,3 +261,13 @@ module _ (b : Board) (ws : List ℕ) (ok : LegalTable b ws) where
         gap = λ i k h l m. let e : i + 1 - 1 ≡ i = omega arith in off-gap b all (ok .windows) (i + 1) k (within (i + 1) h) (rw e l) m;
         round = λ k l m. off-round b all (ok .windows) one k (rw count l) m;
       }
+
+-- ---- the entry: the least supply is the least over the starts where a window ends
+
+pub ends-answer : (b : Board) (ws : List ℕ) (t v : ℕ) → leastSupplyAnswer b ws t ≡ given v →
+    v ≡ least (λ i. supply (suppliedBy b ws) (endOf ws i) t) (length ws / 2)
+unfolding leastSupplyAnswer
+ends-answer b ws t v e =
+    let g = unless-given (tableFault b ws orElse lengthFault t) (leastSupply (suppliedBy b ws) (b .frame) t) v e in
+    let ok = table-legal b ws (orElse-fine (tableFault b ws) (lengthFault t) (g .0) .0) in
+    sym (g .1) ∙ sym (ends-suffice (suppliedBy b ws) (b .frame) (length ws / 2) (startOf ws) (endOf ws) (table-row b ws ok) t)

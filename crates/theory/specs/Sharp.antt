@@ -1,14 +1,14 @@
--- How sharp the theorems are: five stronger claims, each refuted by an example
+-- How sharp the theorems are: six stronger claims, each refuted by an example
 use mathlib.Core.Path.{_≡_, refl}
 use mathlib.Core.Bool.{Bool, true}
 use mathlib.Core.Option.{none, some}
 use mathlib.Core.List.{List, [], _∷_}
-use Prim.Native.Nat.{ℕ, zero, suc, _≤_, _<_, _∣_}
+use Prim.Native.Nat.{ℕ, zero, suc, _/_, _≤_, _<_, _∣_}
 use native.Mathlib.Omega.{arith}
 use native.Mathlib.Nat.{dvd-refl}
 use lib.ListN.{length, getD}
 use Rattle.scope.specs.Numbers.{least}
-use Rattle.scope.specs.Ticks.{Periodic, supply, leastSupply}
+use Rattle.scope.specs.Ticks.{Periodic, supply, leastSupply, leastStart}
 use Rattle.scope.specs.Windows.{Board, suppliedBy}
 use Rattle.scope.specs.Tasks.{Task, task, tasksOf, taskAt, taskDemand, demand}
 use Rattle.scope.specs.Verdict.{Verdict.meets, Verdict.miss}
@@ -20,6 +20,8 @@ use Rattle.scope.specs.Demands.{Way, givenTo}
 use Rattle.scope.specs.Examples.{X, on}
 use Rattle.scope.specs.Computing.{everything}
 use Rattle.theory.specs.Tasks.{TaskRules, Periods}
+use Rattle.theory.specs.Answers.{LegalTable, table-legal}
+use Rattle.theory.specs.Rows.{endOf}
 use Rattle.theory.specs.Applied.{w6, w7, w13, w6-misses, w7-meets}
 
 -- "meets" does not leave supply over: W7 asks for all 3 ticks that length 7 holds at least
@@ -30,6 +32,20 @@ not-strictly claim =
     let asked : demand (tasksOf w7) 7 ≡ 3 = refl in
     let held : leastSupply (suppliedBy (on 8) X) 8 7 ≡ 3 = refl in
     omega (arith, claim (on 8) X w7 8 w7-meets 7 (omega arith))
+
+-- the ends of windows suffice for the amount and not for the least start: at length 4 on X it is 1, and the windows end at 2 and 7
+pub not-start-at-an-end : ((b : Board) (ws : List ℕ) → LegalTable b ws → (t : ℕ) →
+    (i : ℕ) × (i < length ws / 2) × (leastStart (suppliedBy b ws) (b .frame) t ≡ endOf ws i)) → ⊥
+unfolding everything
+not-start-at-an-end claim =
+    let start : leastStart (suppliedBy (on 8) X) 8 4 ≡ 1 = refl in
+    let c = claim (on 8) X (table-legal (on 8) X refl) 4 in
+    go (c .0) (c .1) (omega (arith, c .2))
+  where
+    go : (i : ℕ) → i < 2 → endOf X i ≡ 1 → ⊥
+    go zero l e = omega arith
+    go (suc zero) l e = omega arith
+    go (suc (suc i)) l e = omega arith
 
 -- D ≤ T is needed for the horizon. Where every tick is supplied, 2 ticks of work every tick, each due after 2, are too much from length 3 on; the
 -- cycle is 1

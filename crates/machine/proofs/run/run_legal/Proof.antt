@@ -16,15 +16,15 @@ use Rattle.machine.proofs.tick.advance.Reads as advance-reads
 
 clear-requires : tie.Need-clear-requires
 clear-requires c κs =
-    omega (arith, c .before .before .before .before .before .pre .3, pieces-length _ 3 job (c .before .before .before .before .before .args .jobs .now))
+    omega (arith, c .before .before .before .before .before .pre .1 .3, pieces-length _ 3 job (c .before .before .before .before .before .args .jobs .now))
 
 slice-aggregate-advance : tie.Need-slice-aggregate-advance
 slice-aggregate-advance c = search needs
 
 advance-requires : tie.Need-advance-requires
 advance-requires c κs =
-    begins-run _ (c .before .before .before .before .before .before .before .before .before .before .args .jobs .now) _ _ _ _
-    (c .before .before .before .before .before .before .before .before .before .before .pre) (c .before .before .before .before .clear .ensures) refl
+    let s = c .before .before .before .before .before .before .before .before .before .before in
+    (s .pre .0, begins-run _ (s .args .jobs .now) _ _ _ _ (s .pre .1) (c .before .before .before .before .clear .ensures) refl)
 
 slice-aggregate-late : tie.Need-slice-aggregate-late
 slice-aggregate-late c = search needs
@@ -41,7 +41,7 @@ returns c =
     let z = a .before .before .before .before .before in
     let s = z .before .before .before .before .before .before in
     run-ends _ _ _ (s .args .jobs .now) _ _ _ (replicate allPlaces 0)
-    (s .pre) (z .clear .ensures) refl _ _ _ (a .advance .ensures) _ (c .before .late .ensures) .1 (c .if1 .taken)
+    (s .pre .1) (z .clear .ensures) refl _ _ _ (a .advance .ensures) _ (c .before .late .ensures) .1 (c .if1 .taken)
 
 same-length-2 : tie.Need-same-length-2
 same-length-2 c = search needs
@@ -52,7 +52,7 @@ returns-2 c =
     let z = a .before .before .before .before .before in
     let s = z .before .before .before .before .before .before in
     run-ends _ _ _ (s .args .jobs .now) _ _ _ (replicate allPlaces 0)
-    (s .pre) (z .clear .ensures) refl _ _ _ (a .advance .ensures) _ (c .before .late .ensures) .0 (c .if1 .left)
+    (s .pre .1) (z .clear .ensures) refl _ _ _ (a .advance .ensures) _ (c .before .late .ensures) .0 (c .if1 .left)
 
 pub run-legal-spec : {M : Type 1} → statement M
 run-legal-spec =

@@ -1,4 +1,4 @@
-use mathlib.Core.Path.{_≡_, _∙_}
+use mathlib.Core.Path.{_≡_, ap, _∙_}
 use mathlib.Core.List.{List}
 use native.Mathlib.Omega.{arith}
 use Prim.Native.Nat.{ℕ, _+_, _-_, _/_, _≤_, _<_}
@@ -20,6 +20,7 @@ use Rattle.supply.proofs.row.Place.first.Reads as first-reads
 use Rattle.supply.proofs.row.moved.Reads as moved-reads
 use Rattle.supply.proofs.row.upto.Reads as upto-reads
 use Rattle.supply.proofs.supply.lesser.Reads as lesser-reads
+use Rattle.supply.proofs.supply.start_after.Reads as start-after-reads
 use Rattle.tables.proofs.window.window_at.Reads as window-at-reads
 
 abbrev Inv-loop : tie.InvT-loop
@@ -71,8 +72,11 @@ known c =
       short = e .pre .1;
     }
 
+start-after-requires : tie.Need-start-after-requires Inv-loop μ-loop
+start-after-requires c κs = search needs
+
 add-end : tie.Need-add-end Inv-loop μ-loop
-add-end c = omega (arith, known (c .before))
+add-end c = omega (arith, c .start-after .ensures, known (c .before))
 
 sub-earlier : tie.Need-sub-earlier Inv-loop μ-loop
 sub-earlier c = known (c .before .before) .order
@@ -83,16 +87,23 @@ add-earlier c = omega (arith, known (c .before .before))
 moved-requires : tie.Need-moved-requires Inv-loop μ-loop
 moved-requires c κs =
     let l = c .before .before .before .before .loop in
-    (still-behind _ _ (l .inv .0) _ (l .i) _ _ _ (l .inv .1) (omega arith) _ (c .before .before .window-at .ensures), omega (arith, known (c .before .before)))
+    let start = c .before .start-after .ensures in (
+      rw start (still-behind _ _ (l .inv .0) _ (l .i) _ _ _ (l .inv .1) (omega arith) _ (c .before .before .window-at .ensures)),
+      omega (arith, start, known (c .before .before)),
+    )
 
 upto-requires : tie.Need-upto-requires Inv-loop μ-loop
 upto-requires c κs =
-    let m = c .moved in omega (arith, small _ _ (m .result) (m .ensures .0 .stands), known (c .before .before .before))
+    let m = c .moved in omega (arith, small _ _ (m .result) (m .ensures .0 .stands), c .before .before .start-after .ensures, known (c .before .before .before))
 
 -- what the place tells
 all-is : (c : tie.After-upto Inv-loop μ-loop) → let a = c .before .before .before .before .before .before .before .before .before .args in
     c .upto .result ≡ supply (suppliedBy (boardOf (a .board)) (a .windows .now)) 0 (c .before .before .before .before .window-at .result .end + a .length)
-all-is c = let m = c .before .moved in c .upto .ensures ∙ upto-is _ _ (m .result) _ (m .ensures .0) (m .ensures .1)
+all-is c =
+    let a = c .before .before .before .before .before .before .before .before .before .args in
+    let m = c .before .moved in
+    c .upto .ensures ∙ upto-is _ _ (m .result) _ (m .ensures .0) (m .ensures .1)
+    ∙ ap (λ (k : ℕ). supply (suppliedBy (boardOf (a .board)) (a .windows .now)) 0 (k + a .length)) (c .before .before .before .start-after .ensures)
 
 sub-lesser : tie.Need-sub-lesser Inv-loop μ-loop
 sub-lesser c =
@@ -115,7 +126,9 @@ loop-again c =
     let w = u .before .before .before .before in
     let l = w .before .before .loop in (
       l .inv .0,
-      rw (c .lesser .ensures) (tried-next _ _ (l .inv .0) _ (l .i) _ _ _ (l .inv .1) (omega arith) _ (w .window-at .ensures) _ (all-is u) _ (u .before .moved .ensures .0)),
+      rw (c .lesser .ensures)
+          (tried-next _ _ (l .inv .0) _ (l .i) _ _ _ (l .inv .1) (omega arith) _ (w .window-at .ensures) _ (all-is u) _
+          (rw (← (u .before .before .before .start-after .ensures)) (u .before .moved .ensures .0))),
     )
 
 returns : tie.Need-returns Inv-loop μ-loop
@@ -130,6 +143,7 @@ least-at-ends-spec =
     first-requires
     loop-holds
     window-at-requires
+    start-after-requires
     add-end
     sub-earlier
     add-earlier
