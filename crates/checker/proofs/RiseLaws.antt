@@ -11,13 +11,12 @@ use lib.Seq.{getD-set-same, getD-set-other}
 use borrow.Author.Count.{below-more}
 use borrow.Author.Tests.{eq-eqb, ne-eqb}
 use Rattle.scope.specs.Limits.{mostTasks, mostOfTask, mostLength}
-use Rattle.scope.specs.Tasks.{Task, task, tasksOf, taskAt, taskDemand, demand}
+use Rattle.scope.specs.Tasks.{Task, task, tasksOf, taskAt, taskDemand}
 use Rattle.theory.specs.Lists.{pieces-length}
 use Rattle.theory.specs.Answers.{LegalGroup}
 use Rattle.theory.specs.Tasks.{TaskRule}
 use Rattle.theory.specs.Dues.{dueAfter, due-later, due-first, due-hit, due-miss}
 use Rattle.tables.proofs.TaskLaws.{read-rule}
-use Rattle.checker.specs.declared.rise.Rise.{Rise}
 use Rattle.checker.specs.Rises.{Due, Risen}
 use Rattle.checker.proofs.DemandLaws.{demandTo, demandTo-none, demandTo-next, demandTo-whole, demandTo-most}
 

@@ -1,5 +1,5 @@
 -- The least supply as the code finds it: one start where a window ends after the other, and by whole frames
-use mathlib.Core.Path.{_≡_, refl, sym, ap, _∙_}
+use mathlib.Core.Path.{_≡_, ap, _∙_}
 use mathlib.Core.Bool.{Bool}
 use mathlib.Core.List.{List}
 use Prim.Native.Nat.{ℕ, _+_, _-_, _*_, _/_, _%_, _≤_, _<_, min}
@@ -7,11 +7,10 @@ use native.Mathlib.Omega.{arith}
 use native.Mathlib.Nat.{zero-add, mod-add-div', le-trans, le-antisymm}
 use lib.ListN.{length}
 use borrow.Author.Count.{below-more}
-use Rattle.scope.specs.Limits.{mostFrame}
 use Rattle.scope.specs.Ticks.{Periodic, supply, perFrame, leastSupply}
 use Rattle.scope.specs.Windows.{Board, Window, windowsOf, windowAt, suppliedBy}
 use Rattle.theory.specs.Answers.{LegalTable}
-use Rattle.theory.specs.Ticks.{supply-le, supply-up, least-over-all-starts, least-frames}
+use Rattle.theory.specs.Ticks.{supply-le, least-over-all-starts, least-frames}
 use Rattle.theory.specs.Rows as rows
 use Rattle.theory.specs.Rows.{startOf, endOf, table-row, supply-between, ends-enough, place-first, place-end, place-next, place-round, place-whole}
 use Rattle.supply.specs.declared.row.Place.{Place}

@@ -3,7 +3,6 @@ use tables::board::Board;
 use tables::window::window_at;
 ghost use mathlib.Core.Path.{_≡_};
 ghost use Prim.Native.Nat.{_+_, _-_, _*_, _/_, _<_, _≤_};
-ghost use lib.ListN.{length};
 ghost use Rattle.scope.specs.Limits.{mostFrame};
 ghost use Rattle.tables.specs.Told.{boardOf};
 ghost use Rattle.supply.specs.Places.{first, opens, closes, following, Stands, Behind};

@@ -1,6 +1,5 @@
 -- A cursor as the code moves it on, and that on a legal table it tells which ticks are supplied
 use mathlib.Core.Path.{_≡_, refl, sym, ap, _∙_}
-use mathlib.Core.Bool.{Bool, true, false}
 use mathlib.Core.List.{List}
 use Prim.Native.Nat.{ℕ, zero, suc, _+_, _-_, _/_, _%_, _≤_, _<_}
 use native.Mathlib.Omega.{arith}
@@ -9,7 +8,6 @@ use native.Mathlib.Numerals.{add-one}
 use native.Mathlib.Decide.{ℕ-discrete, decLt}
 use lib.ListN.{length}
 use borrow.Author.Tests.{lt-ltb, le-ltb, eq-eqb, ne-eqb}
-use Rattle.scope.specs.Numbers.{bit}
 use Rattle.scope.specs.Windows.{Board, Window, window, windowsOf, windowAt, gives, supplied, suppliedBy}
 use Rattle.theory.specs.Lists.{pieces-length, piece-past}
 use Rattle.theory.specs.Gaps.{fits, next, covers-by}

@@ -12,7 +12,7 @@ use lib.ListN.{length}
 use Rattle.scope.specs.Numbers.{bit, least}
 use Rattle.scope.specs.Ticks.{Periodic, supply, perFrame, leastSupply}
 use Rattle.scope.specs.Answers.{Answer.given, _orElse_, tableFault, lengthFault, leastSupplyAnswer}
-use Rattle.scope.specs.Windows.{Board, Window, window, windowsOf, windowAt, suppliedBy}
+use Rattle.scope.specs.Windows.{Board, window, windowsOf, windowAt, suppliedBy}
 use Rattle.theory.specs.Numbers.{bit-le, least-le, least-met}
 use Rattle.theory.specs.Lists.{pieces-length}
 use Rattle.theory.specs.Ticks.{supply-split, supply-le, supply-slide, supply-up, supply-shift, supply-mod, least-over-all-starts, least-is-met}

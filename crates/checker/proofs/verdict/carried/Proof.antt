@@ -1,5 +1,3 @@
-use mathlib.Core.Path.{_∙_, sym}
-use native.Mathlib.Omega.{arith}
 use borrow.Author.Needs.{needs}
 use borrow.Author.Tests.{le-leb, lt-leb}
 use Rattle.checker.proofs.verdict.carried.Statement.{statement}
