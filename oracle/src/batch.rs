@@ -95,7 +95,7 @@ fn fill_exactly(r: &mut Random, bytes: &mut Vec<u8>) {
         bytes.extend([10, 100]);
         bytes.extend([1; 100]);
     }
-    while (MOST_BYTES - bytes.len()) % 3 != 0 {
+    while !(MOST_BYTES - bytes.len()).is_multiple_of(3) {
         bytes.extend([5, 0, 0x80, 0x01]);
     }
     while bytes.len() < MOST_BYTES {

@@ -34,7 +34,7 @@ impl TableNumbers {
         let mut previous_end = None;
         for (index, window) in self.windows.chunks(2).enumerate() {
             let (start, end) = (window[0], window[1]);
-            let apart = previous_end.map_or(true, |previous| start > previous);
+            let apart = previous_end.is_none_or(|previous| start > previous);
             let legal = start < end && end <= self.frame && apart;
             Reason::Window.check(!legal, index)?;
             previous_end = Some(end);
