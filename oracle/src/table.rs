@@ -42,9 +42,12 @@ impl TableNumbers {
         Ok(self.tick_by_tick())
     }
 
+    /// Each window covers "ticks start up to but not including end".
     fn tick_by_tick(&self) -> Table {
-        let in_a_window = |tick| self.windows.chunks(2).any(|w| w[0] <= tick && tick < w[1]);
-        let supplied: Vec<bool> = (0..self.frame).map(in_a_window).collect();
+        let mut supplied = vec![false; self.frame as usize];
+        for window in self.windows.chunks(2) {
+            supplied[window[0] as usize..window[1] as usize].fill(true);
+        }
         let mut before = vec![0];
         let mut total = 0;
         for &tick in supplied.iter().chain(&supplied) {
