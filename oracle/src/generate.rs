@@ -68,7 +68,7 @@ fn any_query(r: &mut Random) -> Query {
 }
 
 /// About how many steps a plain program takes for a query: lengths tried times starts tried.
-fn steps(query: &Query) -> u64 {
+pub fn steps(query: &Query) -> u64 {
     match query {
         Query::LeastSupply(table, _) | Query::Margin(table, _, _) => legal_frame(table),
         Query::CriticalPartition(table, _) | Query::Delay(table) => legal_frame(table).pow(2),
