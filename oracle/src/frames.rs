@@ -50,10 +50,10 @@ fn frame(r: &mut Random) -> u64 {
         0..=3 => MOST_FRAME,
         4 => MOST_FRAME - 1,
         5 => r.one_of(&PRIMES),
-        6 => r.one_of(&DIVISORS),
+        6 | 12 => r.one_of(&DIVISORS),
         7 => 1 << r.between(7, 15),
         8 => r.between(10_000, MOST_FRAME),
-        9..=12 => r.between(500, 10_000),
+        9..=11 => r.between(500, 10_000),
         _ => r.between(LEAST_FRAME, LEAST_FRAME + 5),
     }
 }
