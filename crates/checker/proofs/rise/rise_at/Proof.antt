@@ -26,7 +26,7 @@ abbrev μ-loop : tie.MeasureT-loop
 
 loop-holds : tie.Need-loop-holds Inv-loop μ-loop
 loop-holds c =
-    let p = c .before .before .pre in (omega arith, p .1, refl, p .0, moving-none _ (p .0) _ _ _ (omega arith) (p .2))
+    let p = c .before .before .pre in (omega arith, p .1, refl, p .0, moving-none _ (p .0) _ _ (p .2))
 
 task-at-requires : tie.Need-task-at-requires Inv-loop μ-loop
 task-at-requires c κs = search needs

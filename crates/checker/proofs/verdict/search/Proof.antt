@@ -5,7 +5,7 @@ use Prim.Native.Nat.{ℕ, _+_, _-_, _%_, _≤_, _<_}
 use native.Mathlib.Omega.{arith}
 use native.Mathlib.Nat.{mod-lt}
 use borrow.Author.Needs.{needs}
-use Rattle.scope.specs.Limits.{mostFrame}
+use Rattle.scope.specs.Limits.{mostFrame, mostNumber}
 use Rattle.scope.specs.Ticks.{Periodic}
 use Rattle.scope.specs.Windows.{suppliedBy}
 use Rattle.scope.specs.Tasks.{Task, tasksOf}
@@ -17,7 +17,7 @@ use Rattle.tables.specs.Told.{boardOf, toldVerdict}
 use Rattle.checker.specs.Stretches.{Spans}
 use Rattle.checker.proofs.DemandLaws.{demand-most}
 use Rattle.checker.proofs.StretchLaws.{spans-slides, spans-on}
-use Rattle.checker.proofs.VerdictLaws.{Reached, Asked, asked, reached-next, reached-first, search-meets, Above, above-next}
+use Rattle.checker.proofs.VerdictLaws.{Reached, Judged, judged, next-later, reached-next, reached-first, search-meets, Above, above-next}
 use Rattle.checker.proofs.VerdictLaws.{not-all-above, search-misses}
 use Rattle.checker.proofs.verdict.search.Statement.{statement}
 use Rattle.checker.proofs.verdict.search.Tie as tie
@@ -28,7 +28,7 @@ use Rattle.checker.proofs.rise.first_due.Reads as first-due-reads
 use Rattle.checker.proofs.rise.rise_at.Reads as rise-at-reads
 use Rattle.checker.proofs.stretch.first_ticks.Reads as first-ticks-reads
 use Rattle.checker.proofs.stretch.slid.Reads as slid-reads
-use Rattle.checker.proofs.verdict.carried.Reads as carried-reads
+use Rattle.checker.proofs.verdict.known_or_least.Reads as known-or-least-reads
 
 abbrev Inv-loop : tie.InvT-loop
 Inv-loop board windows tasks cycle frame found₀ due demand supply length risen rest least stretch₀ start₀ found stretch start =
@@ -79,15 +79,15 @@ add-demand c =
     let small = demand-most (e .args .tasks .now) (s .search .length) (e .pre .1) (omega (arith, e .pre .2)) in
     omega (arith, s .search .inv .1 .demanded, c .before .before .rise-at2 .ensures .by, small)
 
-carried-requires : tie.Need-carried-requires Inv-loop μ-loop Inv-search μ-search
-carried-requires c κs =
+known-or-least-requires : tie.Need-known-or-least-requires Inv-loop μ-loop Inv-search μ-search
+known-or-least-requires c κs =
     let s = c .before .before .before .before .before in
     let e = s .before .before .before .before .before .before .before .before .before in
     (e .pre .0, omega (arith, e .pre .2))
 
 -- a length once it has asked, the turn of the search, and where that began
 abbrev Asks : Type 0
-Asks = tie.After-carried Inv-loop μ-loop Inv-search μ-search
+Asks = tie.After-known-or-least Inv-loop μ-loop Inv-search μ-search
 
 abbrev turn : Asks → tie.In-search Inv-loop μ-loop Inv-search μ-search
 turn c = c .before .before .before .before .before
@@ -112,12 +112,16 @@ per-at : (c : Asks) → Periodic (σ c) (P c)
 per-at c = table-row _ _ (legal-at c) .repeats
 
 -- of the length
-asked-at : (c : Asks) →
+judged-at : (c : Asks) →
     let s = turn c .before .search in
     let r = c .before .before .before .rise-at2 in
-    Asked (σ c) (P c) (ts c) (s .length) (s .demand + r .result .by) (c .carried .result) (r .last .1 .0) (r .result)
-asked-at c =
-    asked _ _ (per-at c) _ _ _ _ _ _ _ _ (turn c .before .search .inv .1) (c .before .before .before .rise-at2 .ensures) (c .carried .ensures)
+    Judged (σ c) (P c) (ts c) (s .length) (s .demand + r .result .by) (c .known-or-least .result) (r .last .1 .0) (r .result)
+judged-at c =
+    judged _ _ (per-at c) _ _ _ _ _ _ _ _ (turn c .before .search .inv .1) (c .before .before .before .rise-at2 .ensures) (c .known-or-least .ensures)
+
+later-at : (c : Asks) → turn c .before .search .length < c .before .before .before .rise-at2 .result .next
+later-at c =
+    next-later _ _ (per-at c) _ (began c .pre .1 .rules) _ _ _ (omega (arith, turn c .search-test .taken, began c .pre .2)) (judged-at c .risen)
 
 -- and of its rest, which is less than a frame
 rest-less : (c : Asks) → (turn c .before .search .length % P c < P c) × (P c ≤ mostFrame)
@@ -161,7 +165,8 @@ loop-again c =
       omega (arith, c .before .before .before .loop-test .taken),
       l .inv .1,
       spans-on _ _ (legal-at d) _ _ _ (l .inv .2) _ (c .slid .ensures),
-      above-next _ _ (per-at d) (ts d) _ _ _ _ (c .before .before .before .before .before .before .least-of .ensures) (l .inv .2 .held) (c .before .if2 .left) (l .inv .3),
+      above-next _ _ (per-at d) (ts d) _ _ _ _ (c .before .before .before .before .before .before .least-of .ensures) (l .inv .2 .held)
+          (λ e. omega (arith, e, c .before .if2 .left)) (l .inv .3),
     )
 
 -- some start holds the least supply, so the loop over starts does not run out
@@ -175,12 +180,15 @@ search-again : tie.Need-search-again Inv-loop μ-loop Inv-search μ-search
 search-again c = absurd (found-one c)
 
 search-less-2 : tie.Need-search-less-2 Inv-loop μ-loop Inv-search μ-search
-search-less-2 c = omega (arith, asked-at (c .before) .risen .later, turn (c .before) .search-test .taken)
+search-less-2 c =
+    let d = c .before in
+    omega (arith, later-at d, turn d .search-test .taken)
 
 search-again-2 : tie.Need-search-again-2 Inv-loop μ-loop Inv-search μ-search
 search-again-2 c =
     let d = c .before in
-    (turn d .before .search .inv .0, reached-next _ _ (per-at d) _ (began d .pre .1 .rules) _ _ _ _ _ (asked-at d) (c .if1 .left))
+    let short : turn d .before .search .length < mostNumber = omega (arith, turn d .search-test .taken, began d .pre .2) in
+    (turn d .before .search .inv .0, reached-next _ _ (per-at d) _ (began d .pre .1 .rules) _ _ _ _ _ short (judged-at d) (c .if1 .left))
 
 returns : tie.Need-returns Inv-loop μ-loop Inv-search μ-search
 returns c =
@@ -194,8 +202,8 @@ returns-2 c =
     let d = c .before .before .before .before .before .before .before in
     let l = c .before .before .before .loop in
     ap given
-    (search-misses _ _ (per-at d) _ _ _ _ _ _ _ _ _ _ (turn d .search-test .taken) (asked-at d) (c .before .before .before .before .before .before .if1 .taken)
-    (c .before .before .before .before .before .least-of .ensures) (l .inv .2 .held) (c .if2 .taken) (l .inv .3))
+    (search-misses _ _ (per-at d) _ _ _ _ _ _ _ _ _ _ (turn d .search-test .taken) (judged-at d) (c .before .before .before .before .before .before .if1 .taken)
+    (c .before .before .before .before .before .least-of .ensures) (l .inv .2 .held) (omega (arith, c .if2 .taken)) (l .inv .3))
 
 pub search-spec : {M : Type 1} → statement M
 search-spec =
@@ -213,7 +221,7 @@ search-spec =
     slice-aggregate-rise-at-2
     rise-at-requires-2
     add-demand
-    carried-requires
+    known-or-least-requires
     cast-if1
     rem-rest
     least-of-requires
