@@ -1,16 +1,31 @@
 //! Streams of random queries; some end in a BAD QUERY, some are longer than what is used.
 
+use std::iter;
+
 use crate::generate;
+use crate::large;
 use crate::numbers::{encode, GREATEST};
+use crate::query::Query;
 use crate::random::Random;
 use crate::spoil;
 use crate::stream::MOST_BYTES;
 
 /// A stream of up to `most` good queries that ends before the bytes that are used do.
 pub fn good_stream(r: &mut Random, most: u64) -> Vec<u8> {
+    stream_of((0..most).map(|_| generate::query(r)))
+}
+
+/// A stream of up to `most` queries on large frames, of up to `most_steps` steps each.
+pub fn large_stream(r: &mut Random, most: u64, most_steps: u64) -> Vec<u8> {
+    let queries = iter::repeat_with(|| large::queries(r, most_steps));
+    stream_of(queries.flatten().take(most as usize))
+}
+
+/// The queries, up to the first that does not end before the bytes that are used do.
+fn stream_of(queries: impl Iterator<Item = Query>) -> Vec<u8> {
     let mut bytes = Vec::new();
-    for _ in 0..most {
-        let query = encode(&generate::query(r).numbers());
+    for query in queries {
+        let query = encode(&query.numbers());
         if bytes.len() + query.len() >= MOST_BYTES {
             break;
         }
@@ -95,7 +110,7 @@ fn fill_exactly(r: &mut Random, bytes: &mut Vec<u8>) {
         bytes.extend([10, 100]);
         bytes.extend([1; 100]);
     }
-    while (MOST_BYTES - bytes.len()) % 3 != 0 {
+    while !(MOST_BYTES - bytes.len()).is_multiple_of(3) {
         bytes.extend([5, 0, 0x80, 0x01]);
     }
     while bytes.len() < MOST_BYTES {

@@ -14,6 +14,9 @@ use crate::text;
 /// A comparison stops after so many differences.
 const MOST_DIFFERENCES: u64 = 10;
 const QUERIES_IN_A_BATCH: [u64; 3] = [50, 250, 500];
+/// Those on large frames take up to some seconds each, and a batch tells its differences at its
+/// end.
+const LARGE_QUERIES_IN_A_BATCH: u64 = 30;
 
 struct Comparison<'a> {
     command: &'a [&'a str],
@@ -25,11 +28,31 @@ struct Comparison<'a> {
 
 /// Compares about `count` random queries; true where there is no difference.
 pub fn random(seed: u64, count: u64, command: &[&str]) -> io::Result<bool> {
+    streams(seed, count, command, |random, left| {
+        let most = random.one_of(&QUERIES_IN_A_BATCH);
+        batch::any_stream(random, most.min(left))
+    })
+}
+
+/// Compares `count` random queries on large frames, each of up to `most_steps` steps; true where
+/// there is no difference.
+pub fn large(seed: u64, count: u64, most_steps: u64, command: &[&str]) -> io::Result<bool> {
+    streams(seed, count, command, |random, left| {
+        batch::large_stream(random, LARGE_QUERIES_IN_A_BATCH.min(left), most_steps)
+    })
+}
+
+/// Compares streams made of what is left of `count`.
+fn streams(
+    seed: u64,
+    count: u64,
+    command: &[&str],
+    stream: impl Fn(&mut Random, u64) -> Vec<u8>,
+) -> io::Result<bool> {
     let mut random = Random::new(seed);
     let mut comparison = Comparison::new(command);
     while comparison.queries < count && comparison.goes_on() {
-        let most = random.one_of(&QUERIES_IN_A_BATCH);
-        let bytes = batch::any_stream(&mut random, most.min(count - comparison.queries));
+        let bytes = stream(&mut random, count - comparison.queries);
         comparison.compare(&bytes)?;
     }
     comparison.summary()

@@ -39,9 +39,18 @@ pub fn query(r: &mut Random) -> Query {
     }
 }
 
+/// One argument in so many has a fault. One query in ten has faults in half of its arguments, so
+/// that their order counts.
+pub fn faults(r: &mut Random) -> u64 {
+    if r.once_in(10) {
+        2
+    } else {
+        25
+    }
+}
+
 fn any_query(r: &mut Random) -> Query {
-    // One query in ten has faults in half of its arguments, so that their order counts.
-    let faults = if r.once_in(10) { 2 } else { 25 };
+    let faults = faults(r);
     match r.below(32) {
         0 => least_supply_query(r, faults),
         1 | 2 => critical_partition_query(r, faults),
@@ -52,14 +61,14 @@ fn any_query(r: &mut Random) -> Query {
         8..=11 => verdict_query(r, faults),
         12 | 13 => bound_query(r, faults),
         14..=17 => run_query(r, faults),
-        18 | 19 => Query::Plan(plan_bytes(r, faults)),
+        18 | 19 => plan_query(r, faults),
         20..=23 => outage_query(r, faults),
         _ => traces::query(r, faults),
     }
 }
 
 /// About how many steps a plain program takes for a query: lengths tried times starts tried.
-fn steps(query: &Query) -> u64 {
+pub fn steps(query: &Query) -> u64 {
     match query {
         Query::LeastSupply(table, _) | Query::Margin(table, _, _) => legal_frame(table),
         Query::CriticalPartition(table, _) | Query::Delay(table) => legal_frame(table).pow(2),
@@ -169,19 +178,23 @@ fn bound_query(r: &mut Random, faults: u64) -> Query {
     Query::Bound(lent_table(r, faults, table), tasks, index)
 }
 
-/// The bytes of a plan file; half of them are damaged.
-fn plan_bytes(r: &mut Random, faults: u64) -> Vec<u8> {
+fn plan_query(r: &mut Random, faults: u64) -> Query {
     let table = legal_table(r);
     let group = legal_group(r, &table);
     let table = lent_table(r, faults, table);
-    let TaskNumbers::Triples(tasks) = spoil_sometimes(r, faults, &group, false) else {
-        return Vec::new();
+    lent_plan(r, faults, table, &group)
+}
+
+/// The bytes of a plan file; half of them are damaged.
+pub fn lent_plan(r: &mut Random, faults: u64, table: TableNumbers, group: &[[u64; 3]]) -> Query {
+    let TaskNumbers::Triples(tasks) = spoil_sometimes(r, faults, group, false) else {
+        return Query::Plan(Vec::new());
     };
     let mut numbers = vec![table.frame, table.windows.len() as u64 / 2];
     numbers.extend(table.windows);
     numbers.push(tasks.len() as u64 / 3);
     numbers.extend(tasks);
-    spoil::plan_bytes(r, numbers)
+    Query::Plan(spoil::plan_bytes(r, numbers))
 }
 
 fn run_query(r: &mut Random, faults: u64) -> Query {
@@ -192,15 +205,29 @@ fn run_query(r: &mut Random, faults: u64) -> Query {
         1 => r.between(300, 5_000),
         _ => r.between(1, 300),
     };
-    let mut jobs = legal_jobs(r, &table, &group, ticks);
+    let jobs = legal_jobs(r, &table, &group, ticks);
     if let (Some(last), true) = (jobs.last(), r.once_in(3)) {
         // The run ends soon after the last release, or at or just before the last deadline.
         let deadline = group[last.task as usize][2];
         let after = [1, deadline, deadline + 1, deadline.saturating_sub(1).max(1)];
         ticks = last.release + r.one_of(&after);
     }
+    let mut run = lent_run(r, faults, table, &group, jobs, ticks);
+    run.table = lent_table(r, faults, run.table);
+    Query::Run(run)
+}
+
+/// A run on a table, sometimes with a broken rule of its jobs or of its group.
+pub fn lent_run(
+    r: &mut Random,
+    faults: u64,
+    table: TableNumbers,
+    group: &[[u64; 3]],
+    mut jobs: Vec<Job>,
+    mut ticks: u64,
+) -> RunNumbers {
     if r.once_in(faults.min(6)) {
-        spoil::jobs(r, &mut jobs, &group, &mut ticks);
+        spoil::jobs(r, &mut jobs, group, &mut ticks);
     }
     let room = room(r, jobs.len() as u64);
     let mut numbers: Vec<u64> = jobs
@@ -210,14 +237,14 @@ fn run_query(r: &mut Random, faults: u64) -> Query {
     if r.once_in(3 * faults) {
         spoil::not_in_threes(r, &mut numbers);
     }
-    let tasks = lent_tasks(r, faults, &group);
-    Query::Run(RunNumbers {
-        table: lent_table(r, faults, table),
+    let tasks = lent_tasks(r, faults, group);
+    RunNumbers {
+        table,
         tasks,
         ticks,
         jobs: numbers,
         room,
-    })
+    }
 }
 
 /// A legal table with a small frame.
@@ -278,6 +305,11 @@ fn windows(r: &mut Random, frame: u64) -> Vec<u64> {
         1 => r.between(1, most),
         _ => r.between(1, most.min(4)),
     };
+    any_windows(r, frame, count)
+}
+
+/// Any windows, so many; often some are at the frame's ends.
+pub fn any_windows(r: &mut Random, frame: u64, count: u64) -> Vec<u64> {
     let mut edges = BTreeSet::new();
     if r.once_in(3) {
         edges.insert(0);
@@ -329,7 +361,7 @@ fn length(r: &mut Random, frame: u64, group: &[[u64; 3]]) -> u64 {
 }
 
 /// Room for as many numbers as are needed, one fewer, or more.
-fn room(r: &mut Random, needed: u64) -> u64 {
+pub fn room(r: &mut Random, needed: u64) -> u64 {
     match r.below(16) {
         0..=8 => needed,
         9 | 10 => needed.saturating_sub(1),
@@ -427,7 +459,7 @@ fn bring_to_the_edge(r: &mut Random, table: &TableNumbers, group: &mut [[u64; 3]
 }
 
 /// The group in triples or in records, sometimes with a broken rule.
-fn lent_tasks(r: &mut Random, faults: u64, group: &[[u64; 3]]) -> TaskNumbers {
+pub fn lent_tasks(r: &mut Random, faults: u64, group: &[[u64; 3]]) -> TaskNumbers {
     let records = r.once_in(2);
     spoil_sometimes(r, faults, group, records)
 }

@@ -44,7 +44,7 @@ pub fn run(
     let table = table.check()?;
     let group = tasks.check()?;
     let too_large = jobs.len() / 3 > MOST_JOBS || ticks > MOST_RUN;
-    Reason::RunSize.check(jobs.len() % 3 != 0 || too_large, 0)?;
+    Reason::RunSize.check(!jobs.len().is_multiple_of(3) || too_large, 0)?;
     let jobs: Vec<Job> = jobs.chunks(3).map(Job::new).collect();
     check_jobs(&group, ticks, &jobs)?;
     Reason::Room.check(lent.len() < jobs.len(), jobs.len())?;
@@ -97,13 +97,13 @@ pub fn is_legal_after(group: &Group, ticks: u64, earlier: &[Job], job: &Job) -> 
     let Some(task) = group.tasks.get(job.task as usize) else {
         return false;
     };
-    let rises = earlier.last().map_or(true, |last| {
-        (last.release, last.task) < (job.release, job.task)
-    });
+    let rises = earlier
+        .last()
+        .is_none_or(|last| (last.release, last.task) < (job.release, job.task));
     let apart = earlier
         .iter()
         .rfind(|other| other.task == job.task)
-        .map_or(true, |other| other.release + task.period <= job.release);
+        .is_none_or(|other| other.release + task.period <= job.release);
     rises && (1..=task.work).contains(&job.work) && job.release < ticks && apart
 }
 

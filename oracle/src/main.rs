@@ -1,21 +1,25 @@
 //! The independent second program of Palikudyom: document 01 and requests 1 and 2 of document 02,
-//! read from scratch, by brute force.
+//! read from scratch, by brute force. Request 3 makes the first program faster and changes no
+//! answer: this one goes on to try every start, and `oracle large` asks where that counts.
 //!
 //! To believe its answers, read `numbers`, `answer`, `table`, `tasks`, `verdict`, `bound`,
 //! `machine`, `plan`, `trace` and `replay`, in this order, and `examples`, which are the
 //! documents' own and some worked out by hand; then `query` and `stream`, which are docs/ASK.md's.
-//! The other files make streams (`generate`, `outages`, `traces`, `spoil`, `batch`, `enumerate`,
-//! `random`, `text`) and compare (`compare`): a fault there can hide a difference in the first
-//! program but can't change an answer.
+//! The other files make streams (`generate`, `outages`, `traces`, `large` with `frames`, `tight`
+//! and `edge_jobs`, `spoil`, `batch`, `enumerate`, `random`, `text`) and compare (`compare`): a
+//! fault there can hide a difference in the first program but can't change an answer.
 
 mod answer;
 mod batch;
 mod bound;
 mod compare;
+mod edge_jobs;
 mod enumerate;
 #[cfg(test)]
 mod examples;
+mod frames;
 mod generate;
+mod large;
 mod machine;
 mod numbers;
 mod outages;
@@ -28,6 +32,7 @@ mod stream;
 mod table;
 mod tasks;
 mod text;
+mod tight;
 mod trace;
 mod traces;
 mod verdict;
@@ -45,9 +50,12 @@ usage: oracle answer < stream       answer a query stream, a line each
        oracle stream SEED COUNT     make a stream of up to COUNT random queries
        oracle compare SEED COUNT [COMMAND ...]
                                     compare with a command's answers to random streams
+       oracle large [--steps STEPS] SEED COUNT [COMMAND ...]
+                                    compare with its answers to random queries on large frames
        oracle enumerate [COMMAND ...]
                                     compare with its outages and verdicts of every small input
-COMMAND is `tools/run-program palikudyom --ask` unless it is given.
+COMMAND is `tools/run-program palikudyom --ask` unless it is given. With STEPS, what asks about
+many lengths has at most so many starts to try in all, for a COMMAND that tries every start.
 ";
 
 /// The command that answers streams by the first program.
@@ -99,12 +107,26 @@ fn run(words: &[&str]) -> Result<ExitCode, String> {
             let (seed, count) = (number(seed)?, number(count)?);
             return compared(compare::random(seed, count, or_first_program(command)));
         }
+        ["large", "--steps", steps, seed, count, command @ ..] => {
+            return large(number(steps)?, seed, count, command);
+        }
+        ["large", seed, count, command @ ..] => return large(u64::MAX, seed, count, command),
         ["enumerate", command @ ..] => {
             return compared(compare::enumeration(or_first_program(command)));
         }
         _ => return Err(USAGE.to_string()),
     }
     Ok(ExitCode::SUCCESS)
+}
+
+fn large(steps: u64, seed: &str, count: &str, command: &[&str]) -> Result<ExitCode, String> {
+    let (seed, count) = (number(seed)?, number(count)?);
+    compared(compare::large(
+        seed,
+        count,
+        steps,
+        or_first_program(command),
+    ))
 }
 
 fn number(word: &str) -> Result<u64, String> {

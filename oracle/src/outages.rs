@@ -34,9 +34,14 @@ fn never_silent(r: &mut Random) -> TableNumbers {
     TableNumbers { frame, windows }
 }
 
-/// One window: silent at both ends of the frame, or at one of them, sometimes for one tick only.
 fn one_window(r: &mut Random) -> TableNumbers {
     let frame = frame(r);
+    let windows = one_window_in(r, frame);
+    TableNumbers { frame, windows }
+}
+
+/// One window: silent at both ends of the frame, or at one of them, sometimes for one tick only.
+pub fn one_window_in(r: &mut Random, frame: u64) -> Vec<u64> {
     let start = match r.below(6) {
         0 => 0,
         1 => r.between(0, 1).min(frame - 1),
@@ -48,8 +53,7 @@ fn one_window(r: &mut Random) -> TableNumbers {
         2 => start + 1,
         _ => r.between(start + 1, frame),
     };
-    let windows = vec![start, end];
-    TableNumbers { frame, windows }
+    vec![start, end]
 }
 
 /// The joined run is one tick shorter than the longest one inside the frame, as long, or one tick

@@ -39,6 +39,21 @@ pub fn table(r: &mut Random, table: &mut TableNumbers) {
     }
 }
 
+/// Breaks the rule of the last window alone, unless the table is broken already: every window
+/// before it has to be found legal.
+pub fn last_window(r: &mut Random, table: &mut TableNumbers) {
+    let windows = &mut table.windows;
+    let Some(last) = windows.len().checked_sub(2) else {
+        return;
+    };
+    match r.below(6) {
+        0 | 1 if last > 0 => windows[last] = windows[last - 1].saturating_sub(r.below(2)),
+        2 => windows[last + 1] = windows[last],
+        3 => windows.swap(last, last + 1),
+        _ => windows[last + 1] = table.frame.saturating_add(1).min(GREATEST),
+    }
+}
+
 fn one_tick_windows(count: u64) -> TableNumbers {
     TableNumbers {
         frame: 2 * count,

@@ -104,7 +104,7 @@ mod tests {
     fn list(before: &[u64], count: u64, each: u64, after: &[u64]) -> Vec<u64> {
         let mut numbers = before.to_vec();
         numbers.push(count);
-        numbers.extend(std::iter::repeat(each).take(count as usize));
+        numbers.extend(std::iter::repeat_n(each, count as usize));
         numbers.extend(after);
         numbers
     }
@@ -136,7 +136,7 @@ mod tests {
         assert_eq!(answer(&[10, 2, 255, 256]), ["BAD QUERY at 4"]);
         let records = |count: u64| {
             let mut numbers = vec![11, count];
-            numbers.extend(std::iter::repeat(1).take(3 * count as usize));
+            numbers.extend(std::iter::repeat_n(1, 3 * count as usize));
             numbers.push(1);
             answer(&numbers)
         };

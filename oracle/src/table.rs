@@ -34,7 +34,7 @@ impl TableNumbers {
         let mut previous_end = None;
         for (index, window) in self.windows.chunks(2).enumerate() {
             let (start, end) = (window[0], window[1]);
-            let apart = previous_end.map_or(true, |previous| start > previous);
+            let apart = previous_end.is_none_or(|previous| start > previous);
             let legal = start < end && end <= self.frame && apart;
             Reason::Window.check(!legal, index)?;
             previous_end = Some(end);
@@ -42,9 +42,12 @@ impl TableNumbers {
         Ok(self.tick_by_tick())
     }
 
+    /// Each window covers "ticks start up to but not including end".
     fn tick_by_tick(&self) -> Table {
-        let in_a_window = |tick| self.windows.chunks(2).any(|w| w[0] <= tick && tick < w[1]);
-        let supplied: Vec<bool> = (0..self.frame).map(in_a_window).collect();
+        let mut supplied = vec![false; self.frame as usize];
+        for window in self.windows.chunks(2) {
+            supplied[window[0] as usize..window[1] as usize].fill(true);
+        }
         let mut before = vec![0];
         let mut total = 0;
         for &tick in supplied.iter().chain(&supplied) {

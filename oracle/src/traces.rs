@@ -42,17 +42,42 @@ pub fn query(r: &mut Random, faults: u64) -> Query {
         generate::legal_table(r)
     };
     let mut recording = recording(r, &table);
+    let trace = changed_trace(r, faults, &mut recording);
+    let tasks = generate::spoil_sometimes(r, faults, &recording.group, false);
+    Query::Replay(generate::lent_table(r, faults, table), tasks, trace)
+}
+
+/// The trace of what the machine does with a legal job list that begins at tick 0, sometimes up to
+/// some record only, and mostly with one thing changed.
+pub fn trace_of_jobs(
+    r: &mut Random,
+    faults: u64,
+    table: &TableNumbers,
+    group: &[[u64; 3]],
+    jobs: &[Job],
+) -> Vec<u8> {
+    let mut recording = recorded(table, group, jobs);
+    if r.once_in(3) {
+        let some = r.index(recording.events.len()) + 1;
+        recording.events.truncate(some);
+    }
+    if r.once_in(3) {
+        go_on_after_a_miss(r, &mut recording);
+    }
+    changed_trace(r, faults, &mut recording)
+}
+
+/// A recording's bytes, mostly with one thing changed.
+fn changed_trace(r: &mut Random, faults: u64, recording: &mut Recording) -> Vec<u8> {
     if !r.once_in(4) {
-        change(r, &mut recording);
+        change(r, recording);
     }
     if r.once_in(faults.min(10)) {
         // A second change, so that the order of the two counts.
-        change(r, &mut recording);
+        change(r, recording);
     }
     let numbers = numbers(first_stamp(r, &recording.events), &recording.events);
-    let trace = spoil::trace_bytes(r, &numbers);
-    let tasks = generate::spoil_sometimes(r, faults, &recording.group, false);
-    Query::Replay(generate::lent_table(r, faults, table), tasks, trace)
+    spoil::trace_bytes(r, &numbers)
 }
 
 /// A frame of a few ticks, most of them supplied: completions and releases then often meet at one

@@ -5,25 +5,25 @@ use mathlib.Core.List.{List}
 use Prim.Native.Nat.{ℕ, _+_, _-_, _*_, _/_, _≤_, _<_, min}
 use native.Mathlib.Omega.{arith}
 use native.Mathlib.Decide.{ℕ-discrete}
+use native.Mathlib.Numerals.{add-one}
 use lib.Dec.{eqb}
 use lib.ListN.{length, getD, set, length-set}
 use lib.Seq.{getD-set-same, getD-set-other}
 use borrow.Author.Count.{below-more}
 use borrow.Author.Tests.{eq-eqb, ne-eqb}
-use Rattle.scope.specs.Limits.{mostTasks, mostOfTask, mostLength}
-use Rattle.scope.specs.Tasks.{Task, task, tasksOf, taskAt, taskDemand, demand}
+use Rattle.scope.specs.Limits.{mostTasks, mostOfTask, mostLength, mostNumber}
+use Rattle.scope.specs.Tasks.{Task, task, tasksOf, taskAt, taskDemand}
 use Rattle.theory.specs.Lists.{pieces-length}
 use Rattle.theory.specs.Answers.{LegalGroup}
 use Rattle.theory.specs.Tasks.{TaskRule}
-use Rattle.theory.specs.Dues.{dueAfter, due-later, due-first, due-hit, due-miss}
+use Rattle.theory.specs.Dues.{dueAfter, due-first, due-hit, due-miss, soonest}
 use Rattle.tables.proofs.TaskLaws.{read-rule}
-use Rattle.checker.specs.declared.rise.Rise.{Rise}
 use Rattle.checker.specs.Rises.{Due, Risen}
 use Rattle.checker.proofs.DemandLaws.{demandTo, demandTo-none, demandTo-next, demandTo-whole, demandTo-most}
 
--- one task reaches length t: its deadline after t, what its demand rises by, and that this deadline is later
+-- one task reaches length t: its deadline after t, and what its demand rises by
 reached : (x : Task) → TaskRule x → (t here later work : ℕ) → here ≡ dueAfter x (t - 1) → later ≡ cond (eqb here t) (t + x .T) here →
-    work ≡ cond (eqb here t) (x .C) 0 → (later ≡ dueAfter x t) × (taskDemand x t ≡ taskDemand x (t - 1) + work) × (t < later)
+    work ≡ cond (eqb here t) (x .C) 0 → (later ≡ dueAfter x t) × (taskDemand x t ≡ taskDemand x (t - 1) + work)
 reached x ok t here later work e el ew =
     elim (ℕ-discrete here t) [
       | yes h ↦
@@ -31,13 +31,13 @@ reached x ok t here later work e el ew =
           let hit = due-hit x ok t (sym h ∙ e) in
           let later-is : later ≡ t + x .T = rw same at el in
           let work-is : work ≡ x .C = rw same at ew in
-          omega (arith, hit, later-is, work-is, due-later x ok t)
+          omega (arith, hit, later-is, work-is)
       | no h ↦
           let other = ne-eqb here t h in
           let miss = due-miss x ok t (λ q. h (e ∙ sym q)) in
           let later-is : later ≡ here = rw other at el in
           let work-is : work ≡ 0 = rw other at ew in
-          omega (arith, miss, later-is, work-is, e, due-later x ok t)
+          omega (arith, miss, later-is, work-is, e)
     ]
 
 module _ (ts : List ℕ) (ok : LegalGroup ts) where
@@ -82,17 +82,16 @@ module _ (ts : List ℕ) (ok : LegalGroup ts) where
     pub done : (j : ℕ) → j < i → getD due j 0 ≡ dueAfter (x j) t
     pub left : (j : ℕ) → i ≤ j → j < n → getD due j 0 ≡ dueAfter (x j) (t - 1)
     pub risen : demandTo (tasksOf ts) t i ≡ demandTo (tasksOf ts) (t - 1) i + by
-    pub later : t < next
-    pub low : (j : ℕ) → j < i → next ≤ dueAfter (x j) t
+    pub soon : next ≡ soonest (tasksOf ts) t i
 
-  pub moving-none : (t : ℕ) (due : List ℕ) (next : ℕ) → t < next → Due (tasksOf ts) (t - 1) due → Moving t 0 due 0 next
-  moving-none t due next h so = record {
+  pub moving-none : (t : ℕ) (due : List ℕ) → Due (tasksOf ts) (t - 1) due → Moving t 0 due 0 mostNumber
+  unfolding soonest
+  moving-none t due so = record {
     size = so .size;
     done = λ j l. absurd (omega arith);
     left = λ j l m. so .each j (omega (arith, count));
     risen = omega (arith, demandTo-none (tasksOf ts) t, demandTo-none (tasksOf ts) (t - 1));
-    later = h;
-    low = λ j l. absurd (omega arith);
+    soon = refl;
   }
 
   module _ (t i : ℕ) (due : List ℕ) (by next : ℕ) (so : Moving t i due by next) (h : i < n) (y : Task) (read : y ≡ x i) where
@@ -104,7 +103,7 @@ module _ (ts : List ℕ) (ok : LegalGroup ts) where
     rule = read-rule ts i y ok h read
 
     module _ (later work : ℕ) (el : later ≡ cond (eqb (getD due i 0) t) (t + y .T) (getD due i 0)) (ew : work ≡ cond (eqb (getD due i 0) t) (y .C) 0) where
-      step : (later ≡ dueAfter (x i) t) × (taskDemand (x i) t ≡ taskDemand (x i) (t - 1) + work) × (t < later)
+      step : (later ≡ dueAfter (x i) t) × (taskDemand (x i) t ≡ taskDemand (x i) (t - 1) + work)
       step = rw (← read) (reached y rule t (getD due i 0) later work (so .left i (omega arith) h ∙ ap (λ (z : Task). dueAfter z (t - 1)) (sym read)) el ew)
 
       -- the sum with task i in it, which is small
@@ -115,13 +114,13 @@ module _ (ts : List ℕ) (ok : LegalGroup ts) where
       by-most l = omega (arith, sum-more, demandTo-most ts t (i + 1) ok l (omega arith))
 
       pub moving-more : Moving t (i + 1) (set due i later) (by + work) (min next later)
+      unfolding soonest
       moving-more = record {
         size = length-set due i later ∙ so .size;
         done = set-more (λ j. dueAfter (x j) t) due i later in-room (step .0) (so .done);
         left = λ j l m. getD-set-other due i j later 0 (λ q. omega arith) ∙ so .left j (omega arith) m;
         risen = sum-more;
-        later = omega (arith, so .later, step .2);
-        low = below-more (λ (j : ℕ). min next later ≤ dueAfter (x j) t) i (λ j l. omega (arith, so .low j l)) (omega (arith, step .0));
+        soon = rw (add-one i) (omega (arith, so .soon, step .0));
       }
 
   pub moving-all : (t i : ℕ) (due : List ℕ) (by next : ℕ) → i ≡ n → Moving t i due by next →
@@ -129,6 +128,5 @@ module _ (ts : List ℕ) (ok : LegalGroup ts) where
   moving-all t i due by next e so = record {
     after = record { size = so .size; each = λ j l. so .done j (omega (arith, count)) };
     by = omega (arith, so .risen, demandTo-whole ts t i e, demandTo-whole ts (t - 1) i e);
-    later = so .later;
-    low = λ j l. so .low j (omega (arith, count));
+    next = so .soon ∙ ap (soonest (tasksOf ts) t) (e ∙ sym count);
   }

@@ -1,11 +1,11 @@
 -- What the code knows of the lengths at which a demand rises
 use mathlib.Core.Path.{_≡_}
 use mathlib.Core.List.{List}
-use Prim.Native.Nat.{ℕ, _+_, _-_, _≤_, _<_}
+use Prim.Native.Nat.{ℕ, _+_, _-_, _<_}
 use lib.ListN.{length, getD}
 use Rattle.scope.specs.Limits.{mostTasks}
 use Rattle.scope.specs.Tasks.{Task, taskAt, demand}
-use Rattle.theory.specs.Dues.{dueAfter}
+use Rattle.theory.specs.Dues.{dueAfter, soonest}
 use Rattle.checker.specs.declared.rise.Rise.{Rise}
 
 -- the next deadline of each task after length t
@@ -13,9 +13,8 @@ pub record Due (ts : List Task) (t : ℕ) (due : List ℕ) : Type 0 where
   pub size : length due ≡ mostTasks
   pub each : (i : ℕ) → i < length ts → getD due i 0 ≡ dueAfter (taskAt ts i) t
 
--- what the demand of length t has more than that of the length before, and a length up to which it stays: no deadline after t is before that
+-- length t is reached: what its demand has more than that of the length before, and the next length at which it rises
 pub record Risen (ts : List Task) (t : ℕ) (due : List ℕ) (r : Rise) : Type 0 where
   pub after : Due ts t due
   pub by : demand ts t ≡ demand ts (t - 1) + r .by
-  pub later : t < r .next
-  pub low : (i : ℕ) → i < length ts → r .next ≤ dueAfter (taskAt ts i) t
+  pub next : r .next ≡ soonest ts t (length ts)

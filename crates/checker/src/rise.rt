@@ -17,7 +17,7 @@ pub(crate) struct Rise {
 }
 
 impl Rise {
-    // Longer than every length that is searched: the demand of no tasks never rises.
+    // Longer than every length that is searched: with no tasks the demand never rises.
     const NEVER: u32 = 4294967295;
 }
 

@@ -24,8 +24,8 @@ ghost use Rattle.scope.specs.Answers.{verdictAnswer, tableFault, Fault.fine, An
 ghost use Rattle.theory.specs.Answers.{LegalGroup};
 ghost use Rattle.tables.specs.Told.{boardOf, toldVerdict};
 
-// A number that the least supply of a length carries: `known` where that carries the demand too, else the least supply.
-fn carried(board: Board, windows: &[u32], length: u32, known: u32, demand: u64) -> u32
+// `known` where it is enough for the demand, else the least supply of the length.
+fn known_or_least(board: Board, windows: &[u32], length: u32, known: u32, demand: u64) -> u32
     requires { ⌜ (tableFault (boardOf board) (now windows) ≡ fine) × (length ≤ mostLength) ⌝ }
     ensures { λ r. ⌜ r ≡ cond (leb demand known) known (leastSupply (suppliedBy (boardOf board) (now (windows .entry))) (board .frame) length) ⌝ }
 {
@@ -52,7 +52,7 @@ fn search(board: Board, windows: &[u32], tasks: &[u32], cycle: u32) -> Verdict
     'search: while length <= cycle {
         let risen = rise_at(tasks, &mut due, length);
         demand += risen.by;
-        supply = carried(board, windows, length, supply, demand);
+        supply = known_or_least(board, windows, length, supply, demand);
         if (supply as u64) < demand {
             let rest = length % frame;
             let least = least_of(board, windows, rest);

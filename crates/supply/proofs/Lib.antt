@@ -1,3 +1,3 @@
-pub mod PlaceLaws
+pub mod PositionLaws
 pub mod SupplyLaws
 pub mod PartitionLaws

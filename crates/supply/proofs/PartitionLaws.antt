@@ -16,7 +16,7 @@ use borrow.Author.Tests.{lt-ltb, le-ltb}
 use Rattle.scope.specs.Numbers.{bit, greatest, keep, written}
 use Rattle.scope.specs.Ticks.{leastSupply}
 use Rattle.scope.specs.Windows.{Board, suppliedBy}
-use Rattle.scope.specs.Partition.{rises, within, edge, maximalRuns, critical}
+use Rattle.scope.specs.Partition.{rises, within, edge, maximalRuns, critical, lag}
 use Rattle.scope.specs.Answers.{Fault.fine, Fault.fault, tableFault, roomFault, criticalOf, criticalFault}
 use Rattle.theory.specs.Numbers.{bool-cases}
 use Rattle.theory.specs.Lists.{keep-hit, keep-miss}
@@ -168,6 +168,11 @@ module _ (b : Board) (ws : List ℕ) (room : ℕ) where
     critical-fine h = only-room ∙ sym (if-false _ 8 (length (criticalOf b ws)) (le-ltb room (length (criticalOf b ws)) h))
 
 -- ---- the greatest of a function's values
+
+-- at length 0 nothing is behind
+pub lag-none : (σ : ℕ → Bool) (P : ℕ) → lag σ P 0 ≡ 0
+unfolding lag
+lag-none σ P = omega arith
 
 module _ (f : ℕ → ℕ) where
   pub greatest-none : greatest f 0 ≡ 0

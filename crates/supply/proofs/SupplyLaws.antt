@@ -1,5 +1,5 @@
 -- The least supply as the code finds it: one start where a window ends after the other, and by whole frames
-use mathlib.Core.Path.{_≡_, refl, sym, ap, _∙_}
+use mathlib.Core.Path.{_≡_, ap, _∙_}
 use mathlib.Core.Bool.{Bool}
 use mathlib.Core.List.{List}
 use Prim.Native.Nat.{ℕ, _+_, _-_, _*_, _/_, _%_, _≤_, _<_, min}
@@ -7,16 +7,15 @@ use native.Mathlib.Omega.{arith}
 use native.Mathlib.Nat.{zero-add, mod-add-div', le-trans, le-antisymm}
 use lib.ListN.{length}
 use borrow.Author.Count.{below-more}
-use Rattle.scope.specs.Limits.{mostFrame}
 use Rattle.scope.specs.Ticks.{Periodic, supply, perFrame, leastSupply}
 use Rattle.scope.specs.Windows.{Board, Window, windowsOf, windowAt, suppliedBy}
 use Rattle.theory.specs.Answers.{LegalTable}
-use Rattle.theory.specs.Ticks.{supply-le, supply-up, least-over-all-starts, least-frames}
+use Rattle.theory.specs.Ticks.{supply-le, least-over-all-starts, least-frames}
 use Rattle.theory.specs.Rows as rows
-use Rattle.theory.specs.Rows.{startOf, endOf, table-row, supply-between, ends-enough, place-first, place-end, place-next, place-round, place-whole}
-use Rattle.supply.specs.declared.row.Place.{Place}
-use Rattle.supply.specs.Places.{first, Behind}
-use Rattle.supply.proofs.PlaceLaws.{behind-on, behind-first}
+use Rattle.theory.specs.Rows.{startOf, endOf, table-row, supply-between, ends-enough, position-first, position-end, position-next, position-round, position-whole}
+use Rattle.supply.specs.declared.row.Position.{Position}
+use Rattle.supply.specs.Positions.{first, Behind}
+use Rattle.supply.proofs.PositionLaws.{behind-on, behind-first}
 
 -- ---- by whole frames
 
@@ -45,27 +44,27 @@ module _ (b : Board) (ws : List ℕ) (ok : LegalTable b ws) (t : ℕ) where
   abbrev row : rows.Row σ P n (startOf ws) (endOf ws)
   row = table-row b ws ok
 
-  -- the ends of the first i windows are tried as starts: none of them has less than `low`. `earlier` ticks are supplied before window i, and the place
+  -- the ends of the first i windows are tried as starts: none of them has less than `low`. `earlier` ticks are supplied before window i, and the position
   -- is not past the end of a stretch from there
-  pub record Tried (i low earlier : ℕ) (p : Place) : Type 0 where
+  pub record Tried (i low earlier : ℕ) (p : Position) : Type 0 where
     pub few : i ≤ n
     pub least : leastSupply σ P t ≤ low
     pub each : (k : ℕ) → k < i → low ≤ supply σ (endOf ws k) t
-    pub sum : i < n → rows.Place σ P n (startOf ws) (endOf ws) row i 0 earlier
+    pub sum : i < n → rows.Position σ P n (startOf ws) (endOf ws) row i 0 earlier
     pub whole : n ≤ i → earlier ≡ perFrame σ P
     pub behind : i < n → Behind b ws p (startOf ws i + t)
 
-  pub tried-none : (p : Place) → p ≡ first → Tried 0 t 0 p
+  pub tried-none : (p : Position) → p ≡ first → Tried 0 t 0 p
   tried-none p e = record {
     few = omega arith;
     least = least-at-most σ P (row .repeats) t;
     each = λ k h. absurd (omega arith);
-    sum = λ h. place-first σ P n (startOf ws) (endOf ws) row;
+    sum = λ h. position-first σ P n (startOf ws) (endOf ws) row;
     whole = λ h. absurd (omega (arith, row .some));
     behind = λ h. behind-first b ws ok p e (startOf ws 0 + t);
   }
 
-  module _ (i low earlier : ℕ) (p : Place) (so : Tried i low earlier p) (h : i < n) (w : Window) (read : w ≡ windowAt (windowsOf ws) i) where
+  module _ (i low earlier : ℕ) (p : Position) (so : Tried i low earlier p) (h : i < n) (w : Window) (read : w ≡ windowAt (windowsOf ws) i) where
     starts : w .start ≡ startOf ws i
     starts = ap (λ (v : Window). v .start) read
 
@@ -76,35 +75,36 @@ module _ (b : Board) (ws : List ℕ) (ok : LegalTable b ws) (t : ℕ) where
     pub window-in : (w .start ≤ w .end) × (w .end ≤ P)
     window-in = omega (arith, starts, ends, row .order i h, row .inside i h)
 
-    pub still-behind : Behind b ws p (w .end + t)
-    still-behind = behind-on b ws p (startOf ws i + t) (w .end + t) (omega (arith, starts, ends, window-in .0)) (so .behind h)
+    -- the position is not past the end of a stretch from any tick of it on
+    pub still-behind : (s : ℕ) → w .start ≤ s → Behind b ws p (s + t)
+    still-behind s l = behind-on b ws p (startOf ws i + t) (s + t) (omega (arith, starts)) (so .behind h)
 
     abbrev passed : ℕ
     passed = earlier + (w .end - w .start)
 
     -- what is supplied before the start that is tried
     pub before-start : passed ≡ supply σ 0 (w .end)
-    before-start = rw (starts, ends) (place-end σ P n (startOf ws) (endOf ws) row i 0 earlier (so .sum h) ∙ ap (supply σ 0) (zero-add (endOf ws i)))
+    before-start = rw (starts, ends) (position-end σ P n (startOf ws) (endOf ws) row i 0 earlier (so .sum h) ∙ ap (supply σ 0) (zero-add (endOf ws i)))
 
     module _ (all : ℕ) (told : all ≡ supply σ 0 (w .end + t)) where
       -- and in the stretch
       pub here : (passed ≤ all) × (all - passed ≡ supply σ (endOf ws i) t)
       here = omega (arith, before-start, supply-between σ (w .end) t, ap (λ (k : ℕ). supply σ k t) ends)
 
-      pub tried-next : (q : Place) → Behind b ws q (w .end + t) → Tried (i + 1) (min low (all - passed)) passed q
+      pub tried-next : (q : Position) → Behind b ws q (w .end + t) → Tried (i + 1) (min low (all - passed)) passed q
       tried-next q at = record {
         few = omega arith;
         least = omega (arith, so .least, here .1, least-over-all-starts σ P (row .repeats) (endOf ws i) t);
         each = below-more (λ (k : ℕ). min low (all - passed) ≤ supply σ (endOf ws k) t) i (λ k u. omega (arith, so .each k u)) (omega (arith, here .1));
-        sum = λ u. rw (starts, ends) (place-next σ P n (startOf ws) (endOf ws) row i 0 earlier (so .sum h) u);
+        sum = λ u. rw (starts, ends) (position-next σ P n (startOf ws) (endOf ws) row i 0 earlier (so .sum h) u);
         whole = λ u.
-            place-whole σ P n (startOf ws) (endOf ws) row passed
-            (rw (starts, ends) (place-round σ P n (startOf ws) (endOf ws) row i 0 earlier (so .sum h) u));
+            position-whole σ P n (startOf ws) (endOf ws) row passed
+            (rw (starts, ends) (position-round σ P n (startOf ws) (endOf ws) row i 0 earlier (so .sum h) u));
         behind = λ u. behind-on b ws q (w .end + t) (startOf ws (i + 1) + t) (omega (arith, ends, row .apart i u)) at;
       }
 
   -- all are tried
-  pub all-tried : (i low earlier : ℕ) (p : Place) → n ≤ i → Tried i low earlier p → (low ≡ leastSupply σ P t) × (earlier ≡ perFrame σ P)
+  pub all-tried : (i low earlier : ℕ) (p : Position) → n ≤ i → Tried i low earlier p → (low ≡ leastSupply σ P t) × (earlier ≡ perFrame σ P)
   all-tried i low earlier p h so = (
     le-antisymm (ends-enough σ P n (startOf ws) (endOf ws) row t low (λ k u. so .each k (omega arith))) (so .least),
     so .whole h,

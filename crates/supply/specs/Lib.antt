@@ -1,4 +1,4 @@
-pub mod Places
+pub mod Positions
 pub mod Marks
 pub mod Refused
 pub mod Outage

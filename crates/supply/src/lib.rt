@@ -1,4 +1,4 @@
-// What a table supplies: a tick, a stretch of ticks, the least supply of a length, the critical partition, the delay and the longest outage.
+// What a table supplies: a tick, the least supply of a length, the critical partition, the delay and the longest outage.
 pub mod partition;
 mod row;
 pub mod supply;

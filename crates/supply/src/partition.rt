@@ -19,7 +19,7 @@ ghost use Rattle.theory.specs.Answers.{LegalTable};
 ghost use Rattle.tables.specs.Told.{boardOf, no, toldAmount, toldDelay};
 ghost use Rattle.supply.specs.Marks.{marked, Marked};
 
-// The marks of a frame's ticks, none set.
+// Room for a mark for each tick of a frame.
 fn unmarked() -> [u8; Board::LONGEST as usize]
     ensures { λ r. ⌜ length r ≡ mostFrame ⌝ }
 {
@@ -140,14 +140,14 @@ fn lag_of(board: Board, windows: &[u32], whole: u32, t: u32) -> u64
     (whole as u64) * (t as u64) - (frame as u64) * (least.supply as u64)
 }
 
-// The greatest of these over t in 0 to P.
+// The greatest of these over t in 0 to P: at 0 it is 0.
 fn delay_of(board: Board, windows: &[u32], whole: u32) -> u64
     requires { ⌜ LegalTable (boardOf board) (now windows) × (whole ≡ perFrame (suppliedBy (boardOf board) (now windows)) (board .frame)) ⌝ }
     ensures { λ r. ⌜ r ≡ delayBy (suppliedBy (boardOf board) (now (windows .entry))) (board .frame) ⌝ }
 {
     let frame = board.frame;
     let mut most = 0;
-    let mut t = 0;
+    let mut t = 1;
     while t < frame + 1 {
         let here = lag_of(board, windows, whole, t);
         if most < here {

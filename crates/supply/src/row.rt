@@ -3,23 +3,22 @@ use tables::board::Board;
 use tables::window::window_at;
 ghost use mathlib.Core.Path.{_≡_};
 ghost use Prim.Native.Nat.{_+_, _-_, _*_, _/_, _<_, _≤_};
-ghost use lib.ListN.{length};
 ghost use Rattle.scope.specs.Limits.{mostFrame};
 ghost use Rattle.tables.specs.Told.{boardOf};
-ghost use Rattle.supply.specs.Places.{first, opens, closes, following, Stands, Behind};
+ghost use Rattle.supply.specs.Positions.{first, opens, closes, following, Stands, Behind};
 
 // Window `index` of the frame that begins at tick `base`, with the supplied ticks before that window.
-pub(crate) struct Place {
+pub(crate) struct Position {
     pub index: usize,
     pub base: u32,
     pub before: u32,
 }
 
-impl Place {
-    pub(crate) fn first() -> Place
+impl Position {
+    pub(crate) fn first() -> Position
         ensures { λ r. ⌜ r ≡ first ⌝ }
     {
-        Place {
+        Position {
             index: 0,
             base: 0,
             before: 0,
@@ -27,35 +26,35 @@ impl Place {
     }
 }
 
-// The tick at which the window of a place ends.
-fn end_at(windows: &[u32], place: Place) -> u32
-    requires { ⌜ closes (now windows) place ≤ 4 * mostFrame ⌝ }
-    ensures { λ r. ⌜ r ≡ closes (now (windows .entry)) place ⌝ }
+// The tick at which the window of a position ends.
+fn end_at(windows: &[u32], position: Position) -> u32
+    requires { ⌜ closes (now windows) position ≤ 4 * mostFrame ⌝ }
+    ensures { λ r. ⌜ r ≡ closes (now (windows .entry)) position ⌝ }
 {
-    let base = place.base;
-    let window = window_at(windows, place.index);
+    let base = position.base;
+    let window = window_at(windows, position.index);
     base + window.end
 }
 
-// The place of the next window: after the last one of a frame comes the first of the next frame.
-fn next(board: Board, windows: &[u32], place: Place) -> Place
-    requires { ⌜ Stands (boardOf board) (now windows) place ⌝ }
-    ensures { λ r. ⌜ r ≡ following (boardOf board) (now (windows .entry)) place ⌝ }
+// The position of the next window: after the last one of a frame comes the first of the next frame.
+fn next(board: Board, windows: &[u32], position: Position) -> Position
+    requires { ⌜ Stands (boardOf board) (now windows) position ⌝ }
+    ensures { λ r. ⌜ r ≡ following (boardOf board) (now (windows .entry)) position ⌝ }
 {
     let frame = board.frame;
-    let base = place.base;
-    let index = place.index;
-    let earlier = place.before;
+    let base = position.base;
+    let index = position.index;
+    let earlier = position.before;
     let window = window_at(windows, index);
     let before = earlier + (window.end - window.start);
     if index + 1 < windows.len() / 2 {
-        return Place {
+        return Position {
             index: index + 1,
             base,
             before,
         };
     }
-    Place {
+    Position {
         index: 0,
         base: base + frame,
         before,
@@ -63,25 +62,25 @@ fn next(board: Board, windows: &[u32], place: Place) -> Place
 }
 
 // On to the first window that ends after tick x. The ends rise, whatever a window gives.
-pub(crate) fn moved(board: Board, windows: &[u32], place: Place, x: u32) -> Place
-    requires { ⌜ Behind (boardOf board) (now windows) place x × (x ≤ 2 * mostFrame) ⌝ }
+pub(crate) fn moved(board: Board, windows: &[u32], position: Position, x: u32) -> Position
+    requires { ⌜ Behind (boardOf board) (now windows) position x × (x ≤ 2 * mostFrame) ⌝ }
     ensures { λ r. ⌜ Behind (boardOf board) (now (windows .entry)) r x × (x < closes (now (windows .entry)) r) ⌝ }
 {
-    let mut at = place;
+    let mut at = position;
     while end_at(windows, at) <= x {
         at = next(board, windows, at);
     }
     at
 }
 
-// The supplied ticks before tick x, from the place of the first window that ends after it.
-pub(crate) fn upto(windows: &[u32], place: Place, x: u32) -> u32
-    requires { ⌜ (opens (now windows) place ≤ 4 * mostFrame) × (place .before + x ≤ 8 * mostFrame) ⌝ }
-    ensures { λ r. ⌜ r ≡ place .before + (x - opens (now (windows .entry)) place) ⌝ }
+// The supplied ticks before tick x, from the position of the first window that ends after it.
+pub(crate) fn upto(windows: &[u32], position: Position, x: u32) -> u32
+    requires { ⌜ (opens (now windows) position ≤ 4 * mostFrame) × (position .before + x ≤ 8 * mostFrame) ⌝ }
+    ensures { λ r. ⌜ r ≡ position .before + (x - opens (now (windows .entry)) position) ⌝ }
 {
-    let base = place.base;
-    let before = place.before;
-    let window = window_at(windows, place.index);
+    let base = position.base;
+    let before = position.before;
+    let window = window_at(windows, position.index);
     let start = base + window.start;
     if x <= start {
         return before;

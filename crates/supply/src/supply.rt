@@ -1,4 +1,4 @@
-use crate::row::Place;
+use crate::row::Position;
 use crate::row::moved;
 use crate::row::upto;
 use tables::answer::Amount;
@@ -11,8 +11,8 @@ use tables::window::check_table;
 use tables::window::is_on;
 use tables::window::window_at;
 ghost use mathlib.Core.Path.{_≡_};
-ghost use Prim.Native.Nat.{_≤_, min};
-ghost use Rattle.scope.specs.Limits.{mostLength};
+ghost use Prim.Native.Nat.{_+_, _-_, _≤_, min};
+ghost use Rattle.scope.specs.Limits.{mostFrame, mostLength};
 ghost use Rattle.scope.specs.Ticks.{perFrame, leastSupply};
 ghost use Rattle.scope.specs.Windows.{suppliedBy};
 ghost use Rattle.scope.specs.Answers.{suppliedAnswer, leastSupplyAnswer};
@@ -31,15 +31,24 @@ fn lesser(a: u32, b: u32) -> u32
     if b < a { b } else { a }
 }
 
-// The start that is tried for a window: where it ends.
-fn start_after(window: Window) -> u32
-    ensures { λ r. ⌜ r ≡ window .end ⌝ }
+// A start that is tried, and the supplied ticks before it.
+struct Start {
+    tick: u32,
+    before: u32,
+}
+
+// The start that is tried for a window, where `earlier` ticks are supplied before it: the window's end.
+fn start_after(window: Window, earlier: u32) -> Start
+    requires { ⌜ (window .start ≤ window .end) × (earlier + (window .end - window .start) ≤ mostFrame) ⌝ }
+    ensures { λ r. ⌜ (r .tick ≡ window .end) × (r .before ≡ earlier + (window .end - window .start)) ⌝ }
 {
-    window.end
+    let tick = window.end;
+    let before = earlier + (window.end - window.start);
+    Start { tick, before }
 }
 
 // The least supply of a length of at most a frame, over the starts where a window ends. Both ends of the stretch only move forward: what is supplied
-// before its start is the sum of the windows so far, what is supplied before its end is told by a place in the row.
+// before its start is the sum of the windows so far, what is supplied before its end is told by a position in the row.
 pub(crate) fn least_at_ends(board: Board, windows: &[u32], length: u32) -> Least
     requires { ⌜ LegalTable (boardOf board) (now windows) × (length ≤ board .frame) ⌝ }
     ensures { λ r. ⌜ (r .supply ≡ leastSupply (suppliedBy (boardOf board) (now (windows .entry))) (board .frame) length)
@@ -48,14 +57,15 @@ pub(crate) fn least_at_ends(board: Board, windows: &[u32], length: u32) -> Least
     let count = windows.len() / 2;
     let mut least = length;
     let mut earlier = 0;
-    let mut place = Place::first();
+    let mut position = Position::first();
     let mut i = 0;
     while i < count {
         let window = window_at(windows, i);
-        let end = start_after(window) + length;
+        let start = start_after(window, earlier);
+        let end = start.tick + length;
+        position = moved(board, windows, position, end);
+        least = lesser(least, upto(windows, position, end) - start.before);
         earlier += window.end - window.start;
-        place = moved(board, windows, place, end);
-        least = lesser(least, upto(windows, place, end) - earlier);
         i += 1;
     }
     Least {

@@ -1,6 +1,5 @@
 -- A cursor as the code moves it on, and that on a legal table it tells which ticks are supplied
 use mathlib.Core.Path.{_≡_, refl, sym, ap, _∙_}
-use mathlib.Core.Bool.{Bool, true, false}
 use mathlib.Core.List.{List}
 use Prim.Native.Nat.{ℕ, zero, suc, _+_, _-_, _/_, _%_, _≤_, _<_}
 use native.Mathlib.Omega.{arith}
@@ -9,10 +8,10 @@ use native.Mathlib.Numerals.{add-one}
 use native.Mathlib.Decide.{ℕ-discrete, decLt}
 use lib.ListN.{length}
 use borrow.Author.Tests.{lt-ltb, le-ltb, eq-eqb, ne-eqb}
-use Rattle.scope.specs.Numbers.{bit}
 use Rattle.scope.specs.Windows.{Board, Window, window, windowsOf, windowAt, gives, supplied, suppliedBy}
 use Rattle.theory.specs.Lists.{pieces-length, piece-past}
 use Rattle.theory.specs.Gaps.{fits, next, covers-by}
+use Rattle.theory.specs.Rows.{endOf}
 use Rattle.theory.specs.Answers.{LegalTable}
 use Rattle.tables.specs.declared.cursor.Cursor.{Cursor}
 use Rattle.tables.specs.Cursors.{begin, after, cursorAt}
@@ -50,15 +49,12 @@ module _ (b : Board) (ws : List ℕ) (ok : LegalTable b ws) where
   abbrev n : ℕ
   n = length (windowsOf ws)
 
-  abbrev endOf : ℕ → ℕ
-  endOf i = (windowAt (windowsOf ws) i) .end
-
   -- the tick's place in its frame, and the first window that ends after it
   record Stands (k : ℕ) (c : Cursor) : Type 0 where
     tick : c .tick ≡ k % b .frame
     few : c .window ≤ n
-    past : 0 < c .window → endOf (c .window - 1) ≤ c .tick
-    ahead : c .window < n → c .tick < endOf (c .window)
+    past : 0 < c .window → endOf ws (c .window - 1) ≤ c .tick
+    ahead : c .window < n → c .tick < endOf ws (c .window)
 
   some : 0 < n
   some = omega (arith, ok .even, ok .some, pieces-length _ 2 window ws)
@@ -82,7 +78,7 @@ module _ (b : Board) (ws : List ℕ) (ok : LegalTable b ws) where
         | yes h ↦
             let l : suc (c .tick) < b .frame = omega arith in
             let on : c .tick + 1 ≡ suc k % b .frame = add-one (c .tick) ∙ sym (step ∙ mod-eq-of-lt l) in
-            elim (ℕ-discrete (endOf (c .window)) (c .tick + 1)) [
+            elim (ℕ-discrete (endOf ws (c .window)) (c .tick + 1)) [
               | yes e ↦ rw (← (after-end b ws c h e)) (record {
                 tick = on;
                 few = omega (arith, is-there ws (c .window) (c .tick) e, pieces-length _ 2 window ws);

@@ -5,8 +5,8 @@ ghost use Rattle.scope.specs.Windows.{windowsOf, windowAt, gives};
 ghost use Rattle.tables.specs.Told.{boardOf};
 ghost use Rattle.tables.specs.Cursors.{begin, after};
 
-// A tick of the frame and the window at hand there: on a legal table the first one that ends after the tick, which alone can give it. So whoever goes
-// on tick by tick looks at one window each time.
+// A tick of the frame and the window at hand there: on a legal table the first one that ends after the tick, which alone can give it; past the last one
+// none is. So whoever goes on tick by tick looks at one window each time.
 pub struct Cursor {
     pub tick: u32,
     pub window: usize,

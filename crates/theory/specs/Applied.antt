@@ -10,7 +10,7 @@ use lib.ListN.{length, getD, take, replicate, length-append}
 use Rattle.scope.specs.Numbers.{least, piecesFrom, pieces, badCount, greatest, lexically}
 use Rattle.scope.specs.Ticks.{supply, leastSupply}
 use Rattle.scope.specs.Windows.{suppliedBy}
-use Rattle.scope.specs.Tasks.{tasksOf, demand}
+use Rattle.scope.specs.Tasks.{tasksOf, taskAt, demand}
 use Rattle.scope.specs.Verdict.{Verdict.meets, Verdict.miss}
 use Rattle.scope.specs.Bound.{Bound.bound, asked}
 use Rattle.scope.specs.Jobs.{Job, job, jobsOf, taskOf, deadline}
@@ -30,6 +30,7 @@ use Rattle.scope.specs.Computing.{everything}
 use Rattle.theory.specs.Numbers.{by-lexically}
 use Rattle.theory.specs.Answers.{run-given}
 use Rattle.theory.specs.Exact.{exact-meets, exact-miss}
+use Rattle.theory.specs.Dues.{dueAfter, miss-at-deadline}
 use Rattle.theory.specs.Bound.{exact-bound}
 use Rattle.theory.specs.Rows.{endOf, ends-answer}
 use Rattle.theory.specs.Outage.{outage-run, outage-no-longer, outage-supply, outage-greatest-length, outage-zero, outage-critical, outage-asked}
@@ -90,10 +91,14 @@ w7-exact = exact-meets (on 8) X w7 (meets 8) w7-meets 8 .0 refl .1
 w6-exact : LeastMiss (suppliedBy (on 8) X) 8 (tasksOf w6) 6 2 3 2
 w6-exact = exact-miss (on 8) X w6 (miss 6 2 3 2) w6-misses 6 2 3 2 .0 refl
 
+-- W6's length is a deadline: that of the second task's first job
+w6-deadline : (i : ℕ) × (i < length (tasksOf w6)) × (6 ≡ dueAfter (taskAt (tasksOf w6) i) 5)
+w6-deadline = miss-at-deadline (on 8) X w6 6 2 3 2 w6-misses
+
 w11-exact : (u : ℕ) → 1 ≤ u → u < 7 → asked (tasksOf w11) 1 u ≤ leastSupply (suppliedBy (on 8) X) 8 u → ⊥
 w11-exact = exact-bound (on 8) X w11 1 (bound 7) w11-bounds 7 .0 refl .3
 
--- ---- the starts where a window ends: 4 ticks of X hold 1 from tick 2 or from tick 7 on
+-- ---- the starts where a window ends: 4 ticks of X hold 1 from tick 2 on, and 2 from tick 7 on
 
 x-four : leastSupplyAnswer (on 8) X 4 ≡ given 1
 unfolding reply table

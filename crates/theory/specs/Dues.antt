@@ -1,14 +1,25 @@
 -- The lengths at which a demand rises: a task's deadlines, one period after the other. Between them it stays
-use mathlib.Core.Path.{_≡_, sym, ap, _∙_}
+use mathlib.Core.Path.{_≡_, refl, sym, ap, _∙_}
+use mathlib.Core.Bool.{Bool}
+use mathlib.Core.Logic.{_⊎_, inl, inr}
 use mathlib.Core.List.{List}
-use Prim.Native.Nat.{ℕ, suc, _+_, _-_, _*_, _≤_, _<_}
+use Prim.Native.Nat.{ℕ, zero, suc, _+_, _-_, _*_, _≤_, _<_, min}
 use native.Mathlib.Omega.{arith}
-use native.Mathlib.Decide.{decLt}
+use native.Mathlib.Decide.{ℕ-discrete, decLt}
 use native.Mathlib.Nat.{le-antisymm}
 use lib.ListN.{length}
-use Rattle.scope.specs.Tasks.{Task, taskAt, taskDemand, demand}
+use Rattle.scope.specs.Limits.{mostNumber}
+use Rattle.scope.specs.Ticks.{Periodic, leastSupply}
+use Rattle.scope.specs.Windows.{Board, windowsOf, suppliedBy}
+use Rattle.scope.specs.Tasks.{Task, tasksOf, taskAt, taskDemand, demand}
+use Rattle.scope.specs.Verdict.{Verdict.miss}
+use Rattle.scope.specs.Answers.{Answer.given, verdictAnswer}
 use Rattle.theory.specs.Numbers.{sum-eq}
-use Rattle.theory.specs.Tasks.{TaskRule, TaskRules, jobsIn, jobsIn-short, jobsIn-due, le-jobsIn, demand-jobs, demand-sum}
+use Rattle.theory.specs.Ticks.{least-up}
+use Rattle.theory.specs.Tasks.{TaskRule, TaskRules, jobsIn, jobsIn-short, jobsIn-due, le-jobsIn, demand-jobs, demand-sum, demand-none}
+use Rattle.theory.specs.Windows.{supplied-periodic}
+use Rattle.theory.specs.Answers.{judged}
+use Rattle.theory.specs.Exact.{exact-miss}
 
 -- the next deadline after length t of the jobs that are released at tick 0 and each period after
 unfoldable pub dueAfter : Task → ℕ → ℕ
@@ -97,3 +108,68 @@ demand-same ts t u ok h low =
     demand-sum ts u
     ∙ sum-eq (λ i. taskDemand (taskAt ts i) u) (λ i. taskDemand (taskAt ts i) t) (length ts) (λ i l. due-same (taskAt ts i) (ok i l) t u h (low i l) .0)
     ∙ sym (demand-sum ts t)
+
+-- the soonest of the next deadlines of the first n tasks after length t; the greatest number of all where there are no tasks
+unfoldable pub soonest : List Task → ℕ → ℕ → ℕ
+soonest ts t zero = mostNumber
+soonest ts t (suc n) = min (soonest ts t n) (dueAfter (taskAt ts n) t)
+
+module _ (ts : List Task) (t : ℕ) where
+  pub soonest-low : (n i : ℕ) → i < n → soonest ts t n ≤ dueAfter (taskAt ts i) t
+  unfolding soonest
+  soonest-low zero i l = absurd (omega arith)
+  soonest-low (suc n) i l =
+      elim (ℕ-discrete i n) [
+        | yes e ↦ omega (arith, ap (λ (k : ℕ). dueAfter (taskAt ts k) t) e)
+        | no u ↦ omega (arith, soonest-low n i (omega arith))
+      ]
+
+  pub soonest-later : (n : ℕ) → TaskRules ts → n ≤ length ts → t < mostNumber → t < soonest ts t n
+  unfolding soonest
+  soonest-later zero ok h l = l
+  soonest-later (suc n) ok h l = omega (arith, soonest-later n ok (omega arith) l, due-later (taskAt ts n) (ok n (omega arith)) t)
+
+-- ---- a length at which the demand does not rise
+
+module _ (σ : ℕ → Bool) (P : ℕ) (per : Periodic σ P) (ts : List Task) (ok : TaskRules ts) where
+  -- where the demand of a length is carried by its least supply, so is that of every length up to the next deadline
+  pub met-until : (t u : ℕ) → t ≤ u → ((i : ℕ) → i < length ts → u < dueAfter (taskAt ts i) t) →
+      demand ts t ≤ leastSupply σ P t → demand ts u ≤ leastSupply σ P u
+  met-until t u h low fits = omega (arith, demand-same ts t u ok h low, least-up σ P per t u h)
+
+  -- so a length that violates where the one before it does not is a deadline of some task
+  some-due : (t n : ℕ) → ((i : ℕ) × (i < n) × (t ≡ dueAfter (taskAt ts i) (t - 1))) ⊎ ((i : ℕ) → i < n → t ≡ dueAfter (taskAt ts i) (t - 1) → ⊥)
+  some-due t zero = inr (λ i l. absurd (omega arith))
+  some-due t (suc n) = elim (some-due t n) [
+    | inl found ↦ inl (found .0, omega (arith, found .1), found .2)
+    | inr none-yet ↦ elim (ℕ-discrete t (dueAfter (taskAt ts n) (t - 1))) [
+      | yes e ↦ inl (n, omega arith, e)
+      | no u ↦ inr (λ i l. elim (ℕ-discrete i n) [
+        | yes e ↦ λ q. u (q ∙ ap (λ (k : ℕ). dueAfter (taskAt ts k) (t - 1)) e)
+        | no v ↦ none-yet i (omega arith)
+      ])
+    ]
+  ]
+
+  pub violates-at-deadline : (t : ℕ) → demand ts (t - 1) ≤ leastSupply σ P (t - 1) → leastSupply σ P t < demand ts t →
+      (i : ℕ) × (i < length ts) × (t ≡ dueAfter (taskAt ts i) (t - 1))
+  violates-at-deadline t fits over =
+      elim (some-due t (length ts)) [
+        | inl found ↦ found
+        | inr none-there ↦
+            let later : (i : ℕ) → i < length ts → t < dueAfter (taskAt ts i) (t - 1) = λ i l.
+            omega (arith, due-later (taskAt ts i) (ok i l) (t - 1), none-there i l) in
+            absurd (omega (arith, met-until (t - 1) t (omega arith) later fits))
+      ]
+
+-- of the entry: the length that a verdict shows is a deadline of some task that is released at its start and each period after
+pub miss-at-deadline : (b : Board) (ws ts : List ℕ) (t s d p : ℕ) → verdictAnswer b ws ts ≡ given (miss t s d p) →
+    (i : ℕ) × (i < length (tasksOf ts)) × (t ≡ dueAfter (taskAt (tasksOf ts) i) (t - 1))
+miss-at-deadline b ws ts t s d p e =
+    let facts = judged b ws ts (miss t s d p) e in
+    let ok = facts .group .rules in
+    let m = exact-miss b ws ts (miss t s d p) e t s d p .0 refl in
+    let per = supplied-periodic b (windowsOf ws) (facts .table .frame) in
+    let some-length : 0 < t =
+    elim (decLt 0 t) [ yes l ↦ l | no l ↦ let z : t ≡ 0 = omega arith in absurd (omega (arith, m .demanded, m .above, ap (demand (tasksOf ts)) z, demand-none (tasksOf ts) ok)) ] in
+    violates-at-deadline (suppliedBy b ws) (b .frame) per (tasksOf ts) ok t (m .leastLength (t - 1) (omega arith)) (omega (arith, m .demanded, m .supplied, m .above))

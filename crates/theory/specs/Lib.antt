@@ -10,11 +10,11 @@ pub mod MaximalRuns
 pub mod Partition
 pub mod Delay
 pub mod Tasks
-pub mod Dues
 pub mod Cycle
 pub mod Horizon
 pub mod Answers
 pub mod Exact
+pub mod Dues
 pub mod Bound
 pub mod Outage
 pub mod LongestGap

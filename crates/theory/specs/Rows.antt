@@ -12,7 +12,7 @@ use lib.ListN.{length}
 use Rattle.scope.specs.Numbers.{bit, least}
 use Rattle.scope.specs.Ticks.{Periodic, supply, perFrame, leastSupply}
 use Rattle.scope.specs.Answers.{Answer.given, _orElse_, tableFault, lengthFault, leastSupplyAnswer}
-use Rattle.scope.specs.Windows.{Board, Window, window, windowsOf, windowAt, suppliedBy}
+use Rattle.scope.specs.Windows.{Board, window, windowsOf, windowAt, suppliedBy}
 use Rattle.theory.specs.Numbers.{bit-le, least-le, least-met}
 use Rattle.theory.specs.Lists.{pieces-length}
 use Rattle.theory.specs.Ticks.{supply-split, supply-le, supply-slide, supply-up, supply-shift, supply-mod, least-over-all-starts, least-is-met}
@@ -139,7 +139,7 @@ module _ (σ : ℕ → Bool) (P n : ℕ) (start end : ℕ → ℕ) (row : Row σ
 
   -- ---- stretch i of the frame that begins at tick `base`, and the supplied ticks before it
 
-  pub record Place (i base before : ℕ) : Type 0 where
+  pub record Position (i base before : ℕ) : Type 0 where
     pub there : i < n
     pub frames : base % P ≡ 0
     pub holds : before ≡ supply σ 0 (base + start i)
@@ -158,13 +158,13 @@ module _ (σ : ℕ → Bool) (P n : ℕ) (start end : ℕ → ℕ) (row : Row σ
       sym (supply-shift σ P (row .repeats) 0 (start 0))
       ∙ supply-off σ (0 + P) (start 0) (λ k h l. row .round k (omega arith) (omega arith))
 
-  pub place-first : Place 0 0 0
-  place-first = record { there = row .some; frames = zero-mod P; holds = sym (ap (supply σ 0) (zero-add (start 0)) ∙ head-off) }
+  pub position-first : Position 0 0 0
+  position-first = record { there = row .some; frames = zero-mod P; holds = sym (ap (supply σ 0) (zero-add (start 0)) ∙ head-off) }
 
-  module _ (i base before : ℕ) (at : Place i base before) where
+  module _ (i base before : ℕ) (at : Position i base before) where
     -- up to a tick x in it
-    pub place-in : (x : ℕ) → base + start i ≤ x → x ≤ base + end i → supply σ 0 x ≡ before + (x - (base + start i))
-    place-in x h l =
+    pub position-in : (x : ℕ) → base + start i ≤ x → x ≤ base + end i → supply σ 0 x ≡ before + (x - (base + start i))
+    position-in x h l =
         let m : ℕ = x - (base + start i) in
         let e : base + start i + m ≡ x = omega arith in
         omega (
@@ -177,29 +177,29 @@ module _ (σ : ℕ → Bool) (P n : ℕ) (start end : ℕ → ℕ) (row : Row σ
         )
 
     -- up to a tick x in the gap before it
-    pub place-before : (x : ℕ) → before ≤ supply σ 0 x → x ≤ base + start i → supply σ 0 x ≡ before
-    place-before x h l = omega (arith, at .holds, supply-up σ 0 x (base + start i) l)
+    pub position-before : (x : ℕ) → before ≤ supply σ 0 x → x ≤ base + start i → supply σ 0 x ≡ before
+    position-before x h l = omega (arith, at .holds, supply-up σ 0 x (base + start i) l)
 
     -- up to its end
-    pub place-end : before + (end i - start i) ≡ supply σ 0 (base + end i)
-    place-end = omega (arith, row .order i (at .there), place-in (base + end i) (omega (arith, row .order i (at .there))) (omega arith))
+    pub position-end : before + (end i - start i) ≡ supply σ 0 (base + end i)
+    position-end = omega (arith, row .order i (at .there), position-in (base + end i) (omega (arith, row .order i (at .there))) (omega arith))
 
     -- a tick that it ends by
-    pub place-past : (x : ℕ) → base + end i ≤ x → before + (end i - start i) ≤ supply σ 0 x
-    place-past x h = omega (arith, place-end, supply-up σ 0 (base + end i) x h)
+    pub position-past : (x : ℕ) → base + end i ≤ x → before + (end i - start i) ≤ supply σ 0 x
+    position-past x h = omega (arith, position-end, supply-up σ 0 (base + end i) x h)
 
     -- no more than there are ticks
-    pub place-most : before ≤ base + P
-    place-most = omega (arith, row .order i (at .there), row .inside i (at .there), at .holds, supply-le σ 0 (base + start i))
+    pub position-most : before ≤ base + P
+    position-most = omega (arith, row .order i (at .there), row .inside i (at .there), at .holds, supply-le σ 0 (base + start i))
 
     -- over a gap from its end on
     over : (m : ℕ) → ((k : ℕ) → end i ≤ k → k < end i + m → σ k ≡ false) → supply σ 0 (base + end i + m) ≡ before + (end i - start i)
     over m off =
-        omega (arith, place-end, supply-between σ (base + end i) m, framed base (end i) m (at .frames), supply-off σ (end i) m off)
+        omega (arith, position-end, supply-between σ (base + end i) m, framed base (end i) m (at .frames), supply-off σ (end i) m off)
 
     -- the next one, in this frame or, after the last, in the next
-    pub place-next : i + 1 < n → Place (i + 1) base (before + (end i - start i))
-    place-next h =
+    pub position-next : i + 1 < n → Position (i + 1) base (before + (end i - start i))
+    position-next h =
         let g = row .apart i h in
         let e : base + end i + (start (i + 1) - end i) ≡ base + start (i + 1) = omega arith in
         record {
@@ -208,8 +208,8 @@ module _ (σ : ℕ → Bool) (P n : ℕ) (start end : ℕ → ℕ) (row : Row σ
           holds = sym (over (start (i + 1) - end i) (λ k u v. row .gap i k h u (omega arith))) ∙ ap (supply σ 0) e;
         }
 
-    pub place-round : n ≤ i + 1 → Place 0 (base + P) (before + (end i - start i))
-    place-round h =
+    pub position-round : n ≤ i + 1 → Position 0 (base + P) (before + (end i - start i))
+    position-round h =
         let last : i ≡ n - 1 = omega (arith, at .there) in
         let in-frame = row .inside i (at .there) in
         let e : base + end i + (start 0 + P - end i) ≡ base + P + start 0 = omega arith in
@@ -220,8 +220,8 @@ module _ (σ : ℕ → Bool) (P n : ℕ) (start end : ℕ → ℕ) (row : Row σ
         }
 
   -- once round, A ticks are supplied
-  pub place-whole : (before : ℕ) → Place 0 (0 + P) before → before ≡ perFrame σ P
-  place-whole before at =
+  pub position-whole : (before : ℕ) → Position 0 (0 + P) before → before ≡ perFrame σ P
+  position-whole before at =
       omega (
         arith,
         at .holds,

@@ -31,7 +31,8 @@ group-fine c = sym (c .before .before .check-group .ensures) ∙ ap faultOf (c .
 response-of-requires : tie.Need-response-of-requires
 response-of-requires c κs =
     let e = group-fine (c .before) in
-    (orElse-fine (tableFault _ _) (groupFault _) e .0, checked-legal _ _ _ e .1, omega (arith, pieces-length _ 3 task (c .before .before .before .before .before .before .args .tasks .now)))
+    let there = pieces-length _ 3 task (c .before .before .before .before .before .before .args .tasks .now) in
+    (orElse-fine (tableFault _ _) (groupFault _) e .0, checked-legal _ _ _ e .1, omega arith)
 
 returns : tie.Need-returns
 returns c = bound-refused _ _ _ _ (sym (c .before .before .before .check-group .ensures) ∙ ap faultOf (c .before .r .given .1))

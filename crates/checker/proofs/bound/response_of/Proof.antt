@@ -1,6 +1,5 @@
 use borrow.Author.Needs.{needs}
-use Rattle.scope.specs.Limits.{mostTasks, mostOfTask, mostLength}
-use Rattle.scope.specs.Ticks.{Periodic}
+use Rattle.scope.specs.Limits.{mostOfTask, mostLength}
 use Rattle.scope.specs.Windows.{suppliedBy}
 use Rattle.scope.specs.Tasks.{Task, task, tasksOf, taskAt}
 use Rattle.scope.specs.Answers.{Answer.given}
@@ -11,7 +10,7 @@ use Rattle.tables.specs.Told.{boardOf}
 use Rattle.tables.proofs.TaskLaws.{read-rule}
 use Rattle.checker.proofs.BoundLaws.{Short, short-first, short-next, bound-found, no-bound-found, asked-at-most}
 use native.Mathlib.Omega.{arith}
-use Prim.Native.Nat.{_+_, _-_, _*_, _≤_}
+use Prim.Native.Nat.{_+_, _-_, _≤_}
 use mathlib.Core.Path.{_≡_, ap}
 use Rattle.checker.proofs.bound.response_of.Statement.{statement}
 use Rattle.checker.proofs.bound.response_of.Tie as tie

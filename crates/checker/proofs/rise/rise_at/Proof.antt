@@ -1,6 +1,6 @@
 use mathlib.Core.Path.{_≡_, refl}
 use native.Mathlib.Omega.{arith}
-use Prim.Native.Nat.{_-_, _/_, _≤_, _<_}
+use Prim.Native.Nat.{_-_, _≤_, _<_}
 use lib.ListN.{length, length-set}
 use borrow.Author.Needs.{needs}
 use Rattle.scope.specs.Limits.{mostTasks, mostLength}
@@ -26,7 +26,7 @@ abbrev μ-loop : tie.MeasureT-loop
 
 loop-holds : tie.Need-loop-holds Inv-loop μ-loop
 loop-holds c =
-    let p = c .before .before .pre in (omega arith, p .1, refl, p .0, moving-none _ (p .0) _ _ _ (omega arith) (p .2))
+    let p = c .before .before .pre in (omega arith, p .1, refl, p .0, moving-none _ (p .0) _ _ (p .2))
 
 task-at-requires : tie.Need-task-at-requires Inv-loop μ-loop
 task-at-requires c κs = search needs
@@ -58,7 +58,8 @@ add-by : tie.Need-add-by Inv-loop μ-loop
 add-by c =
     let k = c .before .before .before in
     let l = k .before .before .loop in
-    omega (arith, by-most _ (l .inv .3) _ (l .i) _ _ _ (l .inv .4) (omega arith) _ (k .task-at .ensures) _ _ (c .before .due-after .ensures) (c .work-at .ensures) (l .inv .1))
+    let most = by-most _ (l .inv .3) _ (l .i) _ _ _ (l .inv .4) (omega arith) _ (k .task-at .ensures) _ _ (c .before .due-after .ensures) in
+    omega (arith, most (c .work-at .ensures) (l .inv .1))
 
 mul-due : tie.Need-mul-due Inv-loop μ-loop
 mul-due c = omega (arith, known (c .before .before .before))

@@ -1,4 +1,3 @@
-use mathlib.Core.Path.{_≡_}
 use native.Mathlib.Omega.{arith}
 use Rattle.tables.specs.Told.{boardOf}
 use Rattle.checker.proofs.StretchLaws.{on-le}

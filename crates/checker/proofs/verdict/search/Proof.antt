@@ -1,23 +1,23 @@
-use mathlib.Core.Path.{_≡_, refl, sym, ap, _∙_}
-use mathlib.Core.Logic.{⊎-elim}
-use Prim.Native.Nat.{_+_, _-_, _%_, _≤_, _<_}
+use mathlib.Core.Path.{_≡_, refl, ap, _∙_}
+use mathlib.Core.Bool.{Bool}
+use mathlib.Core.List.{List}
+use Prim.Native.Nat.{ℕ, _+_, _-_, _%_, _≤_, _<_}
 use native.Mathlib.Omega.{arith}
 use native.Mathlib.Nat.{mod-lt}
 use borrow.Author.Needs.{needs}
-use Rattle.scope.specs.Limits.{mostFrame, mostTasks, mostOfTask, mostLength}
+use Rattle.scope.specs.Limits.{mostFrame, mostNumber}
 use Rattle.scope.specs.Ticks.{Periodic}
 use Rattle.scope.specs.Windows.{suppliedBy}
-use Rattle.scope.specs.Tasks.{tasksOf, demand as demandBy}
+use Rattle.scope.specs.Tasks.{Task, tasksOf}
 use Rattle.scope.specs.Answers.{Answer.given}
 use Rattle.theory.specs.Answers.{LegalTable, table-legal}
 use Rattle.theory.specs.Rows.{table-row}
 use Rattle.tables.specs.declared.answer.Verdict.the-variants.{Meets}
 use Rattle.tables.specs.Told.{boardOf, toldVerdict}
-use Rattle.checker.specs.Rises.{Risen}
 use Rattle.checker.specs.Stretches.{Spans}
 use Rattle.checker.proofs.DemandLaws.{demand-most}
 use Rattle.checker.proofs.StretchLaws.{spans-slides, spans-on}
-use Rattle.checker.proofs.VerdictLaws.{Reached, Asked, asked, reached-next, reached-first, search-meets, Above, above-next}
+use Rattle.checker.proofs.VerdictLaws.{Reached, Judged, judged, next-later, reached-next, reached-first, search-meets, Above, above-next}
 use Rattle.checker.proofs.VerdictLaws.{not-all-above, search-misses}
 use Rattle.checker.proofs.verdict.search.Statement.{statement}
 use Rattle.checker.proofs.verdict.search.Tie as tie
@@ -28,7 +28,7 @@ use Rattle.checker.proofs.rise.first_due.Reads as first-due-reads
 use Rattle.checker.proofs.rise.rise_at.Reads as rise-at-reads
 use Rattle.checker.proofs.stretch.first_ticks.Reads as first-ticks-reads
 use Rattle.checker.proofs.stretch.slid.Reads as slid-reads
-use Rattle.checker.proofs.verdict.carried.Reads as carried-reads
+use Rattle.checker.proofs.verdict.known_or_least.Reads as known-or-least-reads
 
 abbrev Inv-loop : tie.InvT-loop
 Inv-loop board windows tasks cycle frame found₀ due demand supply length risen rest least stretch₀ start₀ found stretch start =
@@ -67,40 +67,65 @@ slice-aggregate-rise-at-2 c = search needs
 
 rise-at-requires-2 : tie.Need-rise-at-requires-2 Inv-loop μ-loop Inv-search μ-search
 rise-at-requires-2 c κs =
-    let s = c .before .before .search in
-    (c .before .before .before .before .before .before .before .before .before .before .before .pre .1, omega (arith, c .before .before .before .before .before .before .before .before .before .before .before .pre .2), s .inv .1 .dues)
+    let s = c .before .before in
+    let e = s .before .before .before .before .before .before .before .before .before in
+    (e .pre .1, omega (arith, e .pre .2), s .search .inv .1 .dues)
 
 -- the demand of the length, which is small
 add-demand : tie.Need-add-demand Inv-loop μ-loop Inv-search μ-search
 add-demand c =
-    let e = c .before .before .before .before .before .before .before .before .before .before .before .before .before .before in
-    let s = c .before .before .before .before .before .search in
-    omega (arith, s .inv .1 .demanded, c .before .before .rise-at2 .ensures .by, demand-most (e .args .tasks .now) (s .length) (e .pre .1) (omega (arith, e .pre .2)))
+    let s = c .before .before .before .before .before in
+    let e = s .before .before .before .before .before .before .before .before .before in
+    let small = demand-most (e .args .tasks .now) (s .search .length) (e .pre .1) (omega (arith, e .pre .2)) in
+    omega (arith, s .search .inv .1 .demanded, c .before .before .rise-at2 .ensures .by, small)
 
-carried-requires : tie.Need-carried-requires Inv-loop μ-loop Inv-search μ-search
-carried-requires c κs = (c .before .before .before .before .before .before .before .before .before .before .before .before .before .before .pre .0, omega (arith, c .before .before .before .before .before .before .before .before .before .before .before .before .before .before .pre .2))
+known-or-least-requires : tie.Need-known-or-least-requires Inv-loop μ-loop Inv-search μ-search
+known-or-least-requires c κs =
+    let s = c .before .before .before .before .before in
+    let e = s .before .before .before .before .before .before .before .before .before in
+    (e .pre .0, omega (arith, e .pre .2))
+
+-- a length once it has asked, the turn of the search, and where that began
+abbrev Asks : Type 0
+Asks = tie.After-known-or-least Inv-loop μ-loop Inv-search μ-search
+
+abbrev turn : Asks → tie.In-search Inv-loop μ-loop Inv-search μ-search
+turn c = c .before .before .before .before .before
+
+abbrev began : Asks → tie.Start Inv-loop μ-loop Inv-search μ-search
+began c = turn c .before .before .before .before .before .before .before .before .before .before
+
+abbrev σ : Asks → ℕ → Bool
+σ c = suppliedBy (boardOf (began c .args .board)) (began c .args .windows .now)
+
+abbrev P : Asks → ℕ
+P c = began c .args .board .frame
+
+abbrev ts : Asks → List Task
+ts c = tasksOf (began c .args .tasks .now)
 
 -- what is known of the table
-legal-at : (c : tie.After-carried Inv-loop μ-loop Inv-search μ-search) → let a = c .before .before .before .before .before .before .before .before .before .before .before .before .before .before .before .args in LegalTable (boardOf (a .board)) (a .windows .now)
-legal-at c = table-legal _ _ (c .before .before .before .before .before .before .before .before .before .before .before .before .before .before .before .pre .0)
+legal-at : (c : Asks) → LegalTable (boardOf (began c .args .board)) (began c .args .windows .now)
+legal-at c = table-legal _ _ (began c .pre .0)
 
-per-at : (c : tie.After-carried Inv-loop μ-loop Inv-search μ-search) → let a = c .before .before .before .before .before .before .before .before .before .before .before .before .before .before .before .args in
-    Periodic (suppliedBy (boardOf (a .board)) (a .windows .now)) (a .board .frame)
+per-at : (c : Asks) → Periodic (σ c) (P c)
 per-at c = table-row _ _ (legal-at c) .repeats
 
--- and of the length
-asked-at : (c : tie.After-carried Inv-loop μ-loop Inv-search μ-search) →
-    let a = c .before .before .before .before .before .before .before .before .before .before .before .before .before .before .before .args in
-    let s = c .before .before .before .before .before .before .search in
+-- of the length
+judged-at : (c : Asks) →
+    let s = turn c .before .search in
     let r = c .before .before .before .rise-at2 in
-    Asked (suppliedBy (boardOf (a .board)) (a .windows .now)) (a .board .frame) (tasksOf (a .tasks .now))
-    (s .length) (s .demand + r .result .by) (c .carried .result) (r .last .1 .0) (r .result)
-asked-at c = asked _ _ (per-at c) _ _ _ _ _ _ _ _ (c .before .before .before .before .before .before .search .inv .1) (c .before .before .before .rise-at2 .ensures) (c .carried .ensures)
+    Judged (σ c) (P c) (ts c) (s .length) (s .demand + r .result .by) (c .known-or-least .result) (r .last .1 .0) (r .result)
+judged-at c =
+    judged _ _ (per-at c) _ _ _ _ _ _ _ _ (turn c .before .search .inv .1) (c .before .before .before .rise-at2 .ensures) (c .known-or-least .ensures)
 
--- the rest of the length is less than a frame
-rest-less : (c : tie.After-carried Inv-loop μ-loop Inv-search μ-search) →
-    (c .before .before .before .before .before .before .search .length % c .before .before .before .before .before .before .before .before .before .before .before .before .before .before .before .args .board .frame < c .before .before .before .before .before .before .before .before .before .before .before .before .before .before .before .args .board .frame) × (c .before .before .before .before .before .before .before .before .before .before .before .before .before .before .before .args .board .frame ≤ mostFrame)
-rest-less c = (mod-lt (c .before .before .before .before .before .before .search .length) (legal-at c .frame), legal-at c .frame-most)
+later-at : (c : Asks) → turn c .before .search .length < c .before .before .before .rise-at2 .result .next
+later-at c =
+    next-later _ _ (per-at c) _ (began c .pre .1 .rules) _ _ _ (omega (arith, turn c .search-test .taken, began c .pre .2)) (judged-at c .risen)
+
+-- and of its rest, which is less than a frame
+rest-less : (c : Asks) → (turn c .before .search .length % P c < P c) × (P c ≤ mostFrame)
+rest-less c = (mod-lt (turn c .before .search .length) (legal-at c .frame), legal-at c .frame-most)
 
 cast-if1 : tie.Need-cast-if1 Inv-loop μ-loop Inv-search μ-search
 cast-if1 c = search needs
@@ -109,17 +134,23 @@ rem-rest : tie.Need-rem-rest Inv-loop μ-loop Inv-search μ-search
 rem-rest c = legal-at (c .before) .frame
 
 least-of-requires : tie.Need-least-of-requires Inv-loop μ-loop Inv-search μ-search
-least-of-requires c κs = (c .before .before .before .before .before .before .before .before .before .before .before .before .before .before .before .before .pre .0, omega (arith, rest-less (c .before)))
+least-of-requires c κs = (began (c .before) .pre .0, omega (arith, rest-less (c .before)))
 
 first-ticks-requires : tie.Need-first-ticks-requires Inv-loop μ-loop Inv-search μ-search
 first-ticks-requires c κs = (legal-at (c .before .before), omega (arith, rest-less (c .before .before)))
 
 loop-holds : tie.Need-loop-holds Inv-loop μ-loop Inv-search μ-search
-loop-holds c = (omega arith, c .before .before .before .before .before .before .before .before .before .search .inv .0, c .first-ticks .ensures, λ r l. absurd (omega arith))
+loop-holds c = (
+  omega arith,
+  turn (c .before .before .before) .before .search .inv .0,
+  c .first-ticks .ensures,
+  λ r l. absurd (omega arith),
+)
 
 slid-requires : tie.Need-slid-requires Inv-loop μ-loop Inv-search μ-search
 slid-requires c κs =
-    let d = c .before .before .before .before .before .before .before in spans-slides _ _ (legal-at d) _ _ _ (c .before .before .before .loop .inv .2) (omega (arith, rest-less d))
+    let d = c .before .before .before .before .before .before .before in
+    spans-slides _ _ (legal-at d) _ _ _ (c .before .before .before .loop .inv .2) (omega (arith, rest-less d))
 
 add-start : tie.Need-add-start Inv-loop μ-loop Inv-search μ-search
 add-start c = omega (arith, c .before .before .before .loop-test .taken, rest-less (c .before .before .before .before .before .before .before .before))
@@ -130,29 +161,34 @@ loop-less c = omega (arith, c .before .before .before .loop-test .taken)
 loop-again : tie.Need-loop-again Inv-loop μ-loop Inv-search μ-search
 loop-again c =
     let d = c .before .before .before .before .before .before .before .before in
-    let l = c .before .before .before .before .loop in
-    let n = c .before in (
+    let l = c .before .before .before .before .loop in (
       omega (arith, c .before .before .before .loop-test .taken),
       l .inv .1,
       spans-on _ _ (legal-at d) _ _ _ (l .inv .2) _ (c .slid .ensures),
-      above-next _ _ (per-at d) (tasksOf (d .before .before .before .before .before .before .before .before .before .before .before .before .before .before .before .args .tasks .now)) _ _ _ _ (c .before .before .before .before .before .before .least-of .ensures) (l .inv .2 .held) (n .if2 .left) (l .inv .3),
+      above-next _ _ (per-at d) (ts d) _ _ _ _ (c .before .before .before .before .before .before .least-of .ensures) (l .inv .2 .held)
+          (λ e. omega (arith, e, c .before .if2 .left)) (l .inv .3),
     )
 
+-- some start holds the least supply, so the loop over starts does not run out
+found-one : (c : tie.After-loop Inv-loop μ-loop Inv-search μ-search) → ⊥
+found-one c = let d = c .before .before .before .before .before in not-all-above _ _ (per-at d) (ts d) _ _ (c .loop-test .left) (c .before .loop .inv .3)
+
 search-less : tie.Need-search-less Inv-loop μ-loop Inv-search μ-search
-search-less c =
-    let d = c .before .before .before .before .before in absurd (not-all-above _ _ (per-at d) (tasksOf (d .before .before .before .before .before .before .before .before .before .before .before .before .before .before .before .args .tasks .now)) _ _ (c .loop-test .left) (c .before .loop .inv .3))
+search-less c = absurd (found-one c)
 
 search-again : tie.Need-search-again Inv-loop μ-loop Inv-search μ-search
-search-again c =
-    let d = c .before .before .before .before .before in absurd (not-all-above _ _ (per-at d) (tasksOf (d .before .before .before .before .before .before .before .before .before .before .before .before .before .before .before .args .tasks .now)) _ _ (c .loop-test .left) (c .before .loop .inv .3))
+search-again c = absurd (found-one c)
 
 search-less-2 : tie.Need-search-less-2 Inv-loop μ-loop Inv-search μ-search
-search-less-2 c = omega (arith, asked-at (c .before) .risen .later, c .before .before .before .before .before .before .search-test .taken)
+search-less-2 c =
+    let d = c .before in
+    omega (arith, later-at d, turn d .search-test .taken)
 
 search-again-2 : tie.Need-search-again-2 Inv-loop μ-loop Inv-search μ-search
 search-again-2 c =
     let d = c .before in
-    (c .before .before .before .before .before .before .before .search .inv .0, reached-next _ _ (per-at d) _ (d .before .before .before .before .before .before .before .before .before .before .before .before .before .before .before .pre .1 .rules) _ _ _ _ _ (asked-at d) (c .if1 .left))
+    let short : turn d .before .search .length < mostNumber = omega (arith, turn d .search-test .taken, began d .pre .2) in
+    (turn d .before .search .inv .0, reached-next _ _ (per-at d) _ (began d .pre .1 .rules) _ _ _ _ _ short (judged-at d) (c .if1 .left))
 
 returns : tie.Need-returns Inv-loop μ-loop Inv-search μ-search
 returns c =
@@ -166,8 +202,8 @@ returns-2 c =
     let d = c .before .before .before .before .before .before .before in
     let l = c .before .before .before .loop in
     ap given
-    (search-misses _ _ (per-at d) _ _ _ _ _ _ _ _ _ _ (d .before .before .before .before .before .search-test .taken) (asked-at d) (c .before .before .before .before .before .before .if1 .taken)
-    (c .before .before .before .before .before .least-of .ensures) (l .inv .2 .held) (c .if2 .taken) (l .inv .3))
+    (search-misses _ _ (per-at d) _ _ _ _ _ _ _ _ _ _ (turn d .search-test .taken) (judged-at d) (c .before .before .before .before .before .before .if1 .taken)
+    (c .before .before .before .before .before .least-of .ensures) (l .inv .2 .held) (omega (arith, c .if2 .taken)) (l .inv .3))
 
 pub search-spec : {M : Type 1} → statement M
 search-spec =
@@ -185,7 +221,7 @@ search-spec =
     slice-aggregate-rise-at-2
     rise-at-requires-2
     add-demand
-    carried-requires
+    known-or-least-requires
     cast-if1
     rem-rest
     least-of-requires

@@ -1,4 +1,4 @@
-use mathlib.Core.Path.{_≡_, sym, ap, ap₂, _∙_}
+use mathlib.Core.Path.{_≡_, sym, ap, _∙_}
 use mathlib.Core.List.{List}
 use Prim.Native.Nat.{ℕ, _/_, _≤_, _<_}
 use lib.ListN.{length}
@@ -113,7 +113,8 @@ returns-2 c =
     let d = c .before .before .before .before .before in
     let a = d .before .before .before .before .before .before .before .before .before .before .before .args in
     let e = counted d in
-    let h : length (a .out .now) < length (criticalOf (boardOf (a .board)) (a .windows .now)) = omega (arith, e, c .before .before .before .before .if1 .taken) in
+    let h : length (a .out .now) < length (criticalOf (boardOf (a .board)) (a .windows .now)) =
+    omega (arith, e, c .before .before .before .before .if1 .taken) in
     let f = critical-short (boardOf (a .board)) (a .windows .now) (length (a .out .now)) (fine-at (d .before .before .before .before .before .before)) h in
     let x = c .before .before .refuse2 .ensures in
     (x .0 ∙ ap (refused 8) e ∙ refused-by _ _ f, x .1 ∙ kept-by _ _ _ f)
@@ -127,7 +128,8 @@ returns-3 c =
     let d = c .before .before .before .before .before .before in
     let a = d .before .before .before .before .before .before .before .before .before .before .before .args in
     let e = counted d in
-    let h : length (criticalOf (boardOf (a .board)) (a .windows .now)) ≤ length (a .out .now) = omega (arith, e, c .before .before .before .before .before .if1 .left) in
+    let h : length (criticalOf (boardOf (a .board)) (a .windows .now)) ≤ length (a .out .now) =
+    omega (arith, e, c .before .before .before .before .before .if1 .left) in
     let f = critical-fine (boardOf (a .board)) (a .windows .now) (length (a .out .now)) (fine-at (d .before .before .before .before .before .before)) h in (
       ap (λ (n : ℕ). given (n / 2)) e ∙ given-by _ _ f,
       c .before .before .write-edges .ensures

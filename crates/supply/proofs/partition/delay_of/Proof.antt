@@ -1,4 +1,4 @@
-use mathlib.Core.Path.{_≡_, sym, ap, _∙_}
+use mathlib.Core.Path.{_≡_, ap, _∙_}
 use mathlib.Core.Logic.{⊎-elim}
 use Prim.Native.Nat.{_+_, _-_, _≤_}
 use Rattle.scope.specs.Numbers.{greatest}
@@ -7,7 +7,7 @@ use Rattle.scope.specs.Partition.{lag, delay}
 use Rattle.tables.specs.Told.{boardOf}
 use native.Mathlib.Omega.{arith}
 use borrow.Author.Needs.{needs}
-use Rattle.supply.proofs.PartitionLaws.{greatest-none, greatest-more}
+use Rattle.supply.proofs.PartitionLaws.{lag-none, greatest-none, greatest-more}
 use Rattle.supply.proofs.partition.delay_of.Statement.{statement}
 use Rattle.supply.proofs.partition.delay_of.Tie as tie
 use Rattle.supply.proofs.partition.delay_of.Reads as reads
@@ -22,7 +22,10 @@ abbrev μ-loop : tie.MeasureT-loop
 μ-loop board windows whole frame most₀ t₀ most t = frame + 1 - t
 
 loop-holds : tie.Need-loop-holds Inv-loop μ-loop
-loop-holds c = (omega arith, sym (greatest-none _))
+loop-holds c =
+    let a = c .before .args in
+    let f = lag (suppliedBy (boardOf (a .board)) (a .windows .now)) (a .board .frame) in
+    (omega arith, omega (arith, greatest-more f 0, greatest-none f, lag-none (suppliedBy (boardOf (a .board)) (a .windows .now)) (a .board .frame)))
 
 add-loop : tie.Need-add-loop Inv-loop μ-loop
 add-loop c = search needs

@@ -1,5 +1,4 @@
 use mathlib.Core.Path.{_≡_, refl, sym, ap, _∙_}
-use mathlib.Core.Bool.{Bool}
 use Prim.Native.Nat.{_+_, _-_, _≤_}
 use native.Mathlib.Omega.{arith}
 use lib.ListN.{length, length-set}
@@ -57,7 +56,8 @@ loop-less c = search needs
 -- what is known of the next length
 next-least : (c : tie.After-mark Inv-loop μ-loop) →
     let a = c .before .before .before .before .before .before .before .args in
-    c .before .before .least-at-ends .result .supply ≡ leastSupply (suppliedBy (boardOf (a .board)) (a .windows .now)) (a .board .frame) (c .before .before .before .before .loop .k + 1)
+    let k = c .before .before .before .before .loop .k in
+    c .before .before .least-at-ends .result .supply ≡ leastSupply (suppliedBy (boardOf (a .board)) (a .windows .now)) (a .board .frame) (k + 1)
 next-least c = c .before .before .least-at-ends .ensures .0
 
 loop-again : tie.Need-loop-again Inv-loop μ-loop

@@ -3,8 +3,8 @@ use native.Mathlib.Omega.{arith}
 use Prim.Native.Nat.{_+_, _-_, _*_, _≤_, _<_}
 use Rattle.scope.specs.Limits.{mostFrame}
 use Rattle.tables.specs.Told.{boardOf}
-use Rattle.supply.specs.Places.{closes, following, Behind}
-use Rattle.supply.proofs.PlaceLaws.{small, behind-next}
+use Rattle.supply.specs.Positions.{closes, following, Behind}
+use Rattle.supply.proofs.PositionLaws.{small, behind-next}
 use Rattle.supply.proofs.row.moved.Statement.{statement}
 use Rattle.supply.proofs.row.moved.Tie as tie
 use Rattle.supply.proofs.row.moved.Reads as reads

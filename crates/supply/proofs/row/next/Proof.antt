@@ -6,8 +6,8 @@ use borrow.Author.Needs.{needs}
 use Rattle.scope.specs.Windows.{Board, Window}
 use Rattle.theory.specs.Rows.{startOf, endOf}
 use Rattle.tables.specs.Told.{boardOf, windowOf}
-use Rattle.supply.specs.declared.row.Place.{Place}
-use Rattle.supply.proofs.PlaceLaws.{Small, small, next-here, next-round}
+use Rattle.supply.specs.declared.row.Position.{Position}
+use Rattle.supply.proofs.PositionLaws.{Small, small, next-here, next-round}
 use Rattle.supply.proofs.row.next.Statement.{statement}
 use Rattle.supply.proofs.row.next.Tie as tie
 use Rattle.supply.proofs.row.next.Reads as reads
@@ -15,15 +15,15 @@ use Rattle.supply.proofs.row.next.Lts as lts
 use Rattle.tables.proofs.window.window_at.Reads as window-at-reads
 
 -- the window that is read, and how small the numbers are
-record Known (b : Board) (ws : List ℕ) (p : Place) (w : Window) : Type 0 where
+record Known (b : Board) (ws : List ℕ) (p : Position) (w : Window) : Type 0 where
   pub numbers : Small b ws p
   pub start : w .start ≡ startOf ws (p .index)
   pub end : w .end ≡ endOf ws (p .index)
 
 known : (c : tie.After-window-at) → let a = c .before .before .args in
-    Known (boardOf (a .board)) (a .windows .now) (a .place) (windowOf (c .window-at .result))
+    Known (boardOf (a .board)) (a .windows .now) (a .position) (windowOf (c .window-at .result))
 known c = record {
-  numbers = small _ _ (c .before .before .args .place) (c .before .before .pre);
+  numbers = small _ _ (c .before .before .args .position) (c .before .before .pre);
   start = ap (λ (w : Window). w .start) (c .window-at .ensures);
   end = ap (λ (w : Window). w .end) (c .window-at .ensures);
 }
@@ -46,7 +46,7 @@ add-t15 c = search needs
 returns : tie.Need-returns
 returns c =
     let a = c .before .before .before .before .args in
-    next-here _ _ (a .place) _ (c .before .before .window-at .ensures) (c .if1 .taken)
+    next-here _ _ (a .position) _ (c .before .before .window-at .ensures) (c .if1 .taken)
 
 add-t10 : tie.Need-add-t10
 add-t10 c = omega (arith, known (c .before .before))
@@ -54,7 +54,7 @@ add-t10 c = omega (arith, known (c .before .before))
 returns-2 : tie.Need-returns-2
 returns-2 c =
     let a = c .before .before .before .before .args in
-    next-round _ _ (a .place) _ (c .before .before .window-at .ensures) (c .if1 .left)
+    next-round _ _ (a .position) _ (c .before .before .window-at .ensures) (c .if1 .left)
 
 pub next-spec : {M : Type 1} → statement M
 next-spec =

@@ -1,8 +1,7 @@
 use mathlib.Core.Path.{_≡_, sym, ap₂, _∙_}
 use native.Mathlib.Omega.{arith}
 use native.Mathlib.Nat.{mod-lt}
-use Prim.Native.Nat.{ℕ, _+_, _*_, _/_, _%_, _≤_, _<_}
-use borrow.Author.Needs.{needs}
+use Prim.Native.Nat.{ℕ, _+_, _*_, _/_, _≤_}
 use Rattle.scope.specs.Ticks.{leastSupply}
 use Rattle.scope.specs.Windows.{suppliedBy}
 use Rattle.theory.specs.Rows.{table-row}

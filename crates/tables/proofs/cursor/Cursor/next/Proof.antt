@@ -1,6 +1,5 @@
 use mathlib.Core.Path.{_≡_, sym, ap, _∙_}
 use native.Mathlib.Omega.{arith}
-use Prim.Native.Nat.{_+_}
 use borrow.Author.Needs.{needs}
 use Rattle.scope.specs.Windows.{Window, windowsOf, windowAt}
 use Rattle.tables.proofs.CursorLaws.{is-there, after-round, after-end, after-same}
