@@ -39,7 +39,7 @@ served-size : (i : ℕ) (p : List ℕ) → length (servedAt i p) ≡ length p
 served-size i p = elim (decLt i mostTasks) [ yes l ↦ served-length p i l | no l ↦ ap length (served-idle p i (omega arith)) ]
 
 -- what is known once the tick is given out: the state and the places once the jobs are released, the state once the backlog is counted, whether
--- the tick is supplied and the task that it goes to, the job that ended, the places then, and the cursor of the next tick
+-- the tick is supplied and the cursor of the next one, the task that it goes to, the job that ended, and the places then
 pub record GivenOut (σ : ℕ → Bool) (onward : Cursor → Cursor) (before : ℕ → ℕ → Bool)
     (ts : List Task) (js : List Job) (s : RunState) (p c : List ℕ) : Type 0 where
   pub ready : Ready σ before ts js s p c
@@ -47,17 +47,17 @@ pub record GivenOut (σ : ℕ → Bool) (onward : Cursor → Cursor) (before : �
   pub fedPlaces : List ℕ
   pub counted : RunState
   pub on : Bool
+  pub cursor : Cursor
   pub task : ℕ
   pub done : ℕ
   pub places : List ℕ
-  pub cursor : Cursor
   pub released : whole fed fedPlaces ≡ releaseAt ts js (whole s p)
   pub backlog : counted ≡ countedOf fed
   pub supplied : on ≡ σ (s .instant)
+  pub moves : cursor ≡ onward (s .cursor)
   pub goes : task ≡ goesToOf on (fed .pending) fedPlaces
   pub ended : done ≡ endedAt task fedPlaces
   pub served : places ≡ servedAt task fedPlaces
-  pub moves : cursor ≡ onward (s .cursor)
 
 module _ (σ : ℕ → Bool) (before : ℕ → ℕ → Bool) (ts : List Task) (js : List Job) (s : RunState) (p c : List ℕ) where
   -- what is released keeps its relation, so that the places are as many, and the instant is the same
@@ -95,7 +95,7 @@ module _ (σ : ℕ → Bool) (before : ℕ → ℕ → Bool) (ts : List Task) (j
       moved =
           let ef : x .fed ≡ (releaseAt ts js (whole s p)) .state = ap (λ (y : Whole). y .state) (x .released) in
           let eq : x .fedPlaces ≡ (releaseAt ts js (whole s p)) .places = ap (λ (y : Whole). y .places) (x .released) in
-          rw (ew, x .moves, x .served, x .ended, x .goes, x .supplied, x .backlog, ef, eq)
+          rw (ew, x .served, x .ended, x .goes, x .moves, x .supplied, x .backlog, ef, eq)
 
       done-is : w .done ≡ (tickOf σ onward ts js (whole s p)) .state .done
       done-is = sym (tested-keeps (x .places) w .2) ∙ ap (λ (y : Whole). y .state .done) moved

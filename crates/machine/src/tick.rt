@@ -78,6 +78,7 @@ fn note(jobs: &[u32], k: u32, j: u32, counts: &mut [u32])
 }
 
 // The whole tick, on the state by value. Whether it is supplied, the state's cursor tells: one window is looked at, not the whole table.
+// Where the cursor goes on is asked for at once, before a buffer is written, so that the window is read once.
 fn step(
     s: RunState,
     board: Board,
@@ -98,9 +99,9 @@ fn step(
     let counted = fed.counted();
     let cursor = s.cursor;
     let on = cursor.is_on(board, windows);
+    let next = cursor.next(board, windows);
     let i = goes_to(on, Pending { bits: fed.pending }, places);
     let done = serve(places, i);
-    let next = cursor.next(board, windows);
     let worked = counted.worked(i, done, next);
     note(jobs, worked.instant, worked.done, counts);
     worked.tested(places)

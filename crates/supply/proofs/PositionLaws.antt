@@ -11,7 +11,8 @@ use Rattle.scope.specs.Ticks.{supply}
 use Rattle.scope.specs.Windows.{Board, Window, windowsOf, windowAt, suppliedBy}
 use Rattle.theory.specs.Answers.{LegalTable}
 use Rattle.theory.specs.Ticks.{supply-up}
-use Rattle.theory.specs.Rows.{startOf, endOf, table-row, position-first, position-in, position-before, position-past, position-most, position-next, position-round}
+use Rattle.theory.specs.Rows.{startOf, endOf, table-row, position-first, position-in, position-before}
+use Rattle.theory.specs.Rows.{position-past, position-most, position-next, position-round}
 use Rattle.supply.specs.declared.row.Position.{Position}
 use Rattle.supply.specs.Positions.{first, opens, closes, following, Stands, Behind}
 

@@ -12,7 +12,8 @@ use Rattle.scope.specs.Windows.{Board, Window, windowsOf, windowAt, suppliedBy}
 use Rattle.theory.specs.Answers.{LegalTable}
 use Rattle.theory.specs.Ticks.{supply-le, least-over-all-starts, least-frames}
 use Rattle.theory.specs.Rows as rows
-use Rattle.theory.specs.Rows.{startOf, endOf, table-row, supply-between, ends-enough, position-first, position-end, position-next, position-round, position-whole}
+use Rattle.theory.specs.Rows.{startOf, endOf, table-row, supply-between, ends-enough, position-first}
+use Rattle.theory.specs.Rows.{position-end, position-next, position-round, position-whole}
 use Rattle.supply.specs.declared.row.Position.{Position}
 use Rattle.supply.specs.Positions.{first, Behind}
 use Rattle.supply.proofs.PositionLaws.{behind-on, behind-first}

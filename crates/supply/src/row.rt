@@ -1,10 +1,12 @@
 // The endless row of windows, frame after frame, and how many ticks are supplied before a tick of it.
 use tables::board::Board;
-use tables::window::window_at;
+use tables::window::Window;
 ghost use mathlib.Core.Path.{_≡_};
 ghost use Prim.Native.Nat.{_+_, _-_, _*_, _/_, _<_, _≤_};
+ghost use lib.ListN.{length};
 ghost use Rattle.scope.specs.Limits.{mostFrame};
-ghost use Rattle.tables.specs.Told.{boardOf};
+ghost use Rattle.scope.specs.Windows.{windowsOf, windowAt};
+ghost use Rattle.tables.specs.Told.{boardOf, windowOf};
 ghost use Rattle.supply.specs.Positions.{first, opens, closes, following, Stands, Behind};
 
 // Window `index` of the frame that begins at tick `base`, with the supplied ticks before that window.
@@ -26,13 +28,23 @@ impl Position {
     }
 }
 
+// Window i of a list that has it: unlike `window_at` it tests nothing, for every step of a position reads one.
+fn window_of(windows: &[u32], i: usize) -> Window
+    requires { ⌜ i < length (now windows) / 2 ⌝ }
+    ensures { λ r. ⌜ windowOf r ≡ windowAt (windowsOf (now (windows .entry))) i ⌝ }
+{
+    let start = windows[2 * i];
+    let end = windows[2 * i + 1];
+    Window { start, end }
+}
+
 // The tick at which the window of a position ends.
 fn end_at(windows: &[u32], position: Position) -> u32
-    requires { ⌜ closes (now windows) position ≤ 4 * mostFrame ⌝ }
+    requires { ⌜ (position .index < length (now windows) / 2) × (closes (now windows) position ≤ 4 * mostFrame) ⌝ }
     ensures { λ r. ⌜ r ≡ closes (now (windows .entry)) position ⌝ }
 {
     let base = position.base;
-    let window = window_at(windows, position.index);
+    let window = window_of(windows, position.index);
     base + window.end
 }
 
@@ -45,7 +57,7 @@ fn next(board: Board, windows: &[u32], position: Position) -> Position
     let base = position.base;
     let index = position.index;
     let earlier = position.before;
-    let window = window_at(windows, index);
+    let window = window_of(windows, index);
     let before = earlier + (window.end - window.start);
     if index + 1 < windows.len() / 2 {
         return Position {
@@ -75,12 +87,12 @@ pub(crate) fn moved(board: Board, windows: &[u32], position: Position, x: u32) -
 
 // The supplied ticks before tick x, from the position of the first window that ends after it.
 pub(crate) fn upto(windows: &[u32], position: Position, x: u32) -> u32
-    requires { ⌜ (opens (now windows) position ≤ 4 * mostFrame) × (position .before + x ≤ 8 * mostFrame) ⌝ }
+    requires { ⌜ (position .index < length (now windows) / 2) × (opens (now windows) position ≤ 4 * mostFrame) × (position .before + x ≤ 8 * mostFrame) ⌝ }
     ensures { λ r. ⌜ r ≡ position .before + (x - opens (now (windows .entry)) position) ⌝ }
 {
     let base = position.base;
     let before = position.before;
-    let window = window_at(windows, position.index);
+    let window = window_of(windows, position.index);
     let start = base + window.start;
     if x <= start {
         return before;

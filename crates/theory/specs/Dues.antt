@@ -170,6 +170,10 @@ miss-at-deadline b ws ts t s d p e =
     let ok = facts .group .rules in
     let m = exact-miss b ws ts (miss t s d p) e t s d p .0 refl in
     let per = supplied-periodic b (windowsOf ws) (facts .table .frame) in
+    let over : leastSupply (suppliedBy b ws) (b .frame) t < demand (tasksOf ts) t = omega (arith, m .demanded, m .supplied, m .above) in
     let some-length : 0 < t =
-    elim (decLt 0 t) [ yes l ↦ l | no l ↦ let z : t ≡ 0 = omega arith in absurd (omega (arith, m .demanded, m .above, ap (demand (tasksOf ts)) z, demand-none (tasksOf ts) ok)) ] in
-    violates-at-deadline (suppliedBy b ws) (b .frame) per (tasksOf ts) ok t (m .leastLength (t - 1) (omega arith)) (omega (arith, m .demanded, m .supplied, m .above))
+    elim (decLt 0 t) [
+      | yes l ↦ l
+      | no l ↦ let z : t ≡ 0 = omega arith in absurd (omega (arith, over, ap (demand (tasksOf ts)) z, demand-none (tasksOf ts) ok))
+    ] in
+    violates-at-deadline (suppliedBy b ws) (b .frame) per (tasksOf ts) ok t (m .leastLength (t - 1) (omega arith)) over

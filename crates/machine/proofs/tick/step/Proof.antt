@@ -32,29 +32,29 @@ counted-requires c κs = search needs
 is-on-requires : tie.Need-is-on-requires
 is-on-requires c κs = search needs
 
+next-requires : tie.Need-next-requires
+next-requires c κs = search needs
+
 goes-to-requires : tie.Need-goes-to-requires
 goes-to-requires c κs =
-    let r = c .before .before .before .before .before .before in
+    let r = c .before .before .before .before .before .before .before in
     still-all _ _ _ _ _ _ _ (r .before .before .before .before .before .before .before .pre .1) _ _ (r .release .ensures) .0
 
 serve-requires : tie.Need-serve-requires
 serve-requires c κs =
-    let r = c .before .before .before .before .before .before .before .before in
+    let r = c .before .before .before .before .before .before .before .before .before in
     still-all _ _ _ _ _ _ _ (r .before .before .before .before .before .before .before .pre .1) _ _ (r .release .ensures) .0
 
-next-requires : tie.Need-next-requires
-next-requires c κs = search needs
-
 -- what is known once the tick is given out
-abbrev given-out : (c : tie.After-next) →
+abbrev given-out : (c : tie.After-serve) →
     let a = c .before .before .before .before .before .before .before .before .before .before
-    .before .before .before .before .before .before .before .before .before .args in
+    .before .before .before .before .before .before .before .args in
     GivenOut (suppliedBy (boardOf (a .board)) (a .windows .now)) (after (boardOf (a .board)) (a .windows .now))
     (rule (tasksOf (a .tasks .now)) (jobsOf (a .jobs .now))) (tasksOf (a .tasks .now)) (jobsOf (a .jobs .now)) (a .s) (a .places .now) (a .counts .now)
 given-out c =
-    let e = c .before .before .before in
-    let g = e .before .before in
-    let o = g .before .before in
+    let g = c .before .before in
+    let n = g .before .before in
+    let o = n .before in
     let k = o .before .before in
     let r = k .before .before .before in
     let s = r .before .before .before .before .before .before .before in
@@ -64,33 +64,33 @@ given-out c =
       fedPlaces = _;
       counted = _;
       on = _;
+      cursor = _;
       task = _;
       done = _;
       places = _;
-      cursor = _;
       released = r .release .ensures;
       backlog = k .counted .ensures;
       supplied = o .is-on .ensures ∙ on-at _ _ (s .pre .0 .table) _ _ (s .pre .0 .cursor);
+      moves = n .next .ensures;
       goes = g .goes-to .ensures;
-      ended = e .serve .ensures .0;
-      served = e .serve .ensures .1;
-      moves = c .next .ensures;
+      ended = c .serve .ensures .0;
+      served = c .serve .ensures .1;
     }
 
 worked-requires : tie.Need-worked-requires
-worked-requires c κs = can-work _ _ _ _ _ _ _ _ (given-out c)
+worked-requires c κs = can-work _ _ _ _ _ _ _ _ (given-out (c .before .before))
 
 note-requires : tie.Need-note-requires
 note-requires c κs =
-    let x = given-out (c .before .before) in
+    let x = given-out (c .before .before .before .before) in
     may-note _ _ _ _ _ _ _ _ x _ (c .before .worked .ensures) (chosen-follows _ _ (x .ready .tasks) (x .ready .jobs))
 
 tested-requires : tie.Need-tested-requires
-tested-requires c κs = all-served _ _ _ _ _ _ _ _ (given-out (c .before .before .before .before .before .before))
+tested-requires c κs = all-served _ _ _ _ _ _ _ _ (given-out (c .before .before .before .before .before .before .before .before))
 
 same-length : tie.Need-same-length
 same-length c =
-    let x = given-out (c .before .before .before .before .before .before .before) in
+    let x = given-out (c .before .before .before .before .before .before .before .before .before) in
     all-served _ _ _ _ _ _ _ _ x ∙ sym (x .ready .at .holds .size)
 
 same-length-2 : tie.Need-same-length-2
@@ -98,7 +98,7 @@ same-length-2 c = search needs
 
 returns : tie.Need-returns
 returns c =
-    step-is _ _ _ _ _ _ _ _ (given-out (c .before .before .before .before .before .before .before))
+    step-is _ _ _ _ _ _ _ _ (given-out (c .before .before .before .before .before .before .before .before .before))
     _ (c .before .before .before .before .before .before .worked .ensures) _ _ (c .tested .ensures) (c .before .before .before .before .note .ensures)
 
 pub step-spec : {M : Type 1} → statement M
@@ -108,9 +108,9 @@ step-spec =
     release-requires
     counted-requires
     is-on-requires
+    next-requires
     goes-to-requires
     serve-requires
-    next-requires
     worked-requires
     note-requires
     tested-requires

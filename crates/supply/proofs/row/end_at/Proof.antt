@@ -6,16 +6,16 @@ use Rattle.supply.proofs.row.end_at.Statement.{statement}
 use Rattle.supply.proofs.row.end_at.Tie as tie
 use Rattle.supply.proofs.row.end_at.Reads as reads
 use Rattle.supply.proofs.row.end_at.Lts as lts
-use Rattle.tables.proofs.window.window_at.Reads as window-at-reads
+use Rattle.supply.proofs.row.window_of.Reads as window-of-reads
 
-window-at-requires : tie.Need-window-at-requires
-window-at-requires c κs = search needs
+window-of-requires : tie.Need-window-of-requires
+window-of-requires c κs = search needs
 
 add-result : tie.Need-add-result
-add-result c = omega (arith, ap (λ (w : Window). w .end) (c .before .window-at .ensures))
+add-result c = omega (arith, ap (λ (w : Window). w .end) (c .before .window-of .ensures))
 
 returns : tie.Need-returns
-returns c = omega (arith, ap (λ (w : Window). w .end) (c .before .window-at .ensures))
+returns c = omega (arith, ap (λ (w : Window). w .end) (c .before .window-of .ensures))
 
 pub end-at-spec : {M : Type 1} → statement M
-end-at-spec = tie.close (tie.spec window-at-requires add-result returns)
+end-at-spec = tie.close (tie.spec window-of-requires add-result returns)

@@ -12,7 +12,7 @@ use Rattle.supply.proofs.row.next.Statement.{statement}
 use Rattle.supply.proofs.row.next.Tie as tie
 use Rattle.supply.proofs.row.next.Reads as reads
 use Rattle.supply.proofs.row.next.Lts as lts
-use Rattle.tables.proofs.window.window_at.Reads as window-at-reads
+use Rattle.supply.proofs.row.window_of.Reads as window-of-reads
 
 -- the window that is read, and how small the numbers are
 record Known (b : Board) (ws : List ℕ) (p : Position) (w : Window) : Type 0 where
@@ -20,16 +20,16 @@ record Known (b : Board) (ws : List ℕ) (p : Position) (w : Window) : Type 0 wh
   pub start : w .start ≡ startOf ws (p .index)
   pub end : w .end ≡ endOf ws (p .index)
 
-known : (c : tie.After-window-at) → let a = c .before .before .args in
-    Known (boardOf (a .board)) (a .windows .now) (a .position) (windowOf (c .window-at .result))
+known : (c : tie.After-window-of) → let a = c .before .before .args in
+    Known (boardOf (a .board)) (a .windows .now) (a .position) (windowOf (c .window-of .result))
 known c = record {
   numbers = small _ _ (c .before .before .args .position) (c .before .before .pre);
-  start = ap (λ (w : Window). w .start) (c .window-at .ensures);
-  end = ap (λ (w : Window). w .end) (c .window-at .ensures);
+  start = ap (λ (w : Window). w .start) (c .window-of .ensures);
+  end = ap (λ (w : Window). w .end) (c .window-of .ensures);
 }
 
-window-at-requires : tie.Need-window-at-requires
-window-at-requires c κs = search needs
+window-of-requires : tie.Need-window-of-requires
+window-of-requires c κs = search needs
 
 sub-before : tie.Need-sub-before
 sub-before c = omega (arith, known (c .before))
@@ -46,7 +46,7 @@ add-t15 c = search needs
 returns : tie.Need-returns
 returns c =
     let a = c .before .before .before .before .args in
-    next-here _ _ (a .position) _ (c .before .before .window-at .ensures) (c .if1 .taken)
+    next-here _ _ (a .position) _ (c .before .before .window-of .ensures) (c .if1 .taken)
 
 add-t10 : tie.Need-add-t10
 add-t10 c = omega (arith, known (c .before .before))
@@ -54,9 +54,9 @@ add-t10 c = omega (arith, known (c .before .before))
 returns-2 : tie.Need-returns-2
 returns-2 c =
     let a = c .before .before .before .before .args in
-    next-round _ _ (a .position) _ (c .before .before .window-at .ensures) (c .if1 .left)
+    next-round _ _ (a .position) _ (c .before .before .window-of .ensures) (c .if1 .left)
 
 pub next-spec : {M : Type 1} → statement M
 next-spec =
     tie.close
-    (tie.spec window-at-requires sub-before add-before add-if1 add-t15 returns add-t10 returns-2)
+    (tie.spec window-of-requires sub-before add-before add-if1 add-t15 returns add-t10 returns-2)
