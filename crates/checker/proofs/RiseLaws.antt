@@ -1,14 +1,12 @@
 -- The lengths at which the demand rises, as the code finds them: task by task
 use mathlib.Core.Path.{_≡_, refl, sym, ap, _∙_}
-use mathlib.Core.Bool.{cond}
 use mathlib.Core.List.{List}
 use Prim.Native.Nat.{ℕ, _+_, _-_, _*_, _/_, _≤_, _<_, min}
 use native.Mathlib.Omega.{arith}
 use native.Mathlib.Decide.{ℕ-discrete}
 use native.Mathlib.Numerals.{add-one}
-use lib.Dec.{eqb}
 use lib.ListN.{length, getD, set, length-set}
-use lib.Seq.{getD-set-same, getD-set-other}
+use lib.Seq.{getD-set-same, getD-set-other, set-getD}
 use borrow.Author.Count.{below-more}
 use borrow.Author.Tests.{eq-eqb, ne-eqb}
 use Rattle.scope.specs.Limits.{mostTasks, mostOfTask, mostLength, mostNumber}
@@ -18,12 +16,12 @@ use Rattle.theory.specs.Answers.{LegalGroup}
 use Rattle.theory.specs.Tasks.{TaskRule}
 use Rattle.theory.specs.Dues.{dueAfter, due-first, due-hit, due-miss, soonest}
 use Rattle.tables.proofs.TaskLaws.{read-rule}
-use Rattle.checker.specs.Rises.{Due, Risen}
+use Rattle.checker.specs.Rises.{Due, workAt, laterDue, Risen}
 use Rattle.checker.proofs.DemandLaws.{demandTo, demandTo-none, demandTo-next, demandTo-whole, demandTo-most}
 
 -- one task reaches length t: its deadline after t, and what its demand rises by
-reached : (x : Task) → TaskRule x → (t here later work : ℕ) → here ≡ dueAfter x (t - 1) → later ≡ cond (eqb here t) (t + x .T) here →
-    work ≡ cond (eqb here t) (x .C) 0 → (later ≡ dueAfter x t) × (taskDemand x t ≡ taskDemand x (t - 1) + work)
+reached : (x : Task) → TaskRule x → (t here later work : ℕ) → here ≡ dueAfter x (t - 1) → later ≡ laterDue x t here →
+    work ≡ workAt x t here → (later ≡ dueAfter x t) × (taskDemand x t ≡ taskDemand x (t - 1) + work)
 reached x ok t here later work e el ew =
     elim (ℕ-discrete here t) [
       | yes h ↦
@@ -39,6 +37,17 @@ reached x ok t here later work e el ew =
           let work-is : work ≡ 0 = rw other at ew in
           omega (arith, miss, later-is, work-is, e)
     ]
+
+-- the code's two ways: a deadline that is later stays, and one that is reached moves on
+module _ (x : Task) (t : ℕ) (due : List ℕ) (i : ℕ) where
+  pub reach-not : (getD due i 0 ≡ t → ⊥) → (0 ≡ workAt x t (getD due i 0)) × (due ≡ set due i (laterDue x t (getD due i 0)))
+  reach-not u = let other = ne-eqb (getD due i 0) t u in (rw other, rw other (sym (set-getD due i 0)))
+
+  pub reach-now : (y : Task) → y ≡ x → getD due i 0 ≡ t →
+      (y .C ≡ workAt x t (getD due i 0)) × (set due i (t + y .T) ≡ set due i (laterDue x t (getD due i 0)))
+  reach-now y read e =
+      let same = eq-eqb (getD due i 0) t e in
+      (rw same (ap (λ (z : Task). z .C) read), rw same (ap (λ (z : Task). set due i (t + z .T)) read))
 
 module _ (ts : List ℕ) (ok : LegalGroup ts) where
   abbrev n : ℕ
@@ -94,34 +103,39 @@ module _ (ts : List ℕ) (ok : LegalGroup ts) where
     soon = refl;
   }
 
-  module _ (t i : ℕ) (due : List ℕ) (by next : ℕ) (so : Moving t i due by next) (h : i < n) (y : Task) (read : y ≡ x i) where
-    -- the deadline that is read has its place
+  module _ (t i : ℕ) (due : List ℕ) (by next : ℕ) (so : Moving t i due by next) (h : i < n) where
+    abbrev later : ℕ
+    later = laterDue (x i) t (getD due i 0)
+
+    abbrev work : ℕ
+    work = workAt (x i) t (getD due i 0)
+
+    -- the deadline has its place
     pub in-room : i < length due
     in-room = omega (arith, so .size, ok .few)
 
-    pub rule : TaskRule y
-    rule = read-rule ts i y ok h read
+    step : (later ≡ dueAfter (x i) t) × (taskDemand (x i) t ≡ taskDemand (x i) (t - 1) + work)
+    step = reached (x i) (read-rule ts i (x i) ok h refl) t (getD due i 0) later work (so .left i (omega arith) h) refl refl
 
-    module _ (later work : ℕ) (el : later ≡ cond (eqb (getD due i 0) t) (t + y .T) (getD due i 0)) (ew : work ≡ cond (eqb (getD due i 0) t) (y .C) 0) where
-      step : (later ≡ dueAfter (x i) t) × (taskDemand (x i) t ≡ taskDemand (x i) (t - 1) + work)
-      step = rw (← read) (reached y rule t (getD due i 0) later work (so .left i (omega arith) h ∙ ap (λ (z : Task). dueAfter z (t - 1)) (sym read)) el ew)
+    -- the sum with task i in it, which is small
+    sum-more : demandTo (tasksOf ts) t (i + 1) ≡ demandTo (tasksOf ts) (t - 1) (i + 1) + (by + work)
+    sum-more = omega (arith, so .risen, step .1, demandTo-next (tasksOf ts) t i, demandTo-next (tasksOf ts) (t - 1) i)
 
-      -- the sum with task i in it, which is small
-      pub sum-more : demandTo (tasksOf ts) t (i + 1) ≡ demandTo (tasksOf ts) (t - 1) (i + 1) + (by + work)
-      sum-more = omega (arith, so .risen, step .1, demandTo-next (tasksOf ts) t i, demandTo-next (tasksOf ts) (t - 1) i)
+    pub by-most : (w : ℕ) → w ≡ work → t ≤ mostLength → by + w ≤ mostTasks * (mostLength * mostOfTask)
+    by-most w e l = omega (arith, e, sum-more, demandTo-most ts t (i + 1) ok l (omega arith))
 
-      pub by-most : t ≤ mostLength → by + work ≤ mostTasks * (mostLength * mostOfTask)
-      by-most l = omega (arith, sum-more, demandTo-most ts t (i + 1) ok l (omega arith))
-
-      pub moving-more : Moving t (i + 1) (set due i later) (by + work) (min next later)
-      unfolding soonest
-      moving-more = record {
-        size = length-set due i later ∙ so .size;
-        done = set-more (λ j. dueAfter (x j) t) due i later in-room (step .0) (so .done);
-        left = λ j l m. getD-set-other due i j later 0 (λ q. omega arith) ∙ so .left j (omega arith) m;
-        risen = sum-more;
-        soon = rw (add-one i) (omega (arith, so .soon, step .0));
-      }
+    -- task i has reached t too
+    pub moving-more : (due′ : List ℕ) (w m : ℕ) → due′ ≡ set due i later → w ≡ work → m ≡ min next (getD due′ i 0) → Moving t (i + 1) due′ (by + w) m
+    unfolding soonest
+    moving-more due′ w m ed ew em =
+        let here : getD due′ i 0 ≡ later = ap (λ (l : List ℕ). getD l i 0) ed ∙ getD-set-same due i later 0 in-room in
+        rw (ed, ew) (record {
+          size = length-set due i later ∙ so .size;
+          done = set-more (λ j. dueAfter (x j) t) due i later in-room (step .0) (so .done);
+          left = λ j l k. getD-set-other due i j later 0 (λ q. omega arith) ∙ so .left j (omega arith) k;
+          risen = sum-more;
+          soon = rw (add-one i) (omega (arith, em, here, so .soon, step .0));
+        })
 
   pub moving-all : (t i : ℕ) (due : List ℕ) (by next : ℕ) → i ≡ n → Moving t i due by next →
       Risen (tasksOf ts) t due (record { by = by; next = next })

@@ -1,14 +1,12 @@
 // The lengths at which the demand of a group rises, one after the other: no length between them is looked at, and nothing is divided.
 use tables::task::task_at;
 ghost use mathlib.Core.Path.{_≡_};
-ghost use mathlib.Core.Bool.{cond};
-ghost use Prim.Native.Nat.{_+_, _-_, _<_, _≤_, min};
-ghost use lib.Dec.{eqb};
-ghost use lib.ListN.{length as lengthOf};
-ghost use Rattle.scope.specs.Limits.{mostTasks, mostOfTask, mostLength};
-ghost use Rattle.scope.specs.Tasks.{tasksOf};
+ghost use Prim.Native.Nat.{_-_, _/_, _<_, _≤_, min};
+ghost use lib.ListN.{length as lengthOf, getD, set};
+ghost use Rattle.scope.specs.Limits.{mostTasks, mostLength};
+ghost use Rattle.scope.specs.Tasks.{tasksOf, taskAt};
 ghost use Rattle.theory.specs.Answers.{LegalGroup};
-ghost use Rattle.checker.specs.Rises.{Due, Risen};
+ghost use Rattle.checker.specs.Rises.{Due, workAt, laterDue, Risen};
 
 // What the demand rises by at a length, and the next length at which it rises.
 pub(crate) struct Rise {
@@ -34,19 +32,20 @@ pub(crate) fn first_due(tasks: &[u32], due: &mut [u32])
     }
 }
 
-// The work of a job that is due at a length.
-fn work_at(due: u32, length: u32, work: u32) -> u64
-    ensures { λ r. ⌜ r ≡ cond (eqb due length) work 0 ⌝ }
+// Task i reaches a length: if its job is due there, its deadline moves on by a period. Answers the work that is due. Most deadlines are later, and of
+// their tasks nothing is read.
+fn reach(tasks: &[u32], due: &mut [u32], i: usize, length: u32) -> u64
+    requires { ⌜ LegalGroup (now tasks) × (i < lengthOf (now tasks) / 3) × (lengthOf (now due) ≡ mostTasks) × (length ≤ mostLength) ⌝ }
+    ensures answer { λ r. ⌜ r ≡ workAt (taskAt (tasksOf (now (tasks .entry))) i) length (getD (now (due .entry)) i 0) ⌝ }
+    ensures deadline { λ _. ⌜ now (due .exit) ≡ set (now (due .entry)) i
+        (laterDue (taskAt (tasksOf (now (tasks .entry))) i) length (getD (now (due .entry)) i 0)) ⌝ }
 {
-    if due == length { work as u64 } else { 0 }
-}
-
-// The deadline after that of a job that is due at a length.
-fn due_after(due: u32, length: u32, period: u32) -> u32
-    requires { ⌜ (length ≤ mostLength) × (period ≤ mostOfTask) ⌝ }
-    ensures { λ r. ⌜ r ≡ cond (eqb due length) (length + period) due ⌝ }
-{
-    if due == length { length + period } else { due }
+    if due[i] != length {
+        return 0;
+    }
+    let task = task_at(tasks, i);
+    due[i] = length + task.period;
+    task.work as u64
 }
 
 fn lesser(a: u32, b: u32) -> u32
@@ -65,11 +64,8 @@ pub(crate) fn rise_at(tasks: &[u32], due: &mut [u32], length: u32) -> Rise
     let mut next = Rise::NEVER;
     let mut i = 0;
     while i < count {
-        let task = task_at(tasks, i);
-        let here = due[i];
-        let later = due_after(here, length, task.period);
-        by += work_at(here, length, task.work);
-        due[i] = later;
+        by += reach(tasks, due, i, length);
+        let later = due[i];
         next = lesser(next, later);
         i += 1;
     }

@@ -1,21 +1,17 @@
-use mathlib.Core.Path.{_≡_, refl}
+use mathlib.Core.Path.{_≡_, refl, sym, ap, _∙_}
 use native.Mathlib.Omega.{arith}
 use Prim.Native.Nat.{_-_, _≤_, _<_}
 use lib.ListN.{length, length-set}
 use borrow.Author.Needs.{needs}
 use Rattle.scope.specs.Limits.{mostTasks, mostLength}
 use Rattle.theory.specs.Answers.{LegalGroup}
-use Rattle.theory.specs.Tasks.{TaskRule}
-use Rattle.tables.specs.Told.{taskOf}
-use Rattle.checker.proofs.RiseLaws.{Moving, moving-none, in-room, rule, by-most, moving-more, moving-all}
+use Rattle.checker.proofs.RiseLaws.{Moving, moving-none, in-room, by-most, moving-more, moving-all}
 use Rattle.checker.proofs.rise.rise_at.Statement.{statement}
 use Rattle.checker.proofs.rise.rise_at.Tie as tie
 use Rattle.checker.proofs.rise.rise_at.Reads as reads
 use Rattle.checker.proofs.rise.rise_at.Lts as lts
-use Rattle.checker.proofs.rise.due_after.Reads as due-after-reads
 use Rattle.checker.proofs.rise.lesser.Reads as lesser-reads
-use Rattle.checker.proofs.rise.work_at.Reads as work-at-reads
-use Rattle.tables.proofs.task.task_at.Reads as task-at-reads
+use Rattle.checker.proofs.rise.reach.Reads as reach-reads
 
 abbrev Inv-loop : tie.InvT-loop
 Inv-loop tasks due₀ ticks count by₀ next₀ i₀ due by next i =
@@ -28,44 +24,29 @@ loop-holds : tie.Need-loop-holds Inv-loop μ-loop
 loop-holds c =
     let p = c .before .before .pre in (omega arith, p .1, refl, p .0, moving-none _ (p .0) _ _ (p .2))
 
-task-at-requires : tie.Need-task-at-requires Inv-loop μ-loop
-task-at-requires c κs = search needs
+reach-requires : tie.Need-reach-requires Inv-loop μ-loop
+reach-requires c κs = let l = c .before .before .loop in (l .inv .3, omega arith, l .inv .4 .size, l .inv .1)
 
--- what is known of task i: there is a place for its deadline, and it keeps its rule
-known : (c : tie.After-task-at Inv-loop μ-loop) → let l = c .before .before .loop in
-    (l .i < length (l .due)) × (length (l .due) ≡ mostTasks) × TaskRule (taskOf (c .task-at .result))
-known c =
-    let l = c .before .before .loop in (
-      in-room _ (l .inv .3) _ (l .i) _ _ _ (l .inv .4) (omega arith) _ (c .task-at .ensures),
-      l .inv .4 .size,
-      rule _ (l .inv .3) _ (l .i) _ _ _ (l .inv .4) (omega arith) _ (c .task-at .ensures),
-    )
-
-mul-here : tie.Need-mul-here Inv-loop μ-loop
-mul-here c = omega (arith, known c)
-
-slice-read-here : tie.Need-slice-read-here Inv-loop μ-loop
-slice-read-here c = known (c .before) .0
-
-due-after-requires : tie.Need-due-after-requires Inv-loop μ-loop
-due-after-requires c κs =
-    let k = c .before in (k .before .before .loop .inv .1, known k .2 .period-most)
-
-work-at-requires : tie.Need-work-at-requires Inv-loop μ-loop
-work-at-requires c κs = search needs
+-- the deadline has its place, also once it is reached
+room : (c : tie.After-reach Inv-loop μ-loop) →
+    let l = c .before .before .before .loop in
+    (l .i < length (c .reach .last .1 .0)) × (length (c .reach .last .1 .0) ≡ mostTasks)
+room c =
+    let l = c .before .before .before .loop in
+    let there = in-room _ (l .inv .3) _ (l .i) _ _ _ (l .inv .4) (omega arith) in
+    let same : length (c .reach .last .1 .0) ≡ length (l .due) = ap length (c .reach .ensures .1) ∙ length-set (l .due) (l .i) _ in
+    (omega (arith, there), same ∙ l .inv .4 .size)
 
 add-by : tie.Need-add-by Inv-loop μ-loop
 add-by c =
-    let k = c .before .before .before in
-    let l = k .before .before .loop in
-    let most = by-most _ (l .inv .3) _ (l .i) _ _ _ (l .inv .4) (omega arith) _ (k .task-at .ensures) _ _ (c .before .due-after .ensures) in
-    omega (arith, most (c .work-at .ensures) (l .inv .1))
+    let l = c .before .before .before .before .before .loop in
+    omega (arith, by-most _ (l .inv .3) _ (l .i) _ _ _ (l .inv .4) (omega arith) _ (c .before .before .reach .ensures .0) (l .inv .1))
 
-mul-due : tie.Need-mul-due Inv-loop μ-loop
-mul-due c = omega (arith, known (c .before .before .before))
+mul-later : tie.Need-mul-later Inv-loop μ-loop
+mul-later c = omega (arith, room (c .before .before))
 
-slice-write-due : tie.Need-slice-write-due Inv-loop μ-loop
-slice-write-due c = known (c .before .before .before) .0
+slice-read-later : tie.Need-slice-read-later Inv-loop μ-loop
+slice-read-later c = room (c .before .before .before) .0
 
 lesser-requires : tie.Need-lesser-requires Inv-loop μ-loop
 lesser-requires c κs = search needs
@@ -78,15 +59,13 @@ loop-less c = search needs
 
 loop-again : tie.Need-loop-again Inv-loop μ-loop
 loop-again c =
-    let w = c .before in
-    let k = w .before .before .before in
-    let l = k .before .before .loop in (
+    let r = c .before .before .before .before in
+    let l = r .before .before .before .loop in (
       omega arith,
       l .inv .1,
-      simp length-set (l .inv .2),
+      room r .1 ∙ sym (l .inv .4 .size) ∙ l .inv .2,
       l .inv .3,
-      rw (c .lesser .ensures) (moving-more _ (l .inv .3) _ (l .i) _ _ _ (l .inv .4) (omega arith) _ (k .task-at .ensures) _ _
-          (w .before .due-after .ensures) (w .work-at .ensures)),
+      moving-more _ (l .inv .3) _ (l .i) _ _ _ (l .inv .4) (omega arith) _ _ _ (r .reach .ensures .1) (r .reach .ensures .0) (c .lesser .ensures),
     )
 
 same-length : tie.Need-same-length Inv-loop μ-loop
@@ -102,14 +81,10 @@ rise-at-spec =
     Inv-loop
     μ-loop
     loop-holds
-    task-at-requires
-    mul-here
-    slice-read-here
-    due-after-requires
-    work-at-requires
+    reach-requires
     add-by
-    mul-due
-    slice-write-due
+    mul-later
+    slice-read-later
     lesser-requires
     add-i
     loop-less
