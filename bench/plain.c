@@ -217,19 +217,19 @@ static struct checked check_length(uint32_t length)
 /* Supply: row.rt */
 
 /* window `index` of the frame that begins at tick `base`, with the supplied ticks before that window */
-struct place {
+struct position {
     size_t index;
     uint32_t base;
     uint32_t before;
 };
 
-static uint32_t end_at(struct list windows, const struct place *at)
+static uint32_t end_at(struct list windows, const struct position *at)
 {
     return at->base + end_of(windows, at->index);
 }
 
 /* after the last window of a frame comes the first of the next frame */
-static void next_window(uint32_t frame, struct list windows, struct place *at)
+static void next_window(uint32_t frame, struct list windows, struct position *at)
 {
     at->before += end_of(windows, at->index) - start_of(windows, at->index);
     at->index++;
@@ -240,14 +240,14 @@ static void next_window(uint32_t frame, struct list windows, struct place *at)
 }
 
 /* on to the first window that ends after tick x */
-static void move_on(uint32_t frame, struct list windows, struct place *at, uint32_t x)
+static void move_on(uint32_t frame, struct list windows, struct position *at, uint32_t x)
 {
     while (end_at(windows, at) <= x)
         next_window(frame, windows, at);
 }
 
-/* the supplied ticks before tick x, from the place of the first window that ends after it */
-static uint32_t upto(struct list windows, const struct place *at, uint32_t x)
+/* the supplied ticks before tick x, from the position of the first window that ends after it */
+static uint32_t upto(struct list windows, const struct position *at, uint32_t x)
 {
     uint32_t start = at->base + start_of(windows, at->index);
     return x <= start ? at->before : at->before + (x - start);
@@ -272,7 +272,7 @@ static struct least least_at_ends(uint32_t frame, struct list windows, uint32_t 
     size_t count = windows.len / 2;
     uint32_t least = length;
     uint32_t earlier = 0;
-    struct place at = {0, 0, 0};
+    struct position at = {0, 0, 0};
     for (size_t i = 0; i < count; i++) {
         uint32_t end = end_of(windows, i) + length;
         earlier += end_of(windows, i) - start_of(windows, i);
@@ -545,29 +545,23 @@ static void first_due(struct list tasks, uint32_t *due)
         due[i] = deadline_of(tasks, i);
 }
 
-/* the work of a job that is due at a length */
-static uint64_t work_at(uint32_t due, uint32_t length, uint32_t work)
+/* where a job of task i is due at a length: its deadline moves on by a period; the work that is due */
+static uint64_t reach(struct list tasks, uint32_t *due, size_t i, uint32_t length)
 {
-    return due == length ? work : 0;
+    if (due[i] != length)
+        return 0;
+    due[i] = length + period_of(tasks, i);
+    return work_of(tasks, i);
 }
 
-/* the deadline after that of a job that is due at a length */
-static uint32_t due_after(uint32_t due, uint32_t length, uint32_t period)
-{
-    return due == length ? length + period : due;
-}
-
-/* on to a length: the deadlines that are reached move on by a period */
+/* on to a length: the deadlines that are reached move on */
 static struct rise rise_at(struct list tasks, uint32_t *due, uint32_t length)
 {
     size_t count = tasks.len / 3;
     struct rise rise = {0, NEVER};
     for (size_t i = 0; i < count; i++) {
-        uint32_t here = due[i];
-        uint32_t later = due_after(here, length, period_of(tasks, i));
-        rise.by += work_at(here, length, work_of(tasks, i));
-        due[i] = later;
-        rise.next = smaller(rise.next, later);
+        rise.by += reach(tasks, due, i, length);
+        rise.next = smaller(rise.next, due[i]);
     }
     return rise;
 }
