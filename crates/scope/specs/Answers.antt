@@ -109,8 +109,9 @@ groupFault ts = taskListFault ts orElse taskFault (tasksOf ts)
 
 -- ---- one value alone, as a constructor takes it
 
-unfoldable pub boardAnswer : ℕ → Answer Board
-boardAnswer P = unless (frameFault (record { frame = P })) (record { frame = P })
+-- which owners there are is judged with the windows
+unfoldable pub boardAnswer : Board → Answer Board
+boardAnswer b = unless (frameFault b) b
 
 unfoldable pub windowAnswer : Board → Window → Answer Window
 windowAnswer b w = unless (windowFault b (w ∷ [])) w

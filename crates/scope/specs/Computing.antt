@@ -22,6 +22,9 @@ use Rattle.scope.specs.Trace.{readRecord, recordsWithin, traceOf, elapse
 use Rattle.scope.specs.Trace.{recordBytes, traceBytes}
 use Rattle.scope.specs.Replay.{ends, endedIn, endedFrom, releasedAt, recordedTo, firstDifference, replayed, extentFault, recordFault, replayFault}
 use Rattle.scope.specs.Replay.{recordsAnswer, replayAnswer}
+use Rattle.scope.specs.Shared.{windowsFor, asOwned, follows, ownedLegal, badOwned, ownedListFault, ownedFault, wholeFault, absentOwnerFault, sharedFault}
+use Rattle.scope.specs.Shared.{askedFor, suppliedFor, leastSupplyFor, criticalFor, criticalOutFor, delayFor, outageFor, marginFor, verdictFor, boundFor}
+use Rattle.scope.specs.Shared.{runFor, runOutFor, recordsFor, replayFor}
 use Rattle.scope.specs.Demands.{dueWithin, fullJobsIn, fullJobs, givenTo}
 
 unfoldable pub numbers·compute : Unit {0}
@@ -80,6 +83,14 @@ unfoldable pub replays·compute : Unit {0}
 unfolding ends endedIn endedFrom releasedAt recordedTo firstDifference replayed extentFault recordFault replayFault recordsAnswer replayAnswer
 replays·compute = tt
 
+unfoldable pub sharedFaults·compute : Unit {0}
+unfolding windowsFor asOwned follows ownedLegal badOwned ownedListFault ownedFault wholeFault absentOwnerFault sharedFault askedFor
+sharedFaults·compute = tt
+
+unfoldable pub sharedAnswers·compute : Unit {0}
+unfolding suppliedFor leastSupplyFor criticalFor criticalOutFor delayFor outageFor marginFor verdictFor boundFor runFor runOutFor recordsFor replayFor
+sharedAnswers·compute = tt
+
 unfoldable pub demands·compute : Unit {0}
 unfolding dueWithin fullJobsIn fullJobs givenTo
 demands·compute = tt
@@ -93,5 +104,5 @@ unfolding tableFaults·compute groupFaults·compute constructors·compute tableA
 answers·compute = tt
 
 unfoldable pub everything : Unit {0}
-unfolding amounts·compute answers·compute reading·compute writing·compute traces·compute replays·compute demands·compute
+unfolding amounts·compute answers·compute reading·compute writing·compute traces·compute replays·compute demands·compute sharedFaults·compute sharedAnswers·compute
 everything = tt

@@ -18,7 +18,7 @@ use Rattle.scope.specs.Machine.{pending, worked}
 
 -- each tick cut into q: the frame and the edges times q
 abbrev pub finerBoard : ℕ → Board → Board
-finerBoard q b = record { frame = q * b .frame }
+finerBoard q b = record { frame = q * b .frame; owner = b .owner }
 
 abbrev pub finerWindows : ℕ → List Window → List Window
 finerWindows q ws = map (λ w. window (q * w .start) (q * w .end)) ws

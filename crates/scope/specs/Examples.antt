@@ -23,6 +23,8 @@ use Rattle.scope.specs.Line.{bytes, line, lineAnswer, lineOut}
 use Rattle.scope.specs.Trace.{Record, completion}
 use Rattle.scope.specs.Replay as Replays
 use Rattle.scope.specs.Replay.{Replayed, extentFault, replayAnswer}
+use Rattle.scope.specs.Shared.{ownedListFault, leastSupplyFor, criticalFor, criticalOutFor, delayFor, outageFor, marginFor, verdictFor, boundFor}
+use Rattle.scope.specs.Shared.{runFor, runOutFor, replayFor}
 use Rattle.scope.specs.Computing.{everything}
 
 -- ---- what is asked of an entry, and what it answers; of a lent buffer, what it holds before and after
@@ -49,6 +51,16 @@ pub data Question : Type 0 where
   cycleOf : (frame : ℕ) (tasks : List ℕ) → Question
   replayOf : (frame : ℕ) (windows tasks trace : List ℕ) → Question
   releasesOf : (releases : ℕ) → Question
+  leastSuppliesFor : (frame owner : ℕ) (windows lengths : List ℕ) → Question
+  criticalWindowsFor : (frame owner : ℕ) (windows buffer : List ℕ) → Question
+  delayOfFor : (frame owner : ℕ) (windows : List ℕ) → Question
+  verdictOfFor : (frame owner : ℕ) (windows tasks : List ℕ) → Question
+  marginOfFor : (frame owner : ℕ) (windows tasks : List ℕ) (length : ℕ) → Question
+  boundsOfFor : (frame owner : ℕ) (windows tasks indices : List ℕ) → Question
+  runOfFor : (frame owner : ℕ) (windows tasks : List ℕ) (n : ℕ) (jobs buffer : List ℕ) → Question
+  outageOfFor : (frame owner : ℕ) (windows : List ℕ) → Question
+  replayOfFor : (frame owner : ℕ) (windows tasks trace : List ℕ) → Question
+  sharedLists : (sizes : List ℕ) → Question
 
 pub data Reply : Type 0 where
   amounts : List (Answer ℕ) → Reply
@@ -72,7 +84,11 @@ release = record { instant = 0; kind = 0; task = 0; work = 1 }
 
 -- a board with frame P
 abbrev pub on : ℕ → Board
-on P = record { frame = P }
+on P = record { frame = P; owner = 0 }
+
+-- a board with frame P that asks for owner o
+abbrev pub onFor : ℕ → ℕ → Board
+onFor P o = record { frame = P; owner = o }
 
 unfoldable pub reply : Question → Reply
 reply (leastSupplies P ws ts) = amounts (map (leastSupplyAnswer (on P) ws) ts)
@@ -87,7 +103,7 @@ reply (outageOf P ws) = amounts (outageAnswer (on P) ws ∷ [])
 reply (demandsOf ts lengths) = amounts (map (demandAnswer ts) lengths)
 reply (writtenPlan plan out) = bytesIn (writeAnswer plan (length out)) (writeOut plan out)
 reply (lineInto plan out) = bytesIn (lineAnswer (planAnswer plan) (length out)) (lineOut (planAnswer plan) out)
-reply (frames l) = boards (map boardAnswer l)
+reply (frames l) = boards (map (λ P. boardAnswer (on P)) l)
 reply (askedLengths l) = amounts (map lengthAnswer l)
 reply (runTicks l) = amounts (map runTicksAnswer l)
 reply (windowAlone P s e) = aWindow (windowAnswer (on P) (window s e))
@@ -98,6 +114,17 @@ reply (cycleOf P ts) = faults (cycleFault (on P) (tasksOf ts) ∷ [])
 reply (replayOf P ws ts trace) = aReplay (replayAnswer (on P) ws ts trace)
 -- so many releases, whatever they are, and one more
 reply (releasesOf m) = faults (extentFault (replicate m release) ∷ extentFault (replicate (suc m) release) ∷ [])
+-- on a table that teams share, in threes, for one of them
+reply (leastSuppliesFor P o ws ts) = amounts (map (leastSupplyFor (onFor P o) ws) ts)
+reply (criticalWindowsFor P o ws out) = windows (criticalFor (onFor P o) ws (length out)) (criticalOutFor (onFor P o) ws out)
+reply (delayOfFor P o ws) = aDelay (delayFor (onFor P o) ws)
+reply (verdictOfFor P o ws ts) = aVerdict (verdictFor (onFor P o) ws ts)
+reply (marginOfFor P o ws ts t) = aMargin (marginFor (onFor P o) ws ts t)
+reply (boundsOfFor P o ws ts is) = bounds (map (boundFor (onFor P o) ws ts) is)
+reply (runOfFor P o ws ts n js out) = aRun (runFor (onFor P o) ws ts n js (length out)) (runOutFor (onFor P o) ws ts n js out)
+reply (outageOfFor P o ws) = amounts (outageFor (onFor P o) ws ∷ [])
+reply (replayOfFor P o ws ts trace) = aReplay (replayFor (onFor P o) ws ts trace)
+reply (sharedLists l) = faults (map (λ n. ownedListFault (replicate n 0)) l)
 
 -- ---- the table
 
@@ -117,6 +144,10 @@ X = 0 ∷ 2 ∷ 5 ∷ 7 ∷ []
 -- the window of a school's lab, document 02, request 1, whose frame is 8 too
 abbrev pub lab : List ℕ
 lab = 3 ∷ 5 ∷ []
+
+-- X as owner 0's, and the rest of its frame as owner 1's
+abbrev pub XShared : List ℕ
+XShared = 0 ∷ 2 ∷ 0 ∷ 2 ∷ 5 ∷ 1 ∷ 5 ∷ 7 ∷ 0 ∷ 7 ∷ 8 ∷ 1 ∷ []
 
 unfoldable pub table : List Example
 table =
@@ -220,6 +251,45 @@ table =
     gives aReplay (refused 11 3))
     ∷ ("a release of no task" asks replayOf 8 X (1 ∷ 4 ∷ 4 ∷ 2 ∷ 8 ∷ 7 ∷ []) (0 ∷ 2 ∷ 1 ∷ 100 ∷ [])
     gives aReplay (refused 11 0))
+    -- request 4: whatever owner 1 does, X is X to owner 0; owner 1's windows are (2,5) and (7,8), which touch owner 0's
+    ∷ ("W1, shared" asks leastSuppliesFor 8 0 XShared (0 ∷ 1 ∷ 2 ∷ 3 ∷ 4 ∷ 5 ∷ 6 ∷ 7 ∷ 8 ∷ [])
+    gives amounts (map given (0 ∷ 0 ∷ 0 ∷ 0 ∷ 1 ∷ 2 ∷ 2 ∷ 3 ∷ 4 ∷ [])))
+    ∷ ("owner 1's least supply" asks leastSuppliesFor 8 1 XShared (1 ∷ 2 ∷ 3 ∷ 4 ∷ 5 ∷ 6 ∷ 7 ∷ 8 ∷ [])
+    gives amounts (map given (0 ∷ 0 ∷ 1 ∷ 1 ∷ 1 ∷ 2 ∷ 3 ∷ 4 ∷ [])))
+    ∷ ("W2, shared" asks criticalWindowsFor 8 0 XShared (9 ∷ 9 ∷ 9 ∷ 9 ∷ 9 ∷ []) gives windows (given 2) (3 ∷ 5 ∷ 6 ∷ 8 ∷ 9 ∷ []))
+    ∷ ("W3, shared" asks delayOfFor 8 0 XShared gives aDelay (given (record { delay = 12; A = 4 })))
+    ∷ ("W6, shared" asks verdictOfFor 8 0 XShared (1 ∷ 4 ∷ 4 ∷ 2 ∷ 8 ∷ 6 ∷ []) gives aVerdict (given (miss 6 2 3 2)))
+    ∷ ("W6's tasks as owner 1's" asks verdictOfFor 8 1 XShared (1 ∷ 4 ∷ 4 ∷ 2 ∷ 8 ∷ 6 ∷ []) gives aVerdict (given (miss 6 4 3 2)))
+    ∷ ("W5, shared" asks verdictOfFor 8 0 XShared (1 ∷ 4 ∷ 3 ∷ []) gives aVerdict (given (miss 3 2 1 0)))
+    ∷ ("W5's task as owner 1's" asks verdictOfFor 8 1 XShared (1 ∷ 4 ∷ 3 ∷ []) gives aVerdict (given (meets 8)))
+    ∷ ("W6, its margin, shared" asks marginOfFor 8 0 XShared (1 ∷ 4 ∷ 4 ∷ 2 ∷ 8 ∷ 6 ∷ []) 6 gives aMargin (given (negsuc 0)))
+    ∷ ("W11, shared" asks boundsOfFor 8 0 XShared (1 ∷ 4 ∷ 4 ∷ 1 ∷ 8 ∷ 8 ∷ []) (0 ∷ 1 ∷ []) gives bounds (map (λ t. given (bound t)) (4 ∷ 7 ∷ [])))
+    ∷ ("W13, shared" asks runOfFor 8 0 XShared (1 ∷ 4 ∷ 4 ∷ 2 ∷ 8 ∷ 7 ∷ []) 10 (2 ∷ 0 ∷ 1 ∷ 2 ∷ 1 ∷ 2 ∷ []) (9 ∷ 9 ∷ 9 ∷ [])
+    gives aRun (given (record { outcome = met; backlog = 2 })) (4 ∷ 7 ∷ 9 ∷ []))
+    ∷ ("W13's jobs as owner 1's" asks runOfFor 8 1 XShared (1 ∷ 4 ∷ 4 ∷ 2 ∷ 8 ∷ 7 ∷ []) 10 (2 ∷ 0 ∷ 1 ∷ 2 ∷ 1 ∷ 2 ∷ []) (9 ∷ 9 ∷ 9 ∷ [])
+    gives aRun (given (record { outcome = met; backlog = 2 })) (1 ∷ 3 ∷ 9 ∷ []))
+    ∷ ("owner 1's outage" asks outageOfFor 8 1 XShared gives amounts (given 2 ∷ []))
+    ∷ ("outage of X, shared" asks outageOfFor 8 0 XShared gives amounts (given 3 ∷ []))
+    ∷ ("a trace, shared" asks replayOfFor 8 0 XShared (1 ∷ 4 ∷ 4 ∷ 2 ∷ 8 ∷ 7 ∷ []) (0 ∷ 0 ∷ 1 ∷ 100 ∷ 0 ∷ 1 ∷ 2 ∷ 100 ∷ 1 ∷ 0 ∷ 101 ∷ 1 ∷ 1 ∷ 106 ∷ [])
+    gives aReplay (given Replays.same))
+    -- windows of different owners may touch, of one owner not; none may start before the previous end; an owner but 0 or 1 breaks the rule
+    ∷ ("owners that touch" asks verdictOfFor 8 1 (0 ∷ 2 ∷ 0 ∷ 2 ∷ 4 ∷ 1 ∷ []) [] gives aVerdict (given (meets 8)))
+    ∷ ("one owner that touches" asks verdictOfFor 8 1 (0 ∷ 2 ∷ 1 ∷ 2 ∷ 4 ∷ 1 ∷ []) [] gives aVerdict (refused 3 1))
+    ∷ ("another team that touches itself" asks verdictOfFor 8 0 (0 ∷ 2 ∷ 0 ∷ 4 ∷ 5 ∷ 1 ∷ 5 ∷ 6 ∷ 1 ∷ []) [] gives aVerdict (refused 3 2))
+    ∷ ("owners that overlap" asks verdictOfFor 8 0 (0 ∷ 3 ∷ 0 ∷ 2 ∷ 4 ∷ 1 ∷ []) [] gives aVerdict (refused 3 1))
+    ∷ ("another team's empty window" asks verdictOfFor 8 0 (0 ∷ 2 ∷ 0 ∷ 4 ∷ 4 ∷ 1 ∷ []) [] gives aVerdict (refused 3 1))
+    ∷ ("no such owner in the list" asks verdictOfFor 8 0 (0 ∷ 2 ∷ 0 ∷ 4 ∷ 5 ∷ 2 ∷ []) [] gives aVerdict (refused 3 1))
+    -- an owner with no window, or no such owner, just after 3; before 4, and 9 before it
+    ∷ ("an absent owner" asks verdictOfFor 8 1 (0 ∷ 2 ∷ 0 ∷ []) [] gives aVerdict (refused 1 0))
+    ∷ ("no such owner asked for" asks outageOfFor 8 2 XShared gives amounts (refused 1 0 ∷ []))
+    ∷ ("3 before an absent owner" asks verdictOfFor 8 1 (0 ∷ 2 ∷ 0 ∷ 2 ∷ 3 ∷ 0 ∷ []) [] gives aVerdict (refused 3 1))
+    ∷ ("an absent owner before 4" asks verdictOfFor 8 1 (0 ∷ 2 ∷ 0 ∷ []) (1 ∷ []) gives aVerdict (refused 1 0))
+    ∷ ("9 before an absent owner" asks replayOfFor 8 1 (0 ∷ 2 ∷ 0 ∷ []) [] (2 ∷ []) gives aReplay (refused 9 0))
+    ∷ ("an absent owner's buffer" asks criticalWindowsFor 8 1 (0 ∷ 2 ∷ 0 ∷ []) (9 ∷ 9 ∷ []) gives windows (refused 1 0) (9 ∷ 9 ∷ []))
+    -- lists in threes: the longest, one window more, none, pairs; and the order
+    ∷ ("shared lists" asks sharedLists (192 ∷ 195 ∷ 0 ∷ 4 ∷ []) gives faults (fine ∷ fault 1 0 ∷ fault 1 0 ∷ fault 1 0 ∷ []))
+    ∷ ("1 before 2, shared" asks verdictOfFor 0 0 X [] gives aVerdict (refused 1 0))
+    ∷ ("2 before 3, shared" asks verdictOfFor 0 0 (2 ∷ 2 ∷ 0 ∷ []) [] gives aVerdict (refused 2 0))
     -- of the four errors, W5 and W9 show two: here supply counted from tick 0 passes the first, and starts at window ends miss the second's least start
     ∷ ("supply from tick 0" asks verdictOf 8 X (2 ∷ 8 ∷ 3 ∷ []) gives aVerdict (given (miss 3 2 2 0)))
     ∷ ("starts at window ends" asks verdictOf 8 X (2 ∷ 4 ∷ 4 ∷ []) gives aVerdict (given (miss 4 1 2 1)))
@@ -297,7 +367,7 @@ Hold (e ∷ rows) = (reply (e .question) ≡ e .expected) × Hold rows
 pub examples : Hold table
 unfolding everything reply table
 examples =
-    (refl, (refl, (refl, (refl, (refl, (refl, (refl, (refl, (refl, (refl, (refl, (refl, (refl, (refl, (refl, (refl, (refl, (refl, (refl, (refl, (refl, (refl, (refl, (refl, (refl, (refl, (refl, (refl, (refl, (refl, (refl, (refl, (refl, (refl, (refl, (refl, (refl, (refl, (refl, (refl, (refl, (refl, (refl, (refl, (refl, (refl, (refl, (refl, (refl, (refl, (refl, (refl, (refl, (refl, (refl, (refl, (refl, (refl, (refl, (refl, (refl, (refl, (refl, (refl, (refl, (refl, (refl, (refl, (refl, (refl, (refl, (refl, (refl, (refl, (refl, (refl, (refl, (refl, (refl, (refl, (refl, (refl, (refl, (refl, (refl, (refl, (refl, (refl, (refl, (refl, (refl, (refl, (refl, (refl, (refl, (refl, (refl, (refl, (refl, (refl, (refl, (refl, (refl, (refl, (refl, (refl, (refl, tt)))))))))))))))))))))))))))))))))))))))))))))))))))))))))))))))))))))))))))))))))))))))))))))))))))))))))))
+    (refl, (refl, (refl, (refl, (refl, (refl, (refl, (refl, (refl, (refl, (refl, (refl, (refl, (refl, (refl, (refl, (refl, (refl, (refl, (refl, (refl, (refl, (refl, (refl, (refl, (refl, (refl, (refl, (refl, (refl, (refl, (refl, (refl, (refl, (refl, (refl, (refl, (refl, (refl, (refl, (refl, (refl, (refl, (refl, (refl, (refl, (refl, (refl, (refl, (refl, (refl, (refl, (refl, (refl, (refl, (refl, (refl, (refl, (refl, (refl, (refl, (refl, (refl, (refl, (refl, (refl, (refl, (refl, (refl, (refl, (refl, (refl, (refl, (refl, (refl, (refl, (refl, (refl, (refl, (refl, (refl, (refl, (refl, (refl, (refl, (refl, (refl, (refl, (refl, (refl, (refl, (refl, (refl, (refl, (refl, (refl, (refl, (refl, (refl, (refl, (refl, (refl, (refl, (refl, (refl, (refl, (refl, (refl, (refl, (refl, (refl, (refl, (refl, (refl, (refl, (refl, (refl, (refl, (refl, (refl, (refl, (refl, (refl, (refl, (refl, (refl, (refl, (refl, (refl, (refl, (refl, (refl, (refl, (refl, (refl, (refl, (refl, tt)))))))))))))))))))))))))))))))))))))))))))))))))))))))))))))))))))))))))))))))))))))))))))))))))))))))))))))))))))))))))))))))))))))))))
 
 -- ---- a row by its name
 

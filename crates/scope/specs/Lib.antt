@@ -15,6 +15,7 @@ pub mod Plan
 pub mod Line
 pub mod Trace
 pub mod Replay
+pub mod Shared
 pub mod Demands
 pub mod Computing
 pub mod Examples

@@ -1,4 +1,4 @@
--- Document 01, "Tables and sizes" and "Refusal numbers": each limit, once.
+-- Document 01, "Tables and sizes" and "Refusal numbers", and document 02: each limit, once.
 use Prim.Native.Nat.{ℕ}
 
 -- ticks of a frame: 1 to 65,536
@@ -8,6 +8,10 @@ mostFrame = 65536
 -- windows of a table: 1 to 64
 abbrev pub mostWindows : ℕ
 mostWindows = 64
+
+-- the teams that share a table: its owners are 0 and 1
+abbrev pub teams : ℕ
+teams = 2
 
 -- tasks of a group: 0 to 32
 abbrev pub mostTasks : ℕ

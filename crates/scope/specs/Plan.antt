@@ -7,6 +7,7 @@ use lib.Dec.{leb, ltb, eqb}
 use lib.ListN.{length, drop}
 use Rattle.scope.specs.Numbers.{written}
 use Rattle.scope.specs.Limits.{mostWindows, mostTasks, mostNumber}
+use Rattle.scope.specs.Windows.{Board}
 use Rattle.scope.specs.Verdict.{Verdict}
 use Rattle.scope.specs.Answers.{Fault, Fault.fine, Fault.fault, Answer, Answer.given, Answer.refused, faultIf, _orElse_, unless, unlessKept}
 use Rattle.scope.specs.Answers.{windowListFault, taskListFault, roomFault, verdictAnswer}
@@ -121,9 +122,13 @@ planFrom bytes at = orNine (readNumber bytes at) (λ frame afterFrame. listsFrom
 unfoldable pub planOf : List ℕ → Answer Plan
 planOf bytes = planFrom bytes 0
 
+-- the windows of a plan file are pairs, and owner 0's
+abbrev pub planBoard : Plan → Board
+planBoard p = record { frame = p .frame; owner = 0 }
+
 -- the verdict of a plan file
 unfoldable pub planAnswer : List ℕ → Answer Verdict
-planAnswer bytes = andThen (planOf bytes) (λ p. verdictAnswer (record { frame = p .frame }) (p .windows) (p .tasks))
+planAnswer bytes = andThen (planOf bytes) (λ p. verdictAnswer (planBoard p) (p .windows) (p .tasks))
 
 -- ---- writing
 

@@ -1,0 +1,141 @@
+-- Document 02, request 4: a window table that teams share, in threes of start, end and owner; and what each entry answers the owner that is asked for.
+use Prim.Native.Nat.{ℕ, _-_}
+use mathlib.Core.Bool.{Bool, not, cond, _&&_, _||_}
+use mathlib.Core.Option.{Option}
+use mathlib.Core.List.{List, [], _∷_}
+use lib.Dec.{ltb, eqb}
+use lib.IntN.{ℤ}
+use lib.ListN.{length, getD}
+use Rattle.scope.specs.Numbers.{first, pieces, badCount}
+use Rattle.scope.specs.Limits.{teams, mostWindows}
+use Rattle.scope.specs.Windows.{Board, Window, window, windowFits}
+use Rattle.scope.specs.Verdict.{Verdict}
+use Rattle.scope.specs.Bound.{Bound}
+use Rattle.scope.specs.Run.{Ran}
+use Rattle.scope.specs.Answers.{Fault, Fault.fine, Fault.fault, Answer, Answer.refused, faultIf, faultAt, _orElse_, frameFault, Delay}
+use Rattle.scope.specs.Answers.{suppliedAnswer, leastSupplyAnswer, criticalAnswer, criticalOut, delayAnswer, outageAnswer}
+use Rattle.scope.specs.Answers.{marginAnswer, verdictAnswer, boundAnswer, runAnswer, runOut}
+use Rattle.scope.specs.Plan.{orNine}
+use Rattle.scope.specs.Trace.{Record, timed, traceOf}
+use Rattle.scope.specs.Replay.{Replayed, recordsAnswer}
+
+-- ---- windows with their owners
+
+pub record Owned : Type 0 where
+  pub window : Window
+  pub owner : ℕ
+
+abbrev pub owned : ℕ → ℕ → ℕ → Owned
+owned s e o = record { window = window s e; owner = o }
+
+-- those of a list of numbers: start, end, owner, start, end, owner, ..
+abbrev pub ownedOf : List ℕ → List Owned
+ownedOf = pieces 3 owned
+
+abbrev pub ownedAt : List Owned → ℕ → Owned
+ownedAt ws i = getD ws i (owned 0 0 0)
+
+-- the windows of one owner, as a list of numbers: start, end, start, end, ..
+unfoldable pub windowsFor : ℕ → List Owned → List ℕ
+windowsFor o [] = []
+windowsFor o (w ∷ ws) = cond (eqb (w .owner) o) (w .window .start ∷ w .window .end ∷ windowsFor o ws) (windowsFor o ws)
+
+-- those of the owner that is asked for
+abbrev pub own : Board → List ℕ → List ℕ
+own b numbers = windowsFor (b .owner) (ownedOf numbers)
+
+-- a list of pairs, all read as owner o's
+unfoldable pub asOwned : ℕ → List ℕ → List ℕ
+asOwned o [] = []
+asOwned o (s ∷ []) = s ∷ []
+asOwned o (s ∷ e ∷ rest) = s ∷ e ∷ o ∷ asOwned o rest
+
+-- ---- checks, of the whole list. The number of owners is a parameter
+
+-- a window starts after the end of the previous one, or touches it and is another owner's
+unfoldable pub follows : Owned → Owned → Bool
+follows v w =
+    ltb (v .window .end) (w .window .start) || (eqb (v .window .end) (w .window .start) && not (eqb (v .owner) (w .owner)))
+
+-- start < end ≤ P, an owner that exists, and the previous window
+unfoldable pub ownedLegal : ℕ → Board → List Owned → ℕ → Bool
+ownedLegal owners b ws i =
+    windowFits b ((ownedAt ws i) .window) && ltb ((ownedAt ws i) .owner) owners && (eqb i 0 || follows (ownedAt ws (i - 1)) (ownedAt ws i))
+
+-- the lowest index of a window that breaks its rule
+unfoldable pub badOwned : ℕ → Board → List Owned → Option ℕ
+badOwned owners b ws = first (λ i. not (ownedLegal owners b ws i)) (length ws)
+
+-- 1: window list not in threes, empty, or over 64 windows
+unfoldable pub ownedListFault : List ℕ → Fault
+ownedListFault ws = faultIf (badCount 3 mostWindows ws || eqb (length ws) 0) 1 0
+
+-- 3: a window breaks its rule
+unfoldable pub ownedFault : ℕ → Board → List Owned → Fault
+ownedFault owners b ws = faultAt 3 (badOwned owners b ws)
+
+-- 1, 2 and 3, which may depend on every team
+unfoldable pub wholeFault : ℕ → Board → List ℕ → Fault
+wholeFault owners b ws = ownedListFault ws orElse frameFault b orElse ownedFault owners b (ownedOf ws)
+
+-- 1: the asked owner has no window. One that does not exist has none in a list that keeps rule 3
+unfoldable pub absentOwnerFault : Board → List ℕ → Fault
+absentOwnerFault b ws = faultIf (eqb (length (own b ws)) 0) 1 0
+
+unfoldable pub sharedFault : ℕ → Board → List ℕ → Fault
+sharedFault owners b ws = wholeFault owners b ws orElse absentOwnerFault b ws
+
+-- ---- entries. Windows ws are a list of numbers in threes
+
+-- a refusal in place of what is given
+abbrev pub unlessRefused : {R : Type 0} → Fault → (ℕ → ℕ → R) → R → R
+unlessRefused fine refusal r = r
+unlessRefused (fault number place) refusal r = refusal number place
+
+-- what is asked for an owner: the refusal of the list, or what the owner's windows get, as if they were the table
+unfoldable pub askedFor : {R : Type 0} → ℕ → Board → List ℕ → (ℕ → ℕ → R) → (List ℕ → R) → R
+askedFor owners b ws refusal entry = unlessRefused (sharedFault owners b ws) refusal (entry (own b ws))
+
+-- an answer is refused, a lent buffer is kept
+abbrev pub kept : List ℕ → ℕ → ℕ → List ℕ
+kept out number place = out
+
+unfoldable pub suppliedFor : Board → List ℕ → ℕ → Answer Bool
+suppliedFor b ws k = askedFor teams b ws refused (λ own. suppliedAnswer b own k)
+
+unfoldable pub leastSupplyFor : Board → List ℕ → ℕ → Answer ℕ
+leastSupplyFor b ws t = askedFor teams b ws refused (λ own. leastSupplyAnswer b own t)
+
+unfoldable pub criticalFor : Board → List ℕ → ℕ → Answer ℕ
+criticalFor b ws room = askedFor teams b ws refused (λ own. criticalAnswer b own room)
+
+unfoldable pub criticalOutFor : Board → List ℕ → List ℕ → List ℕ
+criticalOutFor b ws out = askedFor teams b ws (kept out) (λ own. criticalOut b own out)
+
+unfoldable pub delayFor : Board → List ℕ → Answer Delay
+delayFor b ws = askedFor teams b ws refused (delayAnswer b)
+
+unfoldable pub outageFor : Board → List ℕ → Answer ℕ
+outageFor b ws = askedFor teams b ws refused (outageAnswer b)
+
+unfoldable pub marginFor : Board → List ℕ → List ℕ → ℕ → Answer ℤ
+marginFor b ws ts t = askedFor teams b ws refused (λ own. marginAnswer b own ts t)
+
+unfoldable pub verdictFor : Board → List ℕ → List ℕ → Answer Verdict
+verdictFor b ws ts = askedFor teams b ws refused (λ own. verdictAnswer b own ts)
+
+unfoldable pub boundFor : Board → List ℕ → List ℕ → ℕ → Answer Bound
+boundFor b ws ts i = askedFor teams b ws refused (λ own. boundAnswer b own ts i)
+
+unfoldable pub runFor : Board → List ℕ → List ℕ → ℕ → List ℕ → ℕ → Answer Ran
+runFor b ws ts n js room = askedFor teams b ws refused (λ own. runAnswer b own ts n js room)
+
+unfoldable pub runOutFor : Board → List ℕ → List ℕ → ℕ → List ℕ → List ℕ → List ℕ
+runOutFor b ws ts n js out = askedFor teams b ws (kept out) (λ own. runOut b own ts n js out)
+
+unfoldable pub recordsFor : Board → List ℕ → List ℕ → List Record → Answer Replayed
+recordsFor b ws ts rs = askedFor teams b ws refused (λ own. recordsAnswer b own ts rs)
+
+-- 9 before all others
+unfoldable pub replayFor : Board → List ℕ → List ℕ → List ℕ → Answer Replayed
+replayFor b ws ts bytes = orNine (traceOf bytes) (λ rs end. recordsFor b ws ts (timed rs))
