@@ -6,13 +6,13 @@ use mathlib.Core.List.{List, [], _∷_}
 use lib.Dec.{ltb, eqb}
 use lib.IntN.{ℤ}
 use lib.ListN.{length, getD}
-use Rattle.scope.specs.Numbers.{first, pieces, badCount}
+use Rattle.scope.specs.Numbers.{first, pieces, badCount, written}
 use Rattle.scope.specs.Limits.{teams, mostWindows}
 use Rattle.scope.specs.Windows.{Board, Window, window, windowFits}
 use Rattle.scope.specs.Verdict.{Verdict}
 use Rattle.scope.specs.Bound.{Bound}
 use Rattle.scope.specs.Run.{Ran}
-use Rattle.scope.specs.Answers.{Fault, Fault.fine, Fault.fault, Answer, Answer.refused, faultIf, faultAt, _orElse_, frameFault, Delay}
+use Rattle.scope.specs.Answers.{Fault, Fault.fine, Fault.fault, Answer, Answer.refused, faultIf, faultAt, _orElse_, unless, unlessKept, frameFault, roomFault, Delay}
 use Rattle.scope.specs.Answers.{suppliedAnswer, leastSupplyAnswer, criticalAnswer, criticalOut, delayAnswer, outageAnswer}
 use Rattle.scope.specs.Answers.{marginAnswer, verdictAnswer, boundAnswer, runAnswer, runOut}
 use Rattle.scope.specs.Plan.{orNine}
@@ -84,6 +84,17 @@ absentOwnerFault b ws = faultIf (eqb (length (own b ws)) 0) 1 0
 
 unfoldable pub sharedFault : ℕ → Board → List ℕ → Fault
 sharedFault owners b ws = wholeFault owners b ws orElse absentOwnerFault b ws
+
+-- ---- the owner's windows by themselves, in lent memory: how many numbers, and the memory afterwards
+
+unfoldable pub ownFault : ℕ → Board → List ℕ → ℕ → Fault
+ownFault owners b ws room = sharedFault owners b ws orElse roomFault (length (own b ws)) room
+
+unfoldable pub ownAnswer : ℕ → Board → List ℕ → ℕ → Answer ℕ
+ownAnswer owners b ws room = unless (ownFault owners b ws room) (length (own b ws))
+
+unfoldable pub ownOut : ℕ → Board → List ℕ → List ℕ → List ℕ
+ownOut owners b ws out = unlessKept (ownFault owners b ws (length out)) (written (own b ws) out) out
 
 -- ---- entries. Windows ws are a list of numbers in threes
 

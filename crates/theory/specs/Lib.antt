@@ -37,6 +37,8 @@ pub mod Plan
 pub mod PlanBytes
 pub mod Replays
 pub mod Recorded
+pub mod Shared
+pub mod Alone
 pub mod Refused
 pub mod Applied
 pub mod Sharp
