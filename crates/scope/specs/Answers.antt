@@ -56,9 +56,13 @@ unlessKept (fault number place) new old = old
 
 -- ---- checks
 
--- 1: window list odd, empty, or over 64 windows
+-- 1: window list not in pieces of k numbers, empty, or over 64 windows
+abbrev pub listFault : ℕ → List ℕ → Fault
+listFault k ws = faultIf (badCount k mostWindows ws || eqb (length ws) 0) 1 0
+
+-- of pairs: odd, empty, or over 64 windows
 unfoldable pub windowListFault : List ℕ → Fault
-windowListFault ws = faultIf (badCount 2 mostWindows ws || eqb (length ws) 0) 1 0
+windowListFault ws = listFault 2 ws
 
 -- 2: P outside 1 to 65,536
 unfoldable pub frameFault : Board → Fault

@@ -23,7 +23,9 @@ use Rattle.scope.specs.Line.{bytes, line, lineAnswer, lineOut}
 use Rattle.scope.specs.Trace.{Record, completion}
 use Rattle.scope.specs.Replay as Replays
 use Rattle.scope.specs.Replay.{Replayed, extentFault, replayAnswer}
-use Rattle.scope.specs.Shared.{ownedListFault, leastSupplyFor, criticalFor, criticalOutFor, delayFor, outageFor, marginFor, verdictFor, boundFor}
+use Rattle.scope.specs.Limits.{teams}
+use Rattle.scope.specs.Shared.{Owned, owned, ownedListFault, ownedAnswer, ownAnswer, ownOut}
+use Rattle.scope.specs.Shared.{leastSupplyFor, criticalFor, criticalOutFor, delayFor, outageFor, marginFor, verdictFor, boundFor}
 use Rattle.scope.specs.Shared.{runFor, runOutFor, replayFor}
 use Rattle.scope.specs.Computing.{everything}
 
@@ -61,6 +63,8 @@ pub data Question : Type 0 where
   outageOfFor : (frame owner : ℕ) (windows : List ℕ) → Question
   replayOfFor : (frame owner : ℕ) (windows tasks trace : List ℕ) → Question
   sharedLists : (sizes : List ℕ) → Question
+  ownedAlone : (frame start end owner : ℕ) → Question
+  ownOf : (frame owner : ℕ) (windows buffer : List ℕ) → Question
 
 pub data Reply : Type 0 where
   amounts : List (Answer ℕ) → Reply
@@ -77,6 +81,7 @@ pub data Reply : Type 0 where
   aTask : Answer Task → Reply
   faults : List Fault → Reply
   aReplay : Answer Replayed → Reply
+  anOwned : Answer Owned → Reply
 
 -- a release at tick 0
 abbrev release : Record
@@ -124,6 +129,8 @@ reply (boundsOfFor P o ws ts is) = bounds (map (boundFor (onFor P o) ws ts) is)
 reply (runOfFor P o ws ts n js out) = aRun (runFor (onFor P o) ws ts n js (length out)) (runOutFor (onFor P o) ws ts n js out)
 reply (outageOfFor P o ws) = amounts (outageFor (onFor P o) ws ∷ [])
 reply (replayOfFor P o ws ts trace) = aReplay (replayFor (onFor P o) ws ts trace)
+reply (ownedAlone P s e o) = anOwned (ownedAnswer teams (on P) (owned s e o))
+reply (ownOf P o ws out) = windows (ownAnswer teams (onFor P o) ws (length out)) (ownOut teams (onFor P o) ws out)
 reply (sharedLists l) = faults (map (λ n. ownedListFault (replicate n 0)) l)
 
 -- ---- the table
@@ -286,6 +293,12 @@ table =
     ∷ ("an absent owner before 4" asks verdictOfFor 8 1 (0 ∷ 2 ∷ 0 ∷ []) (1 ∷ []) gives aVerdict (refused 1 0))
     ∷ ("9 before an absent owner" asks replayOfFor 8 1 (0 ∷ 2 ∷ 0 ∷ []) [] (2 ∷ []) gives aReplay (refused 9 0))
     ∷ ("an absent owner's buffer" asks criticalWindowsFor 8 1 (0 ∷ 2 ∷ 0 ∷ []) (9 ∷ 9 ∷ []) gives windows (refused 1 0) (9 ∷ 9 ∷ []))
+    -- a window alone with its owner, and an owner's windows in lent memory
+    ∷ ("window of the last owner" asks ownedAlone 8 7 8 1 gives anOwned (given (owned 7 8 1)))
+    ∷ ("window of no owner" asks ownedAlone 8 7 8 2 gives anOwned (refused 3 0))
+    ∷ ("owner 1's windows" asks ownOf 8 1 XShared (9 ∷ 9 ∷ 9 ∷ 9 ∷ 9 ∷ []) gives windows (given 4) (2 ∷ 5 ∷ 7 ∷ 8 ∷ 9 ∷ []))
+    ∷ ("owner 1's windows without room" asks ownOf 8 1 XShared (9 ∷ 9 ∷ 9 ∷ []) gives windows (refused 8 4) (9 ∷ 9 ∷ 9 ∷ []))
+    ∷ ("an absent owner before 8" asks ownOf 8 2 XShared [] gives windows (refused 1 0) [])
     -- lists in threes: the longest, one window more, none, pairs; and the order
     ∷ ("shared lists" asks sharedLists (192 ∷ 195 ∷ 0 ∷ 4 ∷ []) gives faults (fine ∷ fault 1 0 ∷ fault 1 0 ∷ fault 1 0 ∷ []))
     ∷ ("1 before 2, shared" asks verdictOfFor 0 0 X [] gives aVerdict (refused 1 0))
@@ -367,7 +380,7 @@ Hold (e ∷ rows) = (reply (e .question) ≡ e .expected) × Hold rows
 pub examples : Hold table
 unfolding everything reply table
 examples =
-    (refl, (refl, (refl, (refl, (refl, (refl, (refl, (refl, (refl, (refl, (refl, (refl, (refl, (refl, (refl, (refl, (refl, (refl, (refl, (refl, (refl, (refl, (refl, (refl, (refl, (refl, (refl, (refl, (refl, (refl, (refl, (refl, (refl, (refl, (refl, (refl, (refl, (refl, (refl, (refl, (refl, (refl, (refl, (refl, (refl, (refl, (refl, (refl, (refl, (refl, (refl, (refl, (refl, (refl, (refl, (refl, (refl, (refl, (refl, (refl, (refl, (refl, (refl, (refl, (refl, (refl, (refl, (refl, (refl, (refl, (refl, (refl, (refl, (refl, (refl, (refl, (refl, (refl, (refl, (refl, (refl, (refl, (refl, (refl, (refl, (refl, (refl, (refl, (refl, (refl, (refl, (refl, (refl, (refl, (refl, (refl, (refl, (refl, (refl, (refl, (refl, (refl, (refl, (refl, (refl, (refl, (refl, (refl, (refl, (refl, (refl, (refl, (refl, (refl, (refl, (refl, (refl, (refl, (refl, (refl, (refl, (refl, (refl, (refl, (refl, (refl, (refl, (refl, (refl, (refl, (refl, (refl, (refl, (refl, (refl, (refl, (refl, tt)))))))))))))))))))))))))))))))))))))))))))))))))))))))))))))))))))))))))))))))))))))))))))))))))))))))))))))))))))))))))))))))))))))))))
+    (refl, (refl, (refl, (refl, (refl, (refl, (refl, (refl, (refl, (refl, (refl, (refl, (refl, (refl, (refl, (refl, (refl, (refl, (refl, (refl, (refl, (refl, (refl, (refl, (refl, (refl, (refl, (refl, (refl, (refl, (refl, (refl, (refl, (refl, (refl, (refl, (refl, (refl, (refl, (refl, (refl, (refl, (refl, (refl, (refl, (refl, (refl, (refl, (refl, (refl, (refl, (refl, (refl, (refl, (refl, (refl, (refl, (refl, (refl, (refl, (refl, (refl, (refl, (refl, (refl, (refl, (refl, (refl, (refl, (refl, (refl, (refl, (refl, (refl, (refl, (refl, (refl, (refl, (refl, (refl, (refl, (refl, (refl, (refl, (refl, (refl, (refl, (refl, (refl, (refl, (refl, (refl, (refl, (refl, (refl, (refl, (refl, (refl, (refl, (refl, (refl, (refl, (refl, (refl, (refl, (refl, (refl, (refl, (refl, (refl, (refl, (refl, (refl, (refl, (refl, (refl, (refl, (refl, (refl, (refl, (refl, (refl, (refl, (refl, (refl, (refl, (refl, (refl, (refl, (refl, (refl, (refl, (refl, (refl, (refl, (refl, (refl, (refl, (refl, (refl, (refl, (refl, tt))))))))))))))))))))))))))))))))))))))))))))))))))))))))))))))))))))))))))))))))))))))))))))))))))))))))))))))))))))))))))))))))))))))))))))))
 
 -- ---- a row by its name
 

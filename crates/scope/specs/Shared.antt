@@ -6,13 +6,14 @@ use mathlib.Core.List.{List, [], _∷_}
 use lib.Dec.{ltb, eqb}
 use lib.IntN.{ℤ}
 use lib.ListN.{length, getD}
-use Rattle.scope.specs.Numbers.{first, pieces, badCount, written}
-use Rattle.scope.specs.Limits.{teams, mostWindows}
+use Rattle.scope.specs.Numbers.{first, pieces, written}
+use Rattle.scope.specs.Limits.{teams}
 use Rattle.scope.specs.Windows.{Board, Window, window, windowFits}
 use Rattle.scope.specs.Verdict.{Verdict}
 use Rattle.scope.specs.Bound.{Bound}
 use Rattle.scope.specs.Run.{Ran}
-use Rattle.scope.specs.Answers.{Fault, Fault.fine, Fault.fault, Answer, Answer.refused, faultIf, faultAt, _orElse_, unless, unlessKept, frameFault, roomFault, Delay}
+use Rattle.scope.specs.Answers.{Fault, Fault.fine, Fault.fault, Answer, Answer.refused, faultIf, faultAt, _orElse_, unless, unlessKept, listFault, frameFault, roomFault}
+use Rattle.scope.specs.Answers.{Delay}
 use Rattle.scope.specs.Answers.{suppliedAnswer, leastSupplyAnswer, criticalAnswer, criticalOut, delayAnswer, outageAnswer}
 use Rattle.scope.specs.Answers.{marginAnswer, verdictAnswer, boundAnswer, runAnswer, runOut}
 use Rattle.scope.specs.Plan.{orNine}
@@ -66,13 +67,17 @@ ownedLegal owners b ws i =
 unfoldable pub badOwned : ℕ → Board → List Owned → Option ℕ
 badOwned owners b ws = first (λ i. not (ownedLegal owners b ws i)) (length ws)
 
--- 1: window list not in threes, empty, or over 64 windows
+-- 1, of threes
 unfoldable pub ownedListFault : List ℕ → Fault
-ownedListFault ws = faultIf (badCount 3 mostWindows ws || eqb (length ws) 0) 1 0
+ownedListFault ws = listFault 3 ws
 
 -- 3: a window breaks its rule
 unfoldable pub ownedFault : ℕ → Board → List Owned → Fault
 ownedFault owners b ws = faultAt 3 (badOwned owners b ws)
+
+-- a window with its owner alone, as a constructor takes it
+unfoldable pub ownedAnswer : ℕ → Board → Owned → Answer Owned
+ownedAnswer owners b w = unless (ownedFault owners b (w ∷ [])) w
 
 -- 1, 2 and 3, which may depend on every team
 unfoldable pub wholeFault : ℕ → Board → List ℕ → Fault

@@ -23,7 +23,7 @@ use Rattle.theory.specs.Lists.{keep-hit, keep-miss}
 use Rattle.theory.specs.MaximalRuns.{within-in, within-out}
 use Rattle.theory.specs.Buffers.{written-more}
 use Rattle.supply.specs.Marks.{marked, Marked}
-use Rattle.tables.proofs.FaultLaws.{if-true, if-false, or-fault, or-fine}
+use Rattle.tables.proofs.FaultLaws.{then-short, then-roomy}
 
 -- ---- the numbers kept among 0, 1, .., n − 1
 
@@ -150,22 +150,13 @@ rises-by σ P k m n e f = rw (e, f)
 
 -- what its entry refuses: a table that has a fault, then a buffer that is too short
 module _ (b : Board) (ws : List ℕ) (room : ℕ) where
-  pub critical-table : {n p : ℕ} → tableFault b ws ≡ fault n p → criticalFault b ws room ≡ fault n p
+  pub critical-short : tableFault b ws ≡ fine → room < length (criticalOf b ws) → criticalFault b ws room ≡ fault 8 (length (criticalOf b ws))
   unfolding criticalFault
-  critical-table e = or-fault (tableFault b ws) (roomFault (length (criticalOf b ws)) room) e
+  critical-short e h = then-short (tableFault b ws) _ room e h
 
-  module _ (e : tableFault b ws ≡ fine) where
-    only-room : criticalFault b ws room ≡ roomFault (length (criticalOf b ws)) room
-    unfolding criticalFault
-    only-room = or-fine (tableFault b ws) (roomFault (length (criticalOf b ws)) room) e
-
-    pub critical-short : room < length (criticalOf b ws) → criticalFault b ws room ≡ fault 8 (length (criticalOf b ws))
-    unfolding roomFault
-    critical-short h = only-room ∙ sym (if-true _ 8 (length (criticalOf b ws)) (lt-ltb room (length (criticalOf b ws)) h))
-
-    pub critical-fine : length (criticalOf b ws) ≤ room → criticalFault b ws room ≡ fine
-    unfolding roomFault
-    critical-fine h = only-room ∙ sym (if-false _ 8 (length (criticalOf b ws)) (le-ltb room (length (criticalOf b ws)) h))
+  pub critical-fine : tableFault b ws ≡ fine → length (criticalOf b ws) ≤ room → criticalFault b ws room ≡ fine
+  unfolding criticalFault
+  critical-fine e h = then-roomy (tableFault b ws) _ room e h
 
 -- ---- the greatest of a function's values
 

@@ -13,13 +13,12 @@ use borrow.Author.Tests.{eq-eqb, ne-eqb}
 use Rattle.scope.specs.Numbers.{firstBy, badCount}
 use Rattle.scope.specs.Limits.{mostWindows}
 use Rattle.scope.specs.Windows.{Board, Window, window, windowAt, gives, covers, windowFits, windowLegal, badWindow}
-use Rattle.scope.specs.Answers.{Answer.given, Answer.refused, faultIf, faultAt, unless, windowListFault, windowFault, windowAnswer}
+use Rattle.scope.specs.Answers.{Answer.given, Answer.refused, faultIf, faultAt, unless, listFault, windowFault, windowAnswer}
 use Rattle.tables.proofs.FaultLaws.{keeps, breaks}
 
 -- the list: how its numbers are counted, and whether there are any
-pub list-by : (ws : List ℕ) (t u : Bool) → badCount 2 mostWindows ws ≡ t → eqb (length ws) 0 ≡ u → faultIf (t || u) 1 0 ≡ windowListFault ws
-unfolding windowListFault
-list-by ws t u e e′ = rw (e, e′)
+pub list-by : (k : ℕ) (ws : List ℕ) (t u : Bool) → badCount k mostWindows ws ≡ t → eqb (length ws) 0 ≡ u → faultIf (t || u) 1 0 ≡ listFault k ws
+list-by k ws t u e e′ = rw (e, e′)
 
 module _ (b : Board) (ws : List Window) (i : ℕ) where
   pub misfit : windowFits b (windowAt ws i) ≡ false → false ≡ windowLegal b ws i

@@ -2,7 +2,7 @@
 ghost use mathlib.Core.Path.{_≡_};
 ghost use lib.IntN.{natAbs};
 ghost use Rattle.scope.specs.Answers.{_orElse_};
-ghost use Rattle.tables.specs.Told.{number as numberOf, place as placeOf, faultOf};
+ghost use Rattle.tables.specs.Told.{number as numberOf, place as placeOf, no, faultOf, toldAmount};
 
 // Why an input is refused.
 pub enum Refusal {
@@ -87,6 +87,14 @@ pub enum Supplied {
 pub enum Amount {
     Of(u64),
     Refused(Refusal),
+}
+
+// A refusal leaves the lent memory as it was.
+pub fn refuse(r: Refusal, out: &mut [u32]) -> Amount
+    ensures answer { λ a. ⌜ toldAmount a ≡ no r ⌝ }
+    ensures buffer { λ _. ⌜ now (out .exit) ≡ now (out .entry) ⌝ }
+{
+    Amount::Refused(r)
 }
 
 // The delay times A, with A beside it.

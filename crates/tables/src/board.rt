@@ -4,9 +4,10 @@ ghost use mathlib.Core.Path.{_≡_};
 ghost use Rattle.scope.specs.Answers.{frameFault, boardAnswer};
 ghost use Rattle.tables.specs.Told.{boardOf, faultOf, toldBoard};
 
-// What, beside the windows, decides which ticks are supplied. Any value may be lent: the entries check it.
+// What, beside the windows, decides which ticks are supplied: the frame, and the owner that is asked for. Any value may be lent: the entries check it.
 pub struct Board {
     pub frame: u32,
+    pub owner: u32,
 }
 
 pub enum MadeBoard {
@@ -18,8 +19,9 @@ impl Board {
     // Ticks of a frame: 1 to 65,536.
     pub const LONGEST: u32 = 65536;
 
-    pub fn new(frame: u32) -> MadeBoard
-        ensures { λ r. ⌜ toldBoard r ≡ boardAnswer frame ⌝ }
+    // Which owners there are is judged with the windows.
+    pub fn new(frame: u32, owner: u32) -> MadeBoard
+        ensures { λ r. ⌜ toldBoard r ≡ boardAnswer (record { frame = frame; owner = owner }) ⌝ }
     {
         if frame == 0 {
             return MadeBoard::Refused(Refusal::Frame);
@@ -27,7 +29,7 @@ impl Board {
         if Board::LONGEST < frame {
             return MadeBoard::Refused(Refusal::Frame);
         }
-        MadeBoard::Is(Board { frame })
+        MadeBoard::Is(Board { frame, owner })
     }
 }
 
@@ -35,7 +37,7 @@ impl Board {
 pub(crate) fn check_frame(board: Board) -> Checked
     ensures { λ r. ⌜ faultOf r ≡ frameFault (boardOf board) ⌝ }
 {
-    match Board::new(board.frame) {
+    match Board::new(board.frame, board.owner) {
         MadeBoard::Is(_) => Checked::Fine,
         MadeBoard::Refused(r) => Checked::Bad(r),
     }

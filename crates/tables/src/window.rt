@@ -6,7 +6,7 @@ use crate::list::bad_count;
 ghost use mathlib.Core.Path.{_≡_};
 ghost use Prim.Native.Nat.{_%_};
 ghost use Rattle.scope.specs.Windows.{windowsOf, windowAt, windowFits, gives, covers, suppliedBy, windowLegal};
-ghost use Rattle.scope.specs.Answers.{windowListFault, windowFault, tableFault, windowAnswer};
+ghost use Rattle.scope.specs.Answers.{listFault, windowListFault, windowFault, tableFault, windowAnswer};
 ghost use Rattle.tables.specs.Told.{boardOf, windowOf, faultOf, toldWindow};
 
 // The ticks `start` up to but not including `end`.
@@ -115,17 +115,24 @@ fn window_legal(board: Board, windows: &[u32], i: usize) -> bool
     }
 }
 
-// Refusal 1.
-pub fn check_window_list(windows: &[u32]) -> Checked
-    ensures { λ r. ⌜ faultOf r ≡ windowListFault (now (windows .entry)) ⌝ }
+// Refusal 1, of windows with `each` numbers.
+pub(crate) fn check_list(windows: &[u32], each: usize) -> Checked
+    ensures { λ r. ⌜ faultOf r ≡ listFault each (now (windows .entry)) ⌝ }
 {
-    if bad_count(windows, 2, Window::MOST) {
+    if bad_count(windows, each, Window::MOST) {
         return Checked::Bad(Refusal::WindowList);
     }
     if windows.len() == 0 {
         return Checked::Bad(Refusal::WindowList);
     }
     Checked::Fine
+}
+
+// Refusal 1, of pairs.
+pub fn check_window_list(windows: &[u32]) -> Checked
+    ensures { λ r. ⌜ faultOf r ≡ windowListFault (now (windows .entry)) ⌝ }
+{
+    check_list(windows, 2)
 }
 
 // Refusal 3, at the lowest index.

@@ -84,7 +84,7 @@ module _ (owners : ℕ) (b : Board) (ws : List Owned) (legal : badOwned owners b
         | yes e ↦ rw e (next-apart j l)
         | no u ↦
             let s : endAt ws i < startAt ws (suc j) =
-                omega (arith, all-apart i j (omega arith) (omega arith) .0, rule-parts j (omega arith) .0, next-apart j l .0) in
+            omega (arith, all-apart i j (omega arith) (omega arith) .0, rule-parts j (omega arith) .0, next-apart j l .0) in
             (omega arith, λ o. s)
       ]
 

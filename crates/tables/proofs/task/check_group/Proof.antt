@@ -7,10 +7,10 @@ use Rattle.tables.proofs.task.check_group.Reads as reads
 use Rattle.tables.proofs.task.check_group.Lts as lts
 use Rattle.tables.proofs.answer.Checked.or_else.Reads as or-else-reads
 use Rattle.tables.proofs.task.check_tasks.Reads as check-tasks-reads
-use Rattle.tables.proofs.window.check_table.Reads as check-table-reads
+use Rattle.tables.proofs.shared.check_shared.Reads as check-shared-reads
 
-check-table-requires : tie.Need-check-table-requires
-check-table-requires c κs = search needs
+check-shared-requires : tie.Need-check-shared-requires
+check-shared-requires c κs = search needs
 
 check-tasks-requires : tie.Need-check-tasks-requires
 check-tasks-requires c κs = search needs
@@ -19,8 +19,8 @@ or-else-requires : tie.Need-or-else-requires
 or-else-requires c κs = search needs
 
 returns : tie.Need-returns
-returns c = c .or-else .ensures ∙ ap₂ _orElse_ (c .before .before .check-table .ensures) (c .before .check-tasks .ensures)
+returns c = c .or-else .ensures ∙ ap₂ _orElse_ (c .before .before .check-shared .ensures) (c .before .check-tasks .ensures)
 
 pub check-group-spec : {M : Type 1} → statement M
 check-group-spec =
-    tie.close (tie.spec check-table-requires check-tasks-requires or-else-requires returns)
+    tie.close (tie.spec check-shared-requires check-tasks-requires or-else-requires returns)

@@ -31,8 +31,8 @@ fits : (c : tie.After-new) → let a = c .before .before .before .args in
     (windowFits (boardOf (a .board)) (windowAt (windowsOf (a .windows .now)) (a .i)) ≡ true) × (v ≡ windowAt (windowsOf (a .windows .now)) (a .i))
 fits c v e =
     let read = c .before .window-at .ensures in
-    let f = fitting _ _ _ e in
-    (sym (ap (windowFits _) read) ∙ f .0, f .1 ∙ read)
+    let f = fitting (boardOf (c .before .before .before .args .board)) _ _ e in
+    (sym (ap (windowFits (boardOf (c .before .before .before .args .board))) read) ∙ f .0, f .1 ∙ read)
 
 returns : tie.Need-returns
 returns c =
@@ -48,7 +48,7 @@ window-at-requires-2 c κs = search needs
 returns-2 : tie.Need-returns-2
 returns-2 c =
     let x = c .before .before in
-    misfit _ _ _ (sym (ap (windowFits _) (x .before .window-at .ensures)) ∙ unfitting _ _ _ _ (sym (ap toldWindow (c .enum-told .given .1)) ∙ x .new .ensures))
+    misfit _ _ _ (sym (ap (windowFits (boardOf (x .before .before .before .args .board))) (x .before .window-at .ensures)) ∙ unfitting (boardOf (x .before .before .before .args .board)) _ _ _ (sym (ap toldWindow (c .enum-told .given .1)) ∙ x .new .ensures))
 
 returns-3 : tie.Need-returns-3
 returns-3 c =

@@ -1,0 +1,28 @@
+use mathlib.Core.Path.{ap₂, _∙_}
+use Rattle.scope.specs.Answers.{_orElse_}
+use Rattle.scope.specs.Shared.{sharedFault}
+use borrow.Author.Needs.{needs}
+use Rattle.tables.proofs.shared.check_shared.Statement.{statement}
+use Rattle.tables.proofs.shared.check_shared.Tie as tie
+use Rattle.tables.proofs.shared.check_shared.Reads as reads
+use Rattle.tables.proofs.shared.check_shared.Lts as lts
+use Rattle.tables.proofs.answer.Checked.or_else.Reads as or-else-reads
+use Rattle.tables.proofs.shared.check_owner.Reads as check-owner-reads
+use Rattle.tables.proofs.shared.check_whole.Reads as check-whole-reads
+
+check-whole-requires : tie.Need-check-whole-requires
+check-whole-requires c κs = search needs
+
+check-owner-requires : tie.Need-check-owner-requires
+check-owner-requires c κs = search needs
+
+or-else-requires : tie.Need-or-else-requires
+or-else-requires c κs = search needs
+
+returns : tie.Need-returns
+unfolding sharedFault
+returns c = c .or-else .ensures ∙ ap₂ _orElse_ (c .before .before .check-whole .ensures) (c .before .check-owner .ensures)
+
+pub check-shared-spec : {M : Type 1} → statement M
+check-shared-spec =
+    tie.close (tie.spec check-whole-requires check-owner-requires or-else-requires returns)
