@@ -3,7 +3,10 @@ use mathlib.Core.Path.{_≡_, sym, ap, _∙_}
 use mathlib.Core.List.{List}
 use Prim.Native.Nat.{ℕ}
 use lib.ListN.{length}
+use Rattle.scope.specs.Limits.{teams}
 use Rattle.scope.specs.Answers.{criticalAnswer, criticalOut}
+use Rattle.scope.specs.Shared.{criticalFor, criticalOutFor}
+use Rattle.theory.specs.Shared.{asked-kept}
 use Rattle.theory.specs.Refused.{critical-kept}
 use Rattle.tables.specs.declared.board.Board.{Board}
 use Rattle.tables.specs.declared.answer.Refusal.{Refusal}
@@ -12,7 +15,9 @@ use Rattle.tables.specs.declared.answer.Amount.the-variants.{Refused}
 use Rattle.tables.specs.Told.{number, place, boardOf, toldAmount}
 
 pub critical-refused : (b : Board) (ws out left : List ℕ) (r : Amount) →
-    toldAmount r ≡ criticalAnswer (boardOf b) ws (length out) → left ≡ criticalOut (boardOf b) ws out →
+    toldAmount r ≡ criticalFor (boardOf b) ws (length out) → left ≡ criticalOutFor (boardOf b) ws out →
     (e : Refusal) → r ≡ Refused e → left ≡ out
+unfolding criticalFor criticalOutFor
 critical-refused b ws out left r told wrote e is =
-    wrote ∙ critical-kept (number e) (place e) (boardOf b) ws out (sym told ∙ ap toldAmount is)
+    wrote ∙ asked-kept teams (boardOf b) ws out (λ l. criticalAnswer (boardOf b) l (length out)) (λ l. criticalOut (boardOf b) l out)
+    (λ n p l. critical-kept n p (boardOf b) l out) (number e) (place e) (sym told ∙ ap toldAmount is)

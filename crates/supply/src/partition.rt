@@ -1,10 +1,12 @@
 use crate::supply::least_at_ends;
 use tables::answer::Amount;
-use tables::answer::Checked;
 use tables::answer::Delay;
 use tables::answer::Refusal;
+use tables::answer::refuse;
 use tables::board::Board;
-use tables::window::check_table;
+use tables::shared::Owned;
+use tables::shared::own_windows;
+use tables::window::Window;
 use tables::window::window_at;
 ghost use mathlib.Core.Path.{_≡_};
 ghost use Prim.Native.Nat.{_+_, _-_, _<_, _≤_, max};
@@ -14,9 +16,10 @@ ghost use Rattle.scope.specs.Numbers.{bit, written};
 ghost use Rattle.scope.specs.Ticks.{perFrame};
 ghost use Rattle.scope.specs.Windows.{suppliedBy};
 ghost use Rattle.scope.specs.Partition.{rises, within, maximalRuns, lag, delay as delayBy, outage as outageBy};
-ghost use Rattle.scope.specs.Answers.{criticalAnswer, criticalOut, delayAnswer, outageAnswer};
+ghost use Rattle.scope.specs.Answers.{Fault.fine, tableFault, criticalAnswer, criticalOut, delayAnswer};
+ghost use Rattle.scope.specs.Shared.{criticalFor, criticalOutFor, delayFor, outageFor};
 ghost use Rattle.theory.specs.Answers.{LegalTable};
-ghost use Rattle.tables.specs.Told.{boardOf, no, toldAmount, toldDelay};
+ghost use Rattle.tables.specs.Told.{boardOf, toldAmount, toldDelay};
 ghost use Rattle.supply.specs.Marks.{marked, Marked};
 
 // Room for a mark for each tick of a frame.
@@ -98,34 +101,34 @@ fn write_edges(frame: u32, marks: &[u8], out: &mut [u32])
     }
 }
 
-// A refusal leaves the lent buffer as it was.
-fn refuse(r: Refusal, out: &mut [u32]) -> Amount
-    ensures answer { λ a. ⌜ toldAmount a ≡ no r ⌝ }
-    ensures buffer { λ _. ⌜ now (out .exit) ≡ now (out .entry) ⌝ }
-{
-    Amount::Refused(r)
-}
-
-// The critical partition: how many windows; two numbers a window at the front of out, the rest of out kept. Refusals 1 2 3 8.
-pub fn critical(board: Board, windows: &[u32], out: &mut [u32]) -> Amount
+// The critical partition of a legal list of windows: how many windows; two numbers a window at the front of out, the rest of out kept. Refusal 8.
+fn critical_on(board: Board, windows: &[u32], out: &mut [u32]) -> Amount
+    requires { ⌜ tableFault (boardOf board) (now windows) ≡ fine ⌝ }
     ensures answer { λ r. ⌜ toldAmount r ≡ criticalAnswer (boardOf board) (now (windows .entry)) (length (now (out .entry))) ⌝ }
     ensures buffer { λ r. ⌜ now (out .exit) ≡ criticalOut (boardOf board) (now (windows .entry)) (now (out .entry)) ⌝ }
 {
-    match check_table(board, windows) {
-        Checked::Bad(r) => refuse(r, out),
-        Checked::Fine => {
-            let frame = board.frame;
-            let mut marks = unmarked();
-            mark_rises(board, windows, &mut marks);
-            let numbers = count_edges(frame, &marks) as u64;
-            let count = numbers / 2;
-            if (out.len() as u64) < numbers {
-                refuse(Refusal::Room(numbers), out)
-            } else {
-                write_edges(frame, &marks, out);
-                Amount::Of(count)
-            }
-        }
+    let frame = board.frame;
+    let mut marks = unmarked();
+    mark_rises(board, windows, &mut marks);
+    let numbers = count_edges(frame, &marks) as u64;
+    let count = numbers / 2;
+    if (out.len() as u64) < numbers {
+        refuse(Refusal::Room(numbers), out)
+    } else {
+        write_edges(frame, &marks, out);
+        Amount::Of(count)
+    }
+}
+
+// The critical partition of the asked owner's windows. Refusals 1 2 3, 1 of an absent owner, 8.
+pub fn critical(board: Board, windows: &[u32], out: &mut [u32]) -> Amount
+    ensures answer { λ r. ⌜ toldAmount r ≡ criticalFor (boardOf board) (now (windows .entry)) (length (now (out .entry))) ⌝ }
+    ensures buffer { λ r. ⌜ now (out .exit) ≡ criticalOutFor (boardOf board) (now (windows .entry)) (now (out .entry)) ⌝ }
+{
+    let mut own = [0; 2 * Window::MOST];
+    match own_windows(Owned::TEAMS, board, windows, &mut own) {
+        Amount::Refused(r) => refuse(r, out),
+        Amount::Of(n) => critical_on(board, &own[..n as usize], out),
     }
 }
 
@@ -158,17 +161,24 @@ fn delay_of(board: Board, windows: &[u32], whole: u32) -> u64
     most
 }
 
-// The delay, with A beside it. Refusals 1 2 3.
-pub fn delay(board: Board, windows: &[u32]) -> Delay
+// The delay of a legal list of windows, with A beside it.
+fn delay_on(board: Board, windows: &[u32]) -> Delay
+    requires { ⌜ tableFault (boardOf board) (now windows) ≡ fine ⌝ }
     ensures { λ r. ⌜ toldDelay r ≡ delayAnswer (boardOf board) (now (windows .entry)) ⌝ }
 {
-    match check_table(board, windows) {
-        Checked::Bad(r) => Delay::Refused(r),
-        Checked::Fine => {
-            let per_frame = least_at_ends(board, windows, 0).whole;
-            let delay = delay_of(board, windows, per_frame);
-            Delay::Of { delay, per_frame }
-        }
+    let per_frame = least_at_ends(board, windows, 0).whole;
+    let delay = delay_of(board, windows, per_frame);
+    Delay::Of { delay, per_frame }
+}
+
+// The delay, with A beside it. Refusals 1 2 3, 1 of an absent owner.
+pub fn delay(board: Board, windows: &[u32]) -> Delay
+    ensures { λ r. ⌜ toldDelay r ≡ delayFor (boardOf board) (now (windows .entry)) ⌝ }
+{
+    let mut own = [0; 2 * Window::MOST];
+    match own_windows(Owned::TEAMS, board, windows, &mut own) {
+        Amount::Refused(r) => Delay::Refused(r),
+        Amount::Of(n) => delay_on(board, &own[..n as usize]),
     }
 }
 
@@ -207,14 +217,15 @@ fn outage_of(board: Board, windows: &[u32]) -> u32
     larger(most, gap)
 }
 
-// The longest outage over endless frames. Refusals 1 2 3.
+// The longest outage over endless frames. Refusals 1 2 3, 1 of an absent owner.
 pub fn outage(board: Board, windows: &[u32]) -> Amount
-    ensures { λ r. ⌜ toldAmount r ≡ outageAnswer (boardOf board) (now (windows .entry)) ⌝ }
+    ensures { λ r. ⌜ toldAmount r ≡ outageFor (boardOf board) (now (windows .entry)) ⌝ }
 {
-    match check_table(board, windows) {
-        Checked::Bad(r) => Amount::Refused(r),
-        Checked::Fine => {
-            let longest = outage_of(board, windows);
+    let mut own = [0; 2 * Window::MOST];
+    match own_windows(Owned::TEAMS, board, windows, &mut own) {
+        Amount::Refused(r) => Amount::Refused(r),
+        Amount::Of(n) => {
+            let longest = outage_of(board, &own[..n as usize]);
             Amount::Of(longest as u64)
         }
     }

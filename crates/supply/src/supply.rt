@@ -6,6 +6,8 @@ use tables::answer::Checked;
 use tables::answer::Supplied;
 use tables::board::Board;
 use tables::length::check_length;
+use tables::shared::Owned;
+use tables::shared::own_windows;
 use tables::window::Window;
 use tables::window::check_table;
 use tables::window::is_on;
@@ -15,7 +17,8 @@ ghost use Prim.Native.Nat.{_+_, _-_, _≤_, min};
 ghost use Rattle.scope.specs.Limits.{mostFrame, mostLength};
 ghost use Rattle.scope.specs.Ticks.{perFrame, leastSupply};
 ghost use Rattle.scope.specs.Windows.{suppliedBy};
-ghost use Rattle.scope.specs.Answers.{suppliedAnswer, leastSupplyAnswer};
+ghost use Rattle.scope.specs.Answers.{Fault.fine, tableFault, leastSupplyAnswer};
+ghost use Rattle.scope.specs.Shared.{suppliedFor, leastSupplyFor};
 ghost use Rattle.theory.specs.Answers.{LegalTable};
 ghost use Rattle.tables.specs.Told.{boardOf, toldSupplied, toldAmount};
 
@@ -84,28 +87,48 @@ fn least_of(board: Board, windows: &[u32], length: u32) -> u32
     length / frame * rest.whole + rest.supply
 }
 
-// Whether a tick is supplied. Refusals 1 2 3.
-pub fn supplied(board: Board, windows: &[u32], tick: u32) -> Supplied
-    ensures { λ r. ⌜ toldSupplied r ≡ suppliedAnswer (boardOf board) (now (windows .entry)) tick ⌝ }
+// The least supply of a length on a legal list of windows. Refusal 7.
+fn least_on(board: Board, windows: &[u32], length: u32) -> Amount
+    requires { ⌜ tableFault (boardOf board) (now windows) ≡ fine ⌝ }
+    ensures { λ r. ⌜ toldAmount r ≡ leastSupplyAnswer (boardOf board) (now (windows .entry)) length ⌝ }
 {
-    match check_table(board, windows) {
-        Checked::Bad(r) => Supplied::Refused(r),
-        Checked::Fine => Supplied::Is(is_on(board, windows, tick as u64)),
+    match check_length(length) {
+        Checked::Bad(r) => Amount::Refused(r),
+        Checked::Fine => {
+            let least = least_of(board, windows, length);
+            Amount::Of(least as u64)
+        }
     }
 }
 
-// The least supply of a length. Refusals 1 2 3 7.
-pub fn least_supply(board: Board, windows: &[u32], length: u32) -> Amount
+// The least supply of a length on a list of windows in pairs, as one owner has it: what is asked over and over is asked so. Refusals 1 2 3 7.
+pub fn least_in(board: Board, windows: &[u32], length: u32) -> Amount
     ensures { λ r. ⌜ toldAmount r ≡ leastSupplyAnswer (boardOf board) (now (windows .entry)) length ⌝ }
 {
     match check_table(board, windows) {
         Checked::Bad(r) => Amount::Refused(r),
-        Checked::Fine => match check_length(length) {
-            Checked::Bad(r) => Amount::Refused(r),
-            Checked::Fine => {
-                let least = least_of(board, windows, length);
-                Amount::Of(least as u64)
-            }
-        },
+        Checked::Fine => least_on(board, windows, length),
+    }
+}
+
+// Whether a tick is supplied to the asked owner. Refusals 1 2 3, 1 of an absent owner.
+pub fn supplied(board: Board, windows: &[u32], tick: u32) -> Supplied
+    ensures { λ r. ⌜ toldSupplied r ≡ suppliedFor (boardOf board) (now (windows .entry)) tick ⌝ }
+{
+    let mut own = [0; 2 * Window::MOST];
+    match own_windows(Owned::TEAMS, board, windows, &mut own) {
+        Amount::Refused(r) => Supplied::Refused(r),
+        Amount::Of(n) => Supplied::Is(is_on(board, &own[..n as usize], tick as u64)),
+    }
+}
+
+// The least supply of a length. Refusals 1 2 3, 1 of an absent owner, 7.
+pub fn least_supply(board: Board, windows: &[u32], length: u32) -> Amount
+    ensures { λ r. ⌜ toldAmount r ≡ leastSupplyFor (boardOf board) (now (windows .entry)) length ⌝ }
+{
+    let mut own = [0; 2 * Window::MOST];
+    match own_windows(Owned::TEAMS, board, windows, &mut own) {
+        Amount::Refused(r) => Amount::Refused(r),
+        Amount::Of(n) => least_on(board, &own[..n as usize], length),
     }
 }

@@ -18,7 +18,7 @@ use Rattle.scope.specs.Windows.{Board, Window, window, windowsOf, windowAt, win
 use Rattle.scope.specs.Answers.{Fault, Fault.fine, Fault.fault, Answer, Answer.given, Answer.refused, faultIf, faultAt, _orElse_, unless}
 use Rattle.scope.specs.Answers.{windowListFault, frameFault, windowFault, tableFault, roomFault}
 use Rattle.scope.specs.Shared.{Owned, owned, ownedOf, ownedAt, windowsFor, own, asOwned, follows, ownedLegal, badOwned, ownedListFault, ownedFault}
-use Rattle.scope.specs.Shared.{wholeFault, absentOwnerFault, sharedFault, ownFault, ownAnswer, ownOut, unlessRefused, askedFor}
+use Rattle.scope.specs.Shared.{wholeFault, absentOwnerFault, sharedFault, ownFault, ownAnswer, ownOut, unlessRefused, askedFor, kept}
 use Rattle.theory.specs.Numbers.{and-both, both-and, bool-cases, or-neither, first-none}
 use Rattle.theory.specs.Lists.{pieces-length, count-fine, Rising}
 use Rattle.theory.specs.MaximalRuns.{rising-rule}
@@ -338,18 +338,44 @@ asked-given owners b ws entry v = go (sharedFault owners b ws)
     go fine e = (refl, e)
     go (fault n p) e = let z : _≡_ {A = ℕ} 0 1 = cc in absurd (omega arith)
 
--- what `ownAnswer` gives, and the buffer that then begins with the owner's windows
+-- where an entry that refuses leaves its lent buffer as it was, so does what is asked for an owner
+pub asked-kept : {A : Type 0} (owners : ℕ) (b : Board) (ws out : List ℕ) (entry : List ℕ → Answer A) (left : List ℕ → List ℕ) →
+    ((n p : ℕ) (l : List ℕ) → entry l ≡ refused n p → left l ≡ out) →
+    (n p : ℕ) → askedFor owners b ws refused entry ≡ refused n p → askedFor owners b ws (kept out) left ≡ out
+unfolding askedFor
+asked-kept owners b ws out entry left keeps n p = go (sharedFault owners b ws)
+  where
+    go : (f : Fault) → unlessRefused f refused (entry (own b ws)) ≡ refused n p → unlessRefused f (kept out) (left (own b ws)) ≡ out
+    go fine e = keeps n p (own b ws) e
+    go (fault m q) e = refl
+
+-- ---- lent memory that the owner's windows are asked into
+
 module _ (owners : ℕ) (b : Board) (ws : List ℕ) where
-  pub own-given : (room v : ℕ) → ownAnswer owners b ws room ≡ given v → (sharedFault owners b ws ≡ fine) × (length (own b ws) ≡ v)
-  unfolding ownAnswer ownFault
-  own-given room v e =
-      let u = unless-given (sharedFault owners b ws orElse roomFault (length (own b ws)) room) _ v e in
-      (orElse-fine (sharedFault owners b ws) _ (u .0) .0, u .1)
+  -- n numbers of it are the owner's windows, which are a legal list
+  pub record Taken (n : ℕ) (out : List ℕ) : Type 0 where
+    pub shared : sharedFault owners b ws ≡ fine
+    pub few : n ≤ 2 * mostWindows
+    pub front : take n out ≡ own b ws
+    pub fine-front : tableFault b (take n out) ≡ fine
+
+  pub taken : (before after : List ℕ) (n : ℕ) → ownAnswer owners b ws (length before) ≡ given n → after ≡ ownOut owners b ws before → Taken n after
+  unfolding ownAnswer ownOut ownFault written
+  taken before after n e is =
+      let u = unless-given (sharedFault owners b ws orElse roomFault (length (own b ws)) (length before)) _ n e in
+      let f = orElse-fine (sharedFault owners b ws) _ (u .0) .0 in
+      let front : take n after ≡ own b ws = rw (is, u .0, ← (u .1)) (take-append-seam (own b ws) (drop (length (own b ws)) before)) in
+      record {
+        shared = f;
+        few = omega (arith, own-few owners b ws (shared-parts owners b ws f .0), u .1);
+        front = front;
+        fine-front = ap (tableFault b) front ∙ own-fine owners b ws f;
+      }
 
   -- where there is room for as many windows as a table may have, only the list is refused
-  pub own-refused : (room n p : ℕ) → 2 * mostWindows ≤ room → ownAnswer owners b ws room ≡ refused n p → sharedFault owners b ws ≡ fault n p
+  not-taken : (room n p : ℕ) → 2 * mostWindows ≤ room → ownAnswer owners b ws room ≡ refused n p → sharedFault owners b ws ≡ fault n p
   unfolding ownAnswer ownFault roomFault
-  own-refused room n p h e =
+  not-taken room n p h e =
       go (sharedFault owners b ws) refl
       (unless-refused (sharedFault owners b ws orElse roomFault (length (own b ws)) room) _ n p e)
     where
@@ -360,8 +386,10 @@ module _ (owners : ℕ) (b : Board) (ws : List ℕ) where
           let roomy : ltb room (length (own b ws)) ≡ false = le-ltb room (length (own b ws)) (omega arith) in
           absurd (fault-not-fine (sym (rw roomy at z)))
 
-  pub own-front : (out : List ℕ) (v : ℕ) → ownAnswer owners b ws (length out) ≡ given v → take v (ownOut owners b ws out) ≡ own b ws
-  unfolding ownAnswer ownOut written
-  own-front out v e =
-      let u = unless-given (ownFault owners b ws (length out)) _ v e in
-      rw (u .0, ← (u .1)) (take-append-seam (own b ws) (drop (length (own b ws)) out))
+  module _ {R : Type 0} (refusal : ℕ → ℕ → R) (entry : List ℕ → R) where
+    -- what is asked for an owner, by what was asked into the memory
+    pub asked-taken : {n : ℕ} {out : List ℕ} → Taken n out → entry (take n out) ≡ askedFor owners b ws refusal entry
+    asked-taken t = ap entry (t .front) ∙ sym (asked-fine owners b ws refusal entry (t .shared))
+
+    pub asked-not : (room n p : ℕ) → 2 * mostWindows ≤ room → ownAnswer owners b ws room ≡ refused n p → refusal n p ≡ askedFor owners b ws refusal entry
+    asked-not room n p h e = sym (asked-refused owners b ws refusal entry (not-taken room n p h e))

@@ -1,48 +1,34 @@
 use mathlib.Core.Path.{_≡_, sym, ap, _∙_}
-use mathlib.Core.List.{List}
-use Prim.Native.Nat.{ℕ, _/_, _≤_, _<_}
-use lib.ListN.{length}
-use Rattle.scope.specs.Numbers.{written}
-use Rattle.scope.specs.Partition.{maximalRuns}
-use Rattle.scope.specs.Answers.{Fault.fine, Answer.given, Answer.refused, tableFault, criticalOf, criticalAnswer, criticalOut}
-use Rattle.theory.specs.Answers.{LegalTable, table-legal}
-use Rattle.tables.specs.Told.{boardOf, faultOf}
 use native.Mathlib.Omega.{arith}
+use lib.Seq.{length-take-le}
+use Rattle.scope.specs.Limits.{teams}
+use Rattle.scope.specs.Answers.{Answer.refused, criticalAnswer, criticalOut}
+use Rattle.scope.specs.Shared.{kept, criticalFor, criticalOutFor}
+use Rattle.theory.specs.Shared.{Taken, taken, asked-taken, asked-not}
+use Rattle.tables.specs.Told.{boardOf, toldAmount}
 use borrow.Author.Needs.{needs}
-use Rattle.tables.proofs.FaultLaws.{refused-by, given-by, kept-by, written-by}
-use Rattle.supply.specs.Marks.{marked}
-use Rattle.supply.proofs.PartitionLaws.{marked-runs, critical-runs, critical-table, critical-short, critical-fine}
 use Rattle.supply.proofs.partition.critical.Statement.{statement}
 use Rattle.supply.proofs.partition.critical.Tie as tie
 use Rattle.supply.proofs.partition.critical.Reads as reads
 use Rattle.supply.proofs.partition.critical.Lts as lts
-use Rattle.supply.proofs.partition.count_edges.Reads as count-edges-reads
-use Rattle.supply.proofs.partition.mark_rises.Reads as mark-rises-reads
-use Rattle.supply.proofs.partition.refuse.Reads as refuse-reads
-use Rattle.supply.proofs.partition.unmarked.Reads as unmarked-reads
-use Rattle.supply.proofs.partition.write_edges.Reads as write-edges-reads
-use Rattle.tables.proofs.window.check_table.Reads as check-table-reads
+use Rattle.supply.proofs.partition.critical_on.Reads as critical-on-reads
+use Rattle.tables.proofs.answer.refuse.Reads as refuse-reads
+use Rattle.tables.proofs.shared.own_windows.Reads as own-windows-reads
 
--- past the match the table has no fault
-fine-at : (c : tie.After-enum-told) → let a = c .before .before .before .before .before .args in tableFault (boardOf (a .board)) (a .windows .now) ≡ fine
-fine-at c = sym (c .before .before .check-table .ensures) ∙ ap faultOf (c .enum-told .given .1)
-
-legal-at : (c : tie.After-enum-told) → let a = c .before .before .before .before .before .args in LegalTable (boardOf (a .board)) (a .windows .now)
-legal-at c = table-legal _ _ (fine-at c)
-
--- there is a mark for each tick, and the marked runs are the critical partition
-all-marked : (c : tie.After-mark-rises) →
+-- the owner's windows stand in the memory
+own-at : (c : tie.After-known-told2) →
     let a = c .before .before .before .before .before .before .before .before .args in
-    let marks = c .mark-rises .last .1 .1 .0 in
-    (a .board .frame ≤ length marks) × (maximalRuns (marked marks) (a .board .frame) ≡ criticalOf (boardOf (a .board)) (a .windows .now))
-all-marked c =
-    let e = c .mark-rises .ensures in (
-      omega (arith, e .1, c .before .before .unmarked .ensures, legal-at (c .before .before .before) .frame-most),
-      marked-runs _ _ _ (e .0) ∙ critical-runs _ _,
-    )
+    let r = c .before .before .before .before .own-windows in
+    Taken teams (boardOf (a .board)) (a .windows .now) (c .before .n .given .0 .0) (r .last .1 .1 .1 .0)
+own-at c =
+    let r = c .before .before .before .before .own-windows in
+    taken _ _ _ _ _ _ (sym (r .ensures .0) ∙ ap toldAmount (c .before .n .given .1)) (r .ensures .1)
 
-check-table-requires : tie.Need-check-table-requires
-check-table-requires c κs = search needs
+slice-aggregate-own-windows : tie.Need-slice-aggregate-own-windows
+slice-aggregate-own-windows c = search needs
+
+own-windows-requires : tie.Need-own-windows-requires
+own-windows-requires c κs = search needs
 
 enum-known-r : tie.Need-enum-known-r
 enum-known-r c = search needs
@@ -50,112 +36,58 @@ enum-known-r c = search needs
 refuse-requires : tie.Need-refuse-requires
 refuse-requires c κs = search needs
 
-enum-told : tie.Need-enum-told
-enum-told c = search needs
+enum-known-n : tie.Need-enum-known-n
+enum-known-n c = search needs
 
-unmarked-requires : tie.Need-unmarked-requires
-unmarked-requires c κs = search needs
+array-share-prefix-own : tie.Need-array-share-prefix-own
+array-share-prefix-own c = let t = own-at c in omega (arith, t .few)
 
-slice-aggregate-mark-rises : tie.Need-slice-aggregate-mark-rises
-slice-aggregate-mark-rises c = search needs
+slice-aggregate-critical-on : tie.Need-slice-aggregate-critical-on
+slice-aggregate-critical-on c = sym (length-take-le _ _ (array-share-prefix-own (c .before)))
 
-mark-rises-requires : tie.Need-mark-rises-requires
-mark-rises-requires c κs = let ok = legal-at (c .before .before) in (ok, omega (arith, c .before .unmarked .ensures, ok .frame-most))
-
-slice-aggregate-count-edges : tie.Need-slice-aggregate-count-edges
-slice-aggregate-count-edges c = search needs
-
-count-edges-requires : tie.Need-count-edges-requires
-count-edges-requires c κs =
-    let m = c .before .before in
-    (legal-at (m .before .before .before) .frame-most, all-marked m .0)
-
--- how many numbers there are
-counted : (c : tie.After-count-edges) → let a = c .before .before .before .before .before .before .before .before .before .before .before .args in
-    c .count-edges .result ≡ length (criticalOf (boardOf (a .board)) (a .windows .now))
-counted c = c .count-edges .ensures ∙ ap length (all-marked (c .before .before .before) .1)
-
-cast-numbers : tie.Need-cast-numbers
-cast-numbers c = search needs
-
-refuse-requires-2 : tie.Need-refuse-requires-2
-refuse-requires-2 c κs = search needs
-
-slice-aggregate-write-edges : tie.Need-slice-aggregate-write-edges
-slice-aggregate-write-edges c = search needs
-
-write-edges-requires : tie.Need-write-edges-requires
-write-edges-requires c κs =
-    let d = c .before .before .before in
-    let m = d .before .before .before in
-    let runs = all-marked m in
-    (legal-at (m .before .before .before) .frame-most, runs .0, omega (arith, ap length (runs .1), counted d, c .before .before .if1 .left))
+critical-on-requires : tie.Need-critical-on-requires
+critical-on-requires c κs = own-at (c .before .before) .fine-front
 
 same-length : tie.Need-same-length
 same-length c = search needs
 
 returns : tie.Need-returns
-unfolding criticalAnswer criticalOut
+unfolding criticalFor criticalOutFor
 returns c =
-    let a = c .before .before .before .before .before .before .before .before .before .before .args in
-    let e = sym (c .before .before .before .before .before .before .before .check-table .ensures)
-    ∙ ap faultOf (c .before .before .before .before .before .r .given .1) in
-    let f = critical-table (boardOf (a .board)) (a .windows .now) (length (a .out .now)) e in
-    let x = c .before .before .refuse .ensures in
-    (x .0 ∙ refused-by _ _ f, x .1 ∙ kept-by _ _ _ f)
+    let x = c .before .before in
+    let r = x .before .before .before .before .before .before .own-windows in
+    let e = sym (r .ensures .0) ∙ ap toldAmount (x .before .before .before .r .given .1) in
+    let a = x .before .before .before .before .before .before .before .before .before .before .args in (
+      x .refuse .ensures .0 ∙ asked-not _ _ _ refused (λ l. criticalAnswer _ l _) _ _ _ (omega arith) e,
+      x .refuse .ensures .1 ∙ asked-not _ _ _ (kept (a .out .now)) (λ l. criticalOut _ l _) _ _ _ (omega arith) e,
+    )
 
 same-length-2 : tie.Need-same-length-2
 same-length-2 c = search needs
 
 returns-2 : tie.Need-returns-2
-unfolding criticalAnswer criticalOut
+unfolding criticalFor criticalOutFor
 returns-2 c =
-    let d = c .before .before .before .before .before in
-    let a = d .before .before .before .before .before .before .before .before .before .before .before .args in
-    let e = counted d in
-    let h : length (a .out .now) < length (criticalOf (boardOf (a .board)) (a .windows .now)) =
-    omega (arith, e, c .before .before .before .before .if1 .taken) in
-    let f = critical-short (boardOf (a .board)) (a .windows .now) (length (a .out .now)) (fine-at (d .before .before .before .before .before .before)) h in
-    let x = c .before .before .refuse2 .ensures in
-    (x .0 ∙ ap (refused 8) e ∙ refused-by _ _ f, x .1 ∙ kept-by _ _ _ f)
-
-same-length-3 : tie.Need-same-length-3
-same-length-3 c = search needs
-
-returns-3 : tie.Need-returns-3
-unfolding criticalAnswer criticalOut
-returns-3 c =
-    let d = c .before .before .before .before .before .before in
-    let a = d .before .before .before .before .before .before .before .before .before .before .before .args in
-    let e = counted d in
-    let h : length (criticalOf (boardOf (a .board)) (a .windows .now)) ≤ length (a .out .now) =
-    omega (arith, e, c .before .before .before .before .before .if1 .left) in
-    let f = critical-fine (boardOf (a .board)) (a .windows .now) (length (a .out .now)) (fine-at (d .before .before .before .before .before .before)) h in (
-      ap (λ (n : ℕ). given (n / 2)) e ∙ given-by _ _ f,
-      c .before .before .write-edges .ensures
-          ∙ ap (λ (l : List ℕ). written l (a .out .now)) (all-marked (d .before .before .before) .1) ∙ written-by _ _ _ f,
+    let x = c .before .before in
+    let t = own-at (x .before .before .before) in
+    let a = x .before .before .before .before .before .before .before .before .before .before .before .args in (
+      x .critical-on .ensures .0 ∙ asked-taken _ _ _ refused (λ l. criticalAnswer _ l _) t,
+      x .critical-on .ensures .1 ∙ asked-taken _ _ _ (kept (a .out .now)) (λ l. criticalOut _ l _) t,
     )
 
 pub critical-spec : {M : Type 1} → statement M
 critical-spec =
     tie.close
     (tie.spec
-    check-table-requires
+    slice-aggregate-own-windows
+    own-windows-requires
     enum-known-r
     refuse-requires
-    enum-told
-    unmarked-requires
-    slice-aggregate-mark-rises
-    mark-rises-requires
-    slice-aggregate-count-edges
-    count-edges-requires
-    cast-numbers
-    refuse-requires-2
-    slice-aggregate-write-edges
-    write-edges-requires
+    enum-known-n
+    array-share-prefix-own
+    slice-aggregate-critical-on
+    critical-on-requires
     same-length
     returns
     same-length-2
-    returns-2
-    same-length-3
-    returns-3)
+    returns-2)

@@ -1,56 +1,69 @@
-use mathlib.Core.Path.{_≡_, sym, ap, ap₂, _∙_}
-use Prim.Native.Nat.{ℕ}
-use Rattle.scope.specs.Answers.{Fault.fine, Answer.given, tableFault, delayAnswer}
-use Rattle.theory.specs.Answers.{table-legal}
-use Rattle.tables.specs.Told.{boardOf, faultOf}
+use mathlib.Core.Path.{_≡_, sym, ap, _∙_}
 use native.Mathlib.Omega.{arith}
+use lib.Seq.{length-take-le}
+use Rattle.scope.specs.Limits.{teams}
+use Rattle.scope.specs.Answers.{Answer.refused, delayAnswer}
+use Rattle.scope.specs.Shared.{delayFor}
+use Rattle.theory.specs.Shared.{Taken, taken, asked-taken, asked-not}
+use Rattle.tables.specs.Told.{boardOf, toldAmount}
 use borrow.Author.Needs.{needs}
-use Rattle.tables.proofs.FaultLaws.{refused-by, given-by}
 use Rattle.supply.proofs.partition.delay.Statement.{statement}
 use Rattle.supply.proofs.partition.delay.Tie as tie
 use Rattle.supply.proofs.partition.delay.Reads as reads
 use Rattle.supply.proofs.partition.delay.Lts as lts
-use Rattle.supply.proofs.partition.delay_of.Reads as delay-of-reads
-use Rattle.supply.proofs.supply.least_at_ends.Reads as least-at-ends-reads
-use Rattle.tables.proofs.window.check_table.Reads as check-table-reads
+use Rattle.supply.proofs.partition.delay_on.Reads as delay-on-reads
+use Rattle.tables.proofs.shared.own_windows.Reads as own-windows-reads
 
--- past the match the table has no fault
-fine-at : (c : tie.After-enum-told) → let a = c .before .before .before .before .args in tableFault (boardOf (a .board)) (a .windows .now) ≡ fine
-fine-at c = sym (c .before .before .check-table .ensures) ∙ ap faultOf (c .enum-told .given .1)
+-- the owner's windows stand in the memory
+own-at : (c : tie.After-known-told2) →
+    let a = c .before .before .before .before .before .before .before .args in
+    let r = c .before .before .before .before .own-windows in
+    Taken teams (boardOf (a .board)) (a .windows .now) (c .before .n .given .0 .0) (r .last .1 .1 .1 .0)
+own-at c =
+    let r = c .before .before .before .before .own-windows in
+    taken _ _ _ _ _ _ (sym (r .ensures .0) ∙ ap toldAmount (c .before .n .given .1)) (r .ensures .1)
 
-check-table-requires : tie.Need-check-table-requires
-check-table-requires c κs = search needs
+slice-aggregate-own-windows : tie.Need-slice-aggregate-own-windows
+slice-aggregate-own-windows c = search needs
+
+own-windows-requires : tie.Need-own-windows-requires
+own-windows-requires c κs = search needs
 
 enum-known-r : tie.Need-enum-known-r
 enum-known-r c = search needs
 
-enum-told : tie.Need-enum-told
-enum-told c = search needs
+enum-known-n : tie.Need-enum-known-n
+enum-known-n c = search needs
 
-least-at-ends-requires : tie.Need-least-at-ends-requires
-least-at-ends-requires c κs = (table-legal _ _ (fine-at c), omega arith)
+array-share-prefix-own : tie.Need-array-share-prefix-own
+array-share-prefix-own c = let t = own-at c in omega (arith, t .few)
 
-delay-of-requires : tie.Need-delay-of-requires
-delay-of-requires c κs = let w = table-legal _ _ (fine-at (c .before)) in (w, c .least-at-ends .ensures .1)
+slice-aggregate-delay-on : tie.Need-slice-aggregate-delay-on
+slice-aggregate-delay-on c = sym (length-take-le _ _ (array-share-prefix-own (c .before)))
+
+delay-on-requires : tie.Need-delay-on-requires
+delay-on-requires c κs = own-at (c .before) .fine-front
 
 returns : tie.Need-returns
-unfolding delayAnswer
-returns c = refused-by _ _ (sym (c .before .before .before .check-table .ensures) ∙ ap faultOf (c .before .r .given .1))
+unfolding delayFor
+returns c =
+    let r = c .before .before .before .before .own-windows in
+    asked-not _ _ _ refused (delayAnswer _) _ _ _ (omega arith) (sym (r .ensures .0) ∙ ap toldAmount (c .before .r .given .1))
 
 returns-2 : tie.Need-returns-2
-unfolding delayAnswer
-returns-2 c =
-    ap₂ (λ (d a : ℕ). given (record { delay = d; A = a })) (c .delay-of .ensures) (c .before .least-at-ends .ensures .1)
-    ∙ given-by _ _ (fine-at (c .before .before))
+unfolding delayFor
+returns-2 c = c .delay-on .ensures ∙ asked-taken _ _ _ refused (delayAnswer _) (own-at (c .before .before))
 
 pub delay-spec : {M : Type 1} → statement M
 delay-spec =
     tie.close
     (tie.spec
-    check-table-requires
+    slice-aggregate-own-windows
+    own-windows-requires
     enum-known-r
-    enum-told
-    least-at-ends-requires
-    delay-of-requires
+    enum-known-n
+    array-share-prefix-own
+    slice-aggregate-delay-on
+    delay-on-requires
     returns
     returns-2)

@@ -1,40 +1,72 @@
 use mathlib.Core.Path.{_≡_, sym, ap, _∙_}
-use Rattle.scope.specs.Answers.{Fault.fine, Answer.given, tableFault, suppliedAnswer}
-use Rattle.tables.specs.Told.{boardOf, faultOf}
-use Rattle.tables.proofs.FaultLaws.{refused-by, given-by}
+use native.Mathlib.Omega.{arith}
+use lib.Seq.{length-take-le}
+use Rattle.scope.specs.Limits.{teams}
+use Rattle.scope.specs.Answers.{Answer.refused, Answer.given, tableFault, suppliedAnswer}
+use Rattle.scope.specs.Shared.{suppliedFor}
+use Rattle.theory.specs.Shared.{Taken, taken, asked-taken, asked-not}
+use Rattle.tables.specs.Told.{boardOf, toldAmount}
+use Rattle.tables.proofs.FaultLaws.{given-by}
 use borrow.Author.Needs.{needs}
 use Rattle.supply.proofs.supply.supplied.Statement.{statement}
 use Rattle.supply.proofs.supply.supplied.Tie as tie
 use Rattle.supply.proofs.supply.supplied.Reads as reads
 use Rattle.supply.proofs.supply.supplied.Lts as lts
+use Rattle.tables.proofs.shared.own_windows.Reads as own-windows-reads
 use Rattle.tables.proofs.window.is_on.Reads as is-on-reads
-use Rattle.tables.proofs.window.check_table.Reads as check-table-reads
 
--- a table that is not bad has no fault
-fine-at : (c : tie.After-enum-told) → let a = c .before .before .before .before .args in tableFault (boardOf (a .board)) (a .windows .now) ≡ fine
-fine-at c = sym (c .before .before .check-table .ensures) ∙ ap faultOf (c .enum-told .given .1)
+-- the owner's windows stand in the memory
+own-at : (c : tie.After-known-told2) →
+    let a = c .before .before .before .before .before .before .before .args in
+    let r = c .before .before .before .before .own-windows in
+    Taken teams (boardOf (a .board)) (a .windows .now) (c .before .n .given .0 .0) (r .last .1 .1 .1 .0)
+own-at c =
+    let r = c .before .before .before .before .own-windows in
+    taken _ _ _ _ _ _ (sym (r .ensures .0) ∙ ap toldAmount (c .before .n .given .1)) (r .ensures .1)
 
-check-table-requires : tie.Need-check-table-requires
-check-table-requires c κs = search needs
+slice-aggregate-own-windows : tie.Need-slice-aggregate-own-windows
+slice-aggregate-own-windows c = search needs
+
+own-windows-requires : tie.Need-own-windows-requires
+own-windows-requires c κs = search needs
 
 enum-known-r : tie.Need-enum-known-r
 enum-known-r c = search needs
 
-enum-told : tie.Need-enum-told
-enum-told c = search needs
+enum-known-n : tie.Need-enum-known-n
+enum-known-n c = search needs
+
+array-share-prefix-own : tie.Need-array-share-prefix-own
+array-share-prefix-own c = let t = own-at c in omega (arith, t .few)
+
+slice-aggregate-is-on : tie.Need-slice-aggregate-is-on
+slice-aggregate-is-on c = sym (length-take-le _ _ (array-share-prefix-own (c .before)))
 
 is-on-requires : tie.Need-is-on-requires
 is-on-requires c κs = search needs
 
 returns : tie.Need-returns
-unfolding suppliedAnswer
-returns c = refused-by (tableFault _ _) _ (sym (c .before .before .before .check-table .ensures) ∙ ap faultOf (c .before .r .given .1))
+unfolding suppliedFor
+returns c =
+    let r = c .before .before .before .before .own-windows in
+    asked-not _ _ _ refused (λ l. suppliedAnswer _ l _) _ _ _ (omega arith) (sym (r .ensures .0) ∙ ap toldAmount (c .before .r .given .1))
 
 returns-2 : tie.Need-returns-2
-unfolding suppliedAnswer
-returns-2 c = ap given (c .is-on .ensures) ∙ given-by (tableFault _ _) _ (fine-at (c .before))
+unfolding suppliedFor suppliedAnswer
+returns-2 c =
+    let t = own-at (c .before .before) in
+    ap given (c .is-on .ensures) ∙ given-by (tableFault _ _) _ (t .fine-front) ∙ asked-taken _ _ _ refused (λ l. suppliedAnswer _ l _) t
 
 pub supplied-spec : {M : Type 1} → statement M
 supplied-spec =
     tie.close
-    (tie.spec check-table-requires enum-known-r enum-told is-on-requires returns returns-2)
+    (tie.spec
+    slice-aggregate-own-windows
+    own-windows-requires
+    enum-known-r
+    enum-known-n
+    array-share-prefix-own
+    slice-aggregate-is-on
+    is-on-requires
+    returns
+    returns-2)
