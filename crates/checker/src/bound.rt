@@ -1,10 +1,14 @@
 use crate::least::least_of;
+use tables::answer::Amount;
 use tables::answer::Bound;
 use tables::answer::Checked;
 use tables::answer::Refusal;
 use tables::board::Board;
-use tables::task::check_group;
+use tables::shared::Owned;
+use tables::shared::own_windows;
+use tables::task::check_tasks;
 use tables::task::task_at;
+use tables::window::Window;
 ghost use mathlib.Core.Path.{_≡_};
 ghost use Prim.Native.Nat.{_≤_, _<_, _/_};
 ghost use lib.ListN.{length as lengthOf};
@@ -13,6 +17,7 @@ ghost use Rattle.scope.specs.Windows.{suppliedBy};
 ghost use Rattle.scope.specs.Tasks.{tasksOf};
 ghost use Rattle.scope.specs.Bound.{ceil, asked, response};
 ghost use Rattle.scope.specs.Answers.{boundAnswer, tableFault, Fault.fine, Answer.given};
+ghost use Rattle.scope.specs.Shared.{boundFor};
 ghost use Rattle.theory.specs.Answers.{LegalGroup};
 ghost use Rattle.tables.specs.Told.{boardOf, toldBound};
 
@@ -62,11 +67,12 @@ fn response_of(board: Board, windows: &[u32], tasks: &[u32], index: usize) -> Bo
     Bound::NoBound
 }
 
-// The response bound of task `index` under fixed priority, lower index first. Refusals 1 2 3 4 5 7.
-pub fn bound(board: Board, windows: &[u32], tasks: &[u32], index: u32) -> Bound
+// The bound on a legal list of windows. Refusals 4 5 7.
+fn bound_on(board: Board, windows: &[u32], tasks: &[u32], index: u32) -> Bound
+    requires { ⌜ tableFault (boardOf board) (now windows) ≡ fine ⌝ }
     ensures { λ r. ⌜ toldBound r ≡ boundAnswer (boardOf board) (now (windows .entry)) (now (tasks .entry)) index ⌝ }
 {
-    match check_group(board, windows, tasks) {
+    match check_tasks(tasks) {
         Checked::Bad(r) => Bound::Refused(r),
         Checked::Fine => {
             let i = index as usize;
@@ -76,5 +82,16 @@ pub fn bound(board: Board, windows: &[u32], tasks: &[u32], index: u32) -> Bound
                 response_of(board, windows, tasks, i)
             }
         }
+    }
+}
+
+// The response bound of task `index` under fixed priority, lower index first, on the asked owner's windows. Refusals 1 2 3, 1 of an absent owner, 4 5 7.
+pub fn bound(board: Board, windows: &[u32], tasks: &[u32], index: u32) -> Bound
+    ensures { λ r. ⌜ toldBound r ≡ boundFor (boardOf board) (now (windows .entry)) (now (tasks .entry)) index ⌝ }
+{
+    let mut own = [0; 2 * Window::MOST];
+    match own_windows(Owned::TEAMS, board, windows, &mut own) {
+        Amount::Refused(r) => Bound::Refused(r),
+        Amount::Of(n) => bound_on(board, &own[..n as usize], tasks, index),
     }
 }

@@ -4,15 +4,18 @@ use tables::answer::Checked;
 use tables::answer::Margin;
 use tables::board::Board;
 use tables::length::check_length;
-use tables::task::check_group;
+use tables::shared::Owned;
+use tables::shared::own_windows;
 use tables::task::check_tasks;
 use tables::task::task_at;
+use tables::window::Window;
 ghost use mathlib.Core.Path.{_≡_};
 ghost use Prim.Native.Nat.{_*_, _≤_};
 ghost use lib.IntN.{pos, _-ℤ_};
 ghost use Rattle.scope.specs.Limits.{mostTasks, mostOfTask, mostLength};
 ghost use Rattle.scope.specs.Tasks.{tasksOf, demand as demandBy};
-ghost use Rattle.scope.specs.Answers.{demandAnswer, marginAnswer};
+ghost use Rattle.scope.specs.Answers.{Fault.fine, tableFault, demandAnswer, marginAnswer};
+ghost use Rattle.scope.specs.Shared.{marginFor};
 ghost use Rattle.theory.specs.Answers.{LegalGroup};
 ghost use Rattle.tables.specs.Told.{boardOf, toldAmount, toldMargin};
 
@@ -53,11 +56,12 @@ pub fn demand(tasks: &[u32], length: u32) -> Amount
     }
 }
 
-// Least supply minus demand at a length. Refusals 1 2 3 4 5 7.
-pub fn margin(board: Board, windows: &[u32], tasks: &[u32], length: u32) -> Margin
+// The margin on a legal list of windows. Refusals 4 5 7.
+fn margin_on(board: Board, windows: &[u32], tasks: &[u32], length: u32) -> Margin
+    requires { ⌜ tableFault (boardOf board) (now windows) ≡ fine ⌝ }
     ensures { λ r. ⌜ toldMargin r ≡ marginAnswer (boardOf board) (now (windows .entry)) (now (tasks .entry)) length ⌝ }
 {
-    match check_group(board, windows, tasks) {
+    match check_tasks(tasks) {
         Checked::Bad(r) => Margin::Refused(r),
         Checked::Fine => match check_length(length) {
             Checked::Bad(r) => Margin::Refused(r),
@@ -67,5 +71,16 @@ pub fn margin(board: Board, windows: &[u32], tasks: &[u32], length: u32) -> Marg
                 Margin::Of(difference(supply, demand))
             }
         },
+    }
+}
+
+// Least supply of the asked owner's windows minus demand, at a length. Refusals 1 2 3, 1 of an absent owner, 4 5 7.
+pub fn margin(board: Board, windows: &[u32], tasks: &[u32], length: u32) -> Margin
+    ensures { λ r. ⌜ toldMargin r ≡ marginFor (boardOf board) (now (windows .entry)) (now (tasks .entry)) length ⌝ }
+{
+    let mut own = [0; 2 * Window::MOST];
+    match own_windows(Owned::TEAMS, board, windows, &mut own) {
+        Amount::Refused(r) => Margin::Refused(r),
+        Amount::Of(n) => margin_on(board, &own[..n as usize], tasks, length),
     }
 }

@@ -5,12 +5,16 @@ use crate::rise::first_due;
 use crate::rise::rise_at;
 use crate::stretch::first_ticks;
 use crate::stretch::slid;
+use tables::answer::Amount;
 use tables::answer::Checked;
 use tables::answer::Refusal;
 use tables::answer::Verdict;
 use tables::board::Board;
+use tables::shared::Owned;
+use tables::shared::own_windows;
 use tables::task::Task;
-use tables::task::check_group;
+use tables::task::check_tasks;
+use tables::window::Window;
 ghost use mathlib.Core.Path.{_≡_};
 ghost use mathlib.Core.Bool.{cond};
 ghost use Prim.Native.Nat.{_≤_};
@@ -21,6 +25,7 @@ ghost use Rattle.scope.specs.Windows.{suppliedBy};
 ghost use Rattle.scope.specs.Tasks.{tasksOf};
 ghost use Rattle.scope.specs.Verdict.{verdict as verdictBy};
 ghost use Rattle.scope.specs.Answers.{verdictAnswer, tableFault, Fault.fine, Answer.given};
+ghost use Rattle.scope.specs.Shared.{verdictFor};
 ghost use Rattle.theory.specs.Answers.{LegalGroup};
 ghost use Rattle.tables.specs.Told.{boardOf, toldVerdict};
 
@@ -77,15 +82,28 @@ fn search(board: Board, windows: &[u32], tasks: &[u32], cycle: u32) -> Verdict
     found
 }
 
-// Whether the group meets its deadlines under earliest deadline first, or the miss. Refusals 1 2 3 4 5 6.
-pub fn verdict(board: Board, windows: &[u32], tasks: &[u32]) -> Verdict
+// The verdict on a legal list of windows. Refusals 4 5 6.
+fn verdict_on(board: Board, windows: &[u32], tasks: &[u32]) -> Verdict
+    requires { ⌜ tableFault (boardOf board) (now windows) ≡ fine ⌝ }
     ensures { λ r. ⌜ toldVerdict r ≡ verdictAnswer (boardOf board) (now (windows .entry)) (now (tasks .entry)) ⌝ }
 {
-    match check_group(board, windows, tasks) {
+    match check_tasks(tasks) {
         Checked::Bad(r) => Verdict::Refused(r),
         Checked::Fine => match cycle_of(board, tasks) {
             Cycle::Over => Verdict::Refused(Refusal::Cycle),
             Cycle::Of(cycle) => search(board, windows, tasks, cycle),
         },
+    }
+}
+
+// Whether the group meets its deadlines under earliest deadline first on the asked owner's windows, or the miss. Refusals 1 2 3, 1 of an absent owner,
+// 4 5 6.
+pub fn verdict(board: Board, windows: &[u32], tasks: &[u32]) -> Verdict
+    ensures { λ r. ⌜ toldVerdict r ≡ verdictFor (boardOf board) (now (windows .entry)) (now (tasks .entry)) ⌝ }
+{
+    let mut own = [0; 2 * Window::MOST];
+    match own_windows(Owned::TEAMS, board, windows, &mut own) {
+        Amount::Refused(r) => Verdict::Refused(r),
+        Amount::Of(n) => verdict_on(board, &own[..n as usize], tasks),
     }
 }

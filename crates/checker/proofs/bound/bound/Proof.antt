@@ -1,56 +1,69 @@
-use Rattle.checker.proofs.BoundLaws.{bound-refused, bound-absent, bound-given}
-use Rattle.tables.specs.Told.{boardOf, faultOf}
-use Rattle.theory.specs.Answers.{orElse-fine, checked-legal}
-use Rattle.theory.specs.Lists.{pieces-length}
-use Rattle.scope.specs.Answers.{Fault.fine, _orElse_, tableFault, groupFault}
-use Rattle.scope.specs.Tasks.{task}
-use mathlib.Core.Path.{sym, ap, _∙_, _≡_}
+use mathlib.Core.Path.{_≡_, sym, ap, _∙_}
 use native.Mathlib.Omega.{arith}
+use lib.Seq.{length-take-le}
+use Rattle.scope.specs.Limits.{teams}
+use Rattle.scope.specs.Answers.{Answer.refused, boundAnswer}
+use Rattle.scope.specs.Shared.{boundFor}
+use Rattle.theory.specs.Shared.{Taken, taken, asked-taken, asked-not}
+use Rattle.tables.specs.Told.{boardOf, toldAmount}
 use borrow.Author.Needs.{needs}
 use Rattle.checker.proofs.bound.bound.Statement.{statement}
 use Rattle.checker.proofs.bound.bound.Tie as tie
 use Rattle.checker.proofs.bound.bound.Reads as reads
 use Rattle.checker.proofs.bound.bound.Lts as lts
-use Rattle.checker.proofs.bound.response_of.Reads as response-of-reads
-use Rattle.tables.proofs.task.check_group.Reads as check-group-reads
+use Rattle.checker.proofs.bound.bound_on.Reads as bound-on-reads
+use Rattle.tables.proofs.shared.own_windows.Reads as own-windows-reads
 
-check-group-requires : tie.Need-check-group-requires
-check-group-requires c κs = search needs
+-- the owner's windows stand in the memory
+own-at : (c : tie.After-known-told2) →
+    let a = c .before .before .before .before .before .before .before .before .args in
+    let r = c .before .before .before .before .own-windows in
+    Taken teams (boardOf (a .board)) (a .windows .now) (c .before .n .given .0 .0) (r .last .1 .1 .1 .0)
+own-at c =
+    let r = c .before .before .before .before .own-windows in
+    taken _ _ _ _ _ _ (sym (r .ensures .0) ∙ ap toldAmount (c .before .n .given .1)) (r .ensures .1)
+
+slice-aggregate-own-windows : tie.Need-slice-aggregate-own-windows
+slice-aggregate-own-windows c = search needs
+
+own-windows-requires : tie.Need-own-windows-requires
+own-windows-requires c κs = search needs
 
 enum-known-r : tie.Need-enum-known-r
 enum-known-r c = search needs
 
-enum-told : tie.Need-enum-told
-enum-told c = search needs
+enum-known-n : tie.Need-enum-known-n
+enum-known-n c = search needs
 
--- both checks have passed
-group-fine : (c : tie.After-enum-told) → let a = c .before .before .before .before .before .args in
-    (tableFault (boardOf (a .board)) (a .windows .now) orElse groupFault (a .tasks .now)) ≡ fine
-group-fine c = sym (c .before .before .check-group .ensures) ∙ ap faultOf (c .enum-told .given .1)
+array-share-prefix-own : tie.Need-array-share-prefix-own
+array-share-prefix-own c = let t = own-at c in omega (arith, t .few)
 
-response-of-requires : tie.Need-response-of-requires
-response-of-requires c κs =
-    let e = group-fine (c .before) in
-    let there = pieces-length _ 3 task (c .before .before .before .before .before .before .args .tasks .now) in
-    (orElse-fine (tableFault _ _) (groupFault _) e .0, checked-legal _ _ _ e .1, omega arith)
+slice-aggregate-bound-on : tie.Need-slice-aggregate-bound-on
+slice-aggregate-bound-on c = sym (length-take-le _ _ (array-share-prefix-own (c .before)))
+
+bound-on-requires : tie.Need-bound-on-requires
+bound-on-requires c κs = own-at (c .before) .fine-front
 
 returns : tie.Need-returns
-returns c = bound-refused _ _ _ _ (sym (c .before .before .before .check-group .ensures) ∙ ap faultOf (c .before .r .given .1))
+unfolding boundFor
+returns c =
+    let r = c .before .before .before .before .own-windows in
+    asked-not _ _ _ refused (λ l. boundAnswer _ l _ _) _ _ _ (omega arith) (sym (r .ensures .0) ∙ ap toldAmount (c .before .r .given .1))
 
 returns-2 : tie.Need-returns-2
-returns-2 c = bound-absent _ _ _ _ (group-fine (c .before)) (c .if1 .taken)
-
-returns-3 : tie.Need-returns-3
-returns-3 c = c .response-of .ensures ∙ bound-given _ _ _ _ (group-fine (c .before .before)) (c .before .if1 .left)
+unfolding boundFor
+returns-2 c = c .bound-on .ensures ∙ asked-taken _ _ _ refused (λ l. boundAnswer _ l _ _) (own-at (c .before .before))
 
 pub bound-spec : {M : Type 1} → statement M
 bound-spec =
     tie.close
     (tie.spec
-    check-group-requires
+    slice-aggregate-own-windows
+    own-windows-requires
     enum-known-r
-    enum-told
-    response-of-requires
+    enum-known-n
+    array-share-prefix-own
+    slice-aggregate-bound-on
+    bound-on-requires
     returns
-    returns-2
-    returns-3)
+    returns-2)

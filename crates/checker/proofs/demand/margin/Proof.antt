@@ -1,84 +1,69 @@
 use mathlib.Core.Path.{_≡_, sym, ap, _∙_}
-use Rattle.scope.specs.Answers.{Fault.fine, _orElse_, Answer.given, tableFault, groupFault, lengthFault}
-use Rattle.theory.specs.Answers.{orElse-fine, checked-legal, length-legal}
-use Rattle.tables.specs.Told.{boardOf, faultOf}
-use Rattle.checker.proofs.DemandLaws.{margin-is, margin-refused, margin-late, margin-given}
 use native.Mathlib.Omega.{arith}
+use lib.Seq.{length-take-le}
+use Rattle.scope.specs.Limits.{teams}
+use Rattle.scope.specs.Answers.{Answer.refused, marginAnswer}
+use Rattle.scope.specs.Shared.{marginFor}
+use Rattle.theory.specs.Shared.{Taken, taken, asked-taken, asked-not}
+use Rattle.tables.specs.Told.{boardOf, toldAmount}
 use borrow.Author.Needs.{needs}
 use Rattle.checker.proofs.demand.margin.Statement.{statement}
 use Rattle.checker.proofs.demand.margin.Tie as tie
 use Rattle.checker.proofs.demand.margin.Reads as reads
 use Rattle.checker.proofs.demand.margin.Lts as lts
-use Rattle.checker.proofs.demand.demand_of.Reads as demand-of-reads
-use Rattle.checker.proofs.demand.difference.Reads as difference-reads
-use Rattle.tables.proofs.length.check_length.Reads as check-length-reads
-use Rattle.checker.proofs.least.least_of.Reads as least-of-reads
-use Rattle.tables.proofs.task.check_group.Reads as check-group-reads
+use Rattle.checker.proofs.demand.margin_on.Reads as margin-on-reads
+use Rattle.tables.proofs.shared.own_windows.Reads as own-windows-reads
 
-check-group-requires : tie.Need-check-group-requires
-check-group-requires c κs = search needs
+-- the owner's windows stand in the memory
+own-at : (c : tie.After-known-told2) →
+    let a = c .before .before .before .before .before .before .before .before .args in
+    let r = c .before .before .before .before .own-windows in
+    Taken teams (boardOf (a .board)) (a .windows .now) (c .before .n .given .0 .0) (r .last .1 .1 .1 .0)
+own-at c =
+    let r = c .before .before .before .before .own-windows in
+    taken _ _ _ _ _ _ (sym (r .ensures .0) ∙ ap toldAmount (c .before .n .given .1)) (r .ensures .1)
+
+slice-aggregate-own-windows : tie.Need-slice-aggregate-own-windows
+slice-aggregate-own-windows c = search needs
+
+own-windows-requires : tie.Need-own-windows-requires
+own-windows-requires c κs = search needs
 
 enum-known-r : tie.Need-enum-known-r
 enum-known-r c = search needs
 
-enum-told : tie.Need-enum-told
-enum-told c = search needs
+enum-known-n : tie.Need-enum-known-n
+enum-known-n c = search needs
 
-check-length-requires : tie.Need-check-length-requires
-check-length-requires c κs = search needs
+array-share-prefix-own : tie.Need-array-share-prefix-own
+array-share-prefix-own c = let t = own-at c in omega (arith, t .few)
 
-enum-known-r-2 : tie.Need-enum-known-r-2
-enum-known-r-2 c = search needs
+slice-aggregate-margin-on : tie.Need-slice-aggregate-margin-on
+slice-aggregate-margin-on c = sym (length-take-le _ _ (array-share-prefix-own (c .before)))
 
-enum-told-2 : tie.Need-enum-told-2
-enum-told-2 c = search needs
-
--- both checks have passed
-group-fine : (c : tie.After-enum-told) → let a = c .before .before .before .before .before .args in
-    (tableFault (boardOf (a .board)) (a .windows .now) orElse groupFault (a .tasks .now)) ≡ fine
-group-fine c = sym (c .before .before .check-group .ensures) ∙ ap faultOf (c .enum-told .given .1)
-
-length-fine : (c : tie.After-enum-told2) → lengthFault (c .before .before .before .before .before .before .before .before .args .length) ≡ fine
-length-fine c = sym (c .before .before .check-length .ensures) ∙ ap faultOf (c .enum-told2 .given .1)
-
-least-of-requires : tie.Need-least-of-requires
-least-of-requires c κs =
-    (orElse-fine (tableFault _ _) (groupFault _) (group-fine (c .before .before .before)) .0, length-legal _ (length-fine c))
-
-demand-of-requires : tie.Need-demand-of-requires
-demand-of-requires c κs =
-    (checked-legal _ _ _ (group-fine (c .before .before .before .before)) .1, length-legal _ (length-fine (c .before)))
-
-difference-requires : tie.Need-difference-requires
-difference-requires c κs = c .demand-of .ensures .1
+margin-on-requires : tie.Need-margin-on-requires
+margin-on-requires c κs = own-at (c .before) .fine-front
 
 returns : tie.Need-returns
-returns c = margin-refused _ _ _ _ (sym (c .before .before .before .check-group .ensures) ∙ ap faultOf (c .before .r .given .1))
+unfolding marginFor
+returns c =
+    let r = c .before .before .before .before .own-windows in
+    asked-not _ _ _ refused (λ l. marginAnswer _ l _ _) _ _ _ (omega arith) (sym (r .ensures .0) ∙ ap toldAmount (c .before .r .given .1))
 
 returns-2 : tie.Need-returns-2
-returns-2 c = margin-late _ _ _ _ (group-fine (c .before .before .before .before))
-    (sym (c .before .before .before .check-length .ensures) ∙ ap faultOf (c .before .r2 .given .1))
-
-returns-3 : tie.Need-returns-3
-returns-3 c =
-    let s = c .before .before .least-of in
-    let d = c .before .demand-of in
-    let e = margin-is _ _ _ _ (s .result) (d .result) _ (omega arith) (omega (arith, d .ensures .1)) (s .ensures) (d .ensures .0) (c .difference .ensures) in
-    ap given e ∙ margin-given _ _ _ _ (group-fine (c .before .before .before .before .before .before)) (length-fine (c .before .before .before))
+unfolding marginFor
+returns-2 c = c .margin-on .ensures ∙ asked-taken _ _ _ refused (λ l. marginAnswer _ l _ _) (own-at (c .before .before))
 
 pub margin-spec : {M : Type 1} → statement M
 margin-spec =
     tie.close
     (tie.spec
-    check-group-requires
+    slice-aggregate-own-windows
+    own-windows-requires
     enum-known-r
-    enum-told
-    check-length-requires
-    enum-known-r-2
-    enum-told-2
-    least-of-requires
-    demand-of-requires
-    difference-requires
+    enum-known-n
+    array-share-prefix-own
+    slice-aggregate-margin-on
+    margin-on-requires
     returns
-    returns-2
-    returns-3)
+    returns-2)

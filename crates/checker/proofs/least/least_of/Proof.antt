@@ -10,10 +10,10 @@ use Rattle.checker.proofs.least.least_of.Statement.{statement}
 use Rattle.checker.proofs.least.least_of.Tie as tie
 use Rattle.checker.proofs.least.least_of.Reads as reads
 use Rattle.checker.proofs.least.least_of.Lts as lts
-use Rattle.supply.proofs.supply.least_supply.Reads as least-supply-reads
+use Rattle.supply.proofs.supply.least_in.Reads as least-in-reads
 
-least-supply-requires : tie.Need-least-supply-requires
-least-supply-requires c κs = search needs
+least-in-requires : tie.Need-least-in-requires
+least-in-requires c κs = search needs
 
 enum-known-least : tie.Need-enum-known-least
 enum-known-least c = search needs
@@ -24,7 +24,7 @@ told : (c : tie.After-known-told) → let a = c .before .before .before .before 
     × (c .before .least .given .0 .0 ≤ a .length)
 told c =
     let p = c .before .before .before .before .before .pre in
-    least-told _ _ _ (p .0) (p .1) _ (sym (ap toldAmount (c .before .least .given .1)) ∙ c .before .before .before .least-supply .ensures)
+    least-told _ _ _ (p .0) (p .1) _ (sym (ap toldAmount (c .before .least .given .1)) ∙ c .before .before .before .least-in .ensures)
 
 cast-result : tie.Need-cast-result
 cast-result c = omega (arith, told c, c .before .before .before .before .before .pre .1)
@@ -38,7 +38,7 @@ returns c = told c .0
 returns-2 : tie.Need-returns-2
 returns-2 c =
     let p = c .before .before .before .before .pre in
-    absurd (least-not-refused _ _ _ (p .0) (p .1) _ _ (sym (ap toldAmount (c .enum-told .given .1)) ∙ c .before .before .least-supply .ensures))
+    absurd (least-not-refused _ _ _ (p .0) (p .1) _ _ (sym (ap toldAmount (c .enum-told .given .1)) ∙ c .before .before .least-in .ensures))
 
 pub least-of-spec : {M : Type 1} → statement M
-least-of-spec = tie.close (tie.spec least-supply-requires enum-known-least cast-result enum-told returns returns-2)
+least-of-spec = tie.close (tie.spec least-in-requires enum-known-least cast-result enum-told returns returns-2)

@@ -1,86 +1,69 @@
-use Rattle.scope.specs.Limits.{mostCycle}
-use Rattle.checker.proofs.VerdictLaws.{verdict-refused, verdict-over, verdict-given}
-use Rattle.checker.proofs.CycleLaws.{was-over, was-found}
-use Rattle.tables.specs.Told.{boardOf, faultOf}
-use Rattle.theory.specs.Answers.{orElse-fine, checked-legal}
-use Rattle.scope.specs.Windows.{suppliedBy}
-use Rattle.scope.specs.Tasks.{tasksOf}
-use Rattle.scope.specs.Cycle.{cycle}
-use Rattle.scope.specs.Verdict.{verdict}
-use Rattle.scope.specs.Answers.{Fault.fine, Answer.given, _orElse_, tableFault, groupFault}
-use mathlib.Core.Path.{sym, ap, _∙_, _≡_}
+use mathlib.Core.Path.{_≡_, sym, ap, _∙_}
 use native.Mathlib.Omega.{arith}
-use Prim.Native.Nat.{ℕ, _≤_}
+use lib.Seq.{length-take-le}
+use Rattle.scope.specs.Limits.{teams}
+use Rattle.scope.specs.Answers.{Answer.refused, verdictAnswer}
+use Rattle.scope.specs.Shared.{verdictFor}
+use Rattle.theory.specs.Shared.{Taken, taken, asked-taken, asked-not}
+use Rattle.tables.specs.Told.{boardOf, toldAmount}
 use borrow.Author.Needs.{needs}
 use Rattle.checker.proofs.verdict.verdict.Statement.{statement}
 use Rattle.checker.proofs.verdict.verdict.Tie as tie
 use Rattle.checker.proofs.verdict.verdict.Reads as reads
 use Rattle.checker.proofs.verdict.verdict.Lts as lts
-use Rattle.checker.proofs.cycle.cycle_of.Reads as cycle-of-reads
-use Rattle.tables.proofs.task.check_group.Reads as check-group-reads
-use Rattle.checker.proofs.verdict.search.Reads as search-reads
+use Rattle.checker.proofs.verdict.verdict_on.Reads as verdict-on-reads
+use Rattle.tables.proofs.shared.own_windows.Reads as own-windows-reads
 
-check-group-requires : tie.Need-check-group-requires
-check-group-requires c κs = search needs
+-- the owner's windows stand in the memory
+own-at : (c : tie.After-known-told2) →
+    let a = c .before .before .before .before .before .before .before .before .args in
+    let r = c .before .before .before .before .own-windows in
+    Taken teams (boardOf (a .board)) (a .windows .now) (c .before .n .given .0 .0) (r .last .1 .1 .1 .0)
+own-at c =
+    let r = c .before .before .before .before .own-windows in
+    taken _ _ _ _ _ _ (sym (r .ensures .0) ∙ ap toldAmount (c .before .n .given .1)) (r .ensures .1)
+
+slice-aggregate-own-windows : tie.Need-slice-aggregate-own-windows
+slice-aggregate-own-windows c = search needs
+
+own-windows-requires : tie.Need-own-windows-requires
+own-windows-requires c κs = search needs
 
 enum-known-r : tie.Need-enum-known-r
 enum-known-r c = search needs
 
-enum-told : tie.Need-enum-told
-enum-told c = search needs
+enum-known-n : tie.Need-enum-known-n
+enum-known-n c = search needs
 
--- both checks have passed
-group-fine : (c : tie.After-enum-told) → let a = c .before .before .before .before .before .args in
-    (tableFault (boardOf (a .board)) (a .windows .now) orElse groupFault (a .tasks .now)) ≡ fine
-group-fine c = sym (c .before .before .check-group .ensures) ∙ ap faultOf (c .enum-told .given .1)
+array-share-prefix-own : tie.Need-array-share-prefix-own
+array-share-prefix-own c = let t = own-at c in omega (arith, t .few)
 
--- and the cycle is within its limit
-cycle-fine : (c : tie.After-known-told2) → let a = c .before .before .before .before .before .before .before .before .before .args in
-    (cycle (a .board .frame) (tasksOf (a .tasks .now)) ≡ c .before .cycle .given .0 .0) × (cycle (a .board .frame) (tasksOf (a .tasks .now)) ≤ mostCycle)
-cycle-fine c = was-found _ _ (sym (c .before .before .before .cycle-of .ensures) ∙ c .before .cycle .given .1)
+slice-aggregate-verdict-on : tie.Need-slice-aggregate-verdict-on
+slice-aggregate-verdict-on c = sym (length-take-le _ _ (array-share-prefix-own (c .before)))
 
-cycle-of-requires : tie.Need-cycle-of-requires
-cycle-of-requires c κs = let k = checked-legal _ _ _ (group-fine c) in (k .0 .frame, k .0 .frame-most, k .1)
-
-enum-told-2 : tie.Need-enum-told-2
-enum-told-2 c = search needs
-
-enum-known-cycle : tie.Need-enum-known-cycle
-enum-known-cycle c = search needs
-
-search-requires : tie.Need-search-requires
-search-requires c κs =
-    let e = group-fine (c .before .before .before .before) in
-    let h = cycle-fine c in
-    (orElse-fine (tableFault _ _) (groupFault _) e .0, checked-legal _ _ _ e .1, omega (arith, h))
+verdict-on-requires : tie.Need-verdict-on-requires
+verdict-on-requires c κs = own-at (c .before) .fine-front
 
 returns : tie.Need-returns
-returns c = verdict-refused _ _ _ (sym (c .before .before .before .check-group .ensures) ∙ ap faultOf (c .before .r .given .1))
+unfolding verdictFor
+returns c =
+    let r = c .before .before .before .before .own-windows in
+    asked-not _ _ _ refused (λ l. verdictAnswer _ l _) _ _ _ (omega arith) (sym (r .ensures .0) ∙ ap toldAmount (c .before .r .given .1))
 
 returns-2 : tie.Need-returns-2
-returns-2 c =
-    verdict-over _ _ _ (group-fine (c .before .before .before)) (was-over _ (sym (c .before .before .cycle-of .ensures) ∙ c .enum-told2 .given .1))
-
-returns-3 : tie.Need-returns-3
-returns-3 c =
-    let d = c .before in
-    let h = cycle-fine d in
-    let a = d .before .before .before .before .before .before .before .before .before .args in
-    c .search .ensures
-    ∙ ap (λ (n : ℕ). given (verdict (suppliedBy (boardOf (a .board)) (a .windows .now)) (a .board .frame) (tasksOf (a .tasks .now)) n)) (sym (h .0))
-    ∙ verdict-given _ _ _ (group-fine (d .before .before .before .before)) (h .1)
+unfolding verdictFor
+returns-2 c = c .verdict-on .ensures ∙ asked-taken _ _ _ refused (λ l. verdictAnswer _ l _) (own-at (c .before .before))
 
 pub verdict-spec : {M : Type 1} → statement M
 verdict-spec =
     tie.close
     (tie.spec
-    check-group-requires
+    slice-aggregate-own-windows
+    own-windows-requires
     enum-known-r
-    enum-told
-    cycle-of-requires
-    enum-told-2
-    enum-known-cycle
-    search-requires
+    enum-known-n
+    array-share-prefix-own
+    slice-aggregate-verdict-on
+    verdict-on-requires
     returns
-    returns-2
-    returns-3)
+    returns-2)
