@@ -84,7 +84,7 @@ fn table_of_ticks(frame: u64, set: u64) -> TableNumbers {
             windows.push(tick + 1);
         }
     }
-    TableNumbers { frame, windows }
+    TableNumbers::pairs(frame, windows)
 }
 
 #[cfg(test)]

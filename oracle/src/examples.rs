@@ -10,10 +10,7 @@ use crate::table::TableNumbers;
 use crate::tasks::TaskNumbers;
 
 fn table(frame: u64, windows: &[u64]) -> TableNumbers {
-    TableNumbers {
-        frame,
-        windows: windows.to_vec(),
-    }
+    TableNumbers::pairs(frame, windows.to_vec())
 }
 
 fn x() -> TableNumbers {

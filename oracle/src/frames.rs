@@ -26,7 +26,7 @@ pub fn table(r: &mut Random, most_frame: u64) -> TableNumbers {
     let frame = frame.max(LEAST_FRAME);
     let mut windows = windows(r, frame);
     move_to_an_end(r, frame, &mut windows);
-    TableNumbers { frame, windows }
+    TableNumbers::pairs(frame, windows)
 }
 
 /// In half of the tables all windows are moved together to an end of the frame, or a tick from its

@@ -257,7 +257,7 @@ pub fn legal_table(r: &mut Random) -> TableNumbers {
         _ => r.between(60, 200),
     };
     let windows = windows(r, frame);
-    TableNumbers { frame, windows }
+    TableNumbers::pairs(frame, windows)
 }
 
 /// A table for an entry that takes time with the square of the frame.

@@ -108,7 +108,7 @@ fn slow(r: &mut Random, legal: &TableNumbers, ground: &mut Ground) -> Query {
 fn greatest_delay(r: &mut Random, frame: u64) -> Query {
     let end = r.one_of(&[frame / 2, frame, frame]);
     let windows = vec![0, end];
-    Query::Delay(TableNumbers { frame, windows })
+    Query::Delay(TableNumbers::pairs(frame, windows))
 }
 
 /// The table, sometimes with a broken rule: often the last window's, sometimes two.

@@ -31,13 +31,13 @@ fn frame(r: &mut Random) -> u64 {
 fn never_silent(r: &mut Random) -> TableNumbers {
     let frame = if r.once_in(4) { 1 } else { frame(r) };
     let windows = vec![0, frame];
-    TableNumbers { frame, windows }
+    TableNumbers::pairs(frame, windows)
 }
 
 fn one_window(r: &mut Random) -> TableNumbers {
     let frame = frame(r);
     let windows = one_window_in(r, frame);
-    TableNumbers { frame, windows }
+    TableNumbers::pairs(frame, windows)
 }
 
 /// One window: silent at both ends of the frame, or at one of them, sometimes for one tick only.
@@ -96,7 +96,7 @@ fn table_of_parts(before_the_first: u64, parts: &[Part]) -> TableNumbers {
         windows.extend([frame, frame + part.supplied]);
         frame += part.supplied + part.silent;
     }
-    TableNumbers { frame, windows }
+    TableNumbers::pairs(frame, windows)
 }
 
 #[cfg(test)]

@@ -26,7 +26,10 @@ pub fn read(bytes: &[u8]) -> Result<(TableNumbers, TaskNumbers), Refusal> {
     Reason::TaskList.check(task_count > MOST_TASKS as u64, 0)?;
     let tasks = numbers(&mut cursor, 3 * task_count)?;
     Reason::PlanBytes.check(!cursor.at_end(), cursor.offset())?;
-    Ok((TableNumbers { frame, windows }, TaskNumbers::Triples(tasks)))
+    Ok((
+        TableNumbers::pairs(frame, windows),
+        TaskNumbers::Triples(tasks),
+    ))
 }
 
 fn number(cursor: &mut Cursor) -> Result<u64, Refusal> {

@@ -170,10 +170,8 @@ fn read_table(cursor: &mut Cursor) -> Result<TableNumbers, usize> {
 }
 
 fn read_table_up_to(cursor: &mut Cursor, limit: u64) -> Result<TableNumbers, usize> {
-    Ok(TableNumbers {
-        frame: cursor.number()?,
-        windows: read_list(cursor, limit)?,
-    })
+    let frame = cursor.number()?;
+    Ok(TableNumbers::pairs(frame, read_list(cursor, limit)?))
 }
 
 fn read_tasks(cursor: &mut Cursor, records: bool) -> Result<TaskNumbers, usize> {

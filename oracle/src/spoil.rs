@@ -55,10 +55,10 @@ pub fn last_window(r: &mut Random, table: &mut TableNumbers) {
 }
 
 fn one_tick_windows(count: u64) -> TableNumbers {
-    TableNumbers {
-        frame: 2 * count,
-        windows: (0..count).flat_map(|i| [2 * i, 2 * i + 1]).collect(),
-    }
+    TableNumbers::pairs(
+        2 * count,
+        (0..count).flat_map(|i| [2 * i, 2 * i + 1]).collect(),
+    )
 }
 
 fn not_in_twos(r: &mut Random, numbers: &mut Vec<u64>) {
@@ -235,10 +235,7 @@ pub fn with_bad_number(r: &mut Random, numbers: &[u64], index: usize) -> Vec<u8>
 
 /// One of the queries whose lists or buffers are as long as they may be, or nearly.
 pub fn query_at_a_limit(r: &mut Random) -> Query {
-    let full = TableNumbers {
-        frame: 1,
-        windows: vec![0, 1],
-    };
+    let full = TableNumbers::pairs(1, vec![0, 1]);
     let one_task = TaskNumbers::Triples(vec![1, 1, 1]);
     let run = |ticks, jobs, room| {
         Query::Run(RunNumbers {
@@ -251,10 +248,10 @@ pub fn query_at_a_limit(r: &mut Random) -> Query {
     };
     match r.below(14) {
         0 => Query::Outage(one_tick_windows(MOST_WINDOWS as u64 + r.below(2))),
-        1 => Query::Outage(TableNumbers {
-            frame: MOST_FRAME,
-            windows: (0..MOST_WINDOW_NUMBERS - r.below(2)).collect(),
-        }),
+        1 => Query::Outage(TableNumbers::pairs(
+            MOST_FRAME,
+            (0..MOST_WINDOW_NUMBERS - r.below(2)).collect(),
+        )),
         2 => Query::CriticalPartition(one_tick_windows(MOST_WINDOWS as u64), r.between(127, 129)),
         3 => Query::CriticalPartition(full, MOST_ROOM),
         4 => Query::Demand(TaskNumbers::Triples(vec![1; 200]), 1),
@@ -281,10 +278,10 @@ pub fn query_at_a_limit(r: &mut Random) -> Query {
         }
         10 => run(2, vec![0, 0, 1], MOST_ROOM),
         11 if r.once_in(2) => verdict_at_the_greatest_cycle(r),
-        11 => Query::Delay(TableNumbers {
-            frame: r.between(MOST_FRAME + 1, MOST_FRAME + 2),
-            windows: vec![0, MOST_FRAME],
-        }),
+        11 => Query::Delay(TableNumbers::pairs(
+            r.between(MOST_FRAME + 1, MOST_FRAME + 2),
+            vec![0, MOST_FRAME],
+        )),
         12 => Query::LeastSupply(
             one_tick_windows(MOST_WINDOWS as u64),
             1_000_000 + r.below(2),
@@ -299,10 +296,7 @@ pub fn query_at_a_limit(r: &mut Random) -> Query {
 /// A verdict that meets, or misses at the very last length, in a cycle of 1,000,000.
 fn verdict_at_the_greatest_cycle(r: &mut Random) -> Query {
     let frame = r.one_of(&[1, 2, 4, 5, 8, 10]);
-    let table = TableNumbers {
-        frame,
-        windows: vec![r.below(frame), frame],
-    };
+    let table = TableNumbers::pairs(frame, vec![r.below(frame), frame]);
     let supply = table
         .check()
         .map_or(0, |table| table.least_supply(MOST_TICKS));

@@ -25,6 +25,11 @@ pub struct Table {
 }
 
 impl TableNumbers {
+    /// Windows in pairs of start and end.
+    pub fn pairs(frame: u64, windows: Vec<u64>) -> TableNumbers {
+        TableNumbers { frame, windows }
+    }
+
     /// Refusals 1, 2 and 3.
     pub fn check(&self) -> Result<Table, Refusal> {
         let count = self.windows.len();
@@ -274,10 +279,10 @@ mod tests {
             if pairs.len() > MOST_WINDOWS {
                 continue;
             }
-            let critical = TableNumbers {
-                frame: lent.frame,
-                windows: pairs.into_iter().flat_map(|(s, e)| [s, e]).collect(),
-            };
+            let critical = TableNumbers::pairs(
+                lent.frame,
+                pairs.into_iter().flat_map(|(s, e)| [s, e]).collect(),
+            );
             let critical = critical.check().unwrap();
             for length in 0..=2 * lent.frame {
                 let least = table.least_supply(length);

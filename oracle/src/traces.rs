@@ -90,7 +90,7 @@ fn small_table(r: &mut Random) -> TableNumbers {
     if end + 1 < frame && r.once_in(2) {
         windows.extend([end + 1, r.between(end + 2, frame)]);
     }
-    TableNumbers { frame, windows }
+    TableNumbers::pairs(frame, windows)
 }
 
 /// Some tasks with short times: met, just missed or far too much.
@@ -589,10 +589,7 @@ fn most_releases(r: &mut Random) -> Query {
 
 /// A busy board, up to 20,000 bytes. Half of these end within a record.
 fn longest_trace(r: &mut Random) -> Query {
-    let full = TableNumbers {
-        frame: 1,
-        windows: vec![0, 1],
-    };
+    let full = TableNumbers::pairs(1, vec![0, 1]);
     let group: &[[u64; 3]] = if r.once_in(2) {
         &[[1, 1, 1]]
     } else {
@@ -647,10 +644,7 @@ fn longest_lists(r: &mut Random) -> Query {
     let mut tasks = vec![1, 4, 4];
     if r.once_in(2) {
         let many: Vec<u64> = (0..count).collect();
-        table = TableNumbers {
-            frame: 400,
-            windows: many,
-        };
+        table = TableNumbers::pairs(400, many);
     } else {
         tasks = vec![1; r.one_of(&[count, 96, 99]) as usize];
     }
