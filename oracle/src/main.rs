@@ -1,10 +1,11 @@
-//! The independent second program of Palikudyom: document 01 and requests 1 and 2 of document 02,
-//! read from scratch, by brute force. Request 3 makes the first program faster and changes no
+//! The independent second program of Palikudyom: document 01 and requests 1, 2 and 4 of document
+//! 02, read from scratch, by brute force. Request 3 makes the first program faster and changes no
 //! answer: this one goes on to try every start, and `oracle large` asks where that counts.
 //!
-//! To believe its answers, read `numbers`, `answer`, `table`, `tasks`, `verdict`, `bound`,
-//! `machine`, `plan`, `trace` and `replay`, in this order, and `examples`, which are the
-//! documents' own and some worked out by hand; then `query` and `stream`, which are docs/ASK.md's.
+//! To believe its answers, read `numbers`, `answer`, `table`, `owners`, `tasks`, `verdict`,
+//! `bound`, `machine`, `plan`, `trace` and `replay`, in this order, and `examples` and
+//! `owner_examples`, which are the documents' own and some worked out by hand; then `query` and
+//! `stream`, which are docs/ASK.md's.
 //! The other files make streams (`generate`, `outages`, `traces`, `large` with `frames`, `tight`
 //! and `edge_jobs`, `spoil`, `batch`, `enumerate`, `random`, `text`) and compare (`compare`): a
 //! fault there can hide a difference in the first program but can't change an answer.
@@ -23,6 +24,9 @@ mod large;
 mod machine;
 mod numbers;
 mod outages;
+#[cfg(test)]
+mod owner_examples;
+mod owners;
 mod plan;
 mod query;
 mod random;

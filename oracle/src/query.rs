@@ -6,15 +6,22 @@ use crate::table::{self, TableNumbers};
 use crate::tasks::{self, TaskNumbers};
 use crate::{bound, machine, plan, replay, verdict};
 
-pub const MOST_WINDOW_NUMBERS: u64 = 200;
-pub const MOST_TASK_NUMBERS: u64 = 200;
+/// Windows and tasks of codes 1 to 15 alone.
+pub const MOST_OLD_NUMBERS: u64 = 200;
 pub const MOST_JOB_NUMBERS: u64 = 12_400;
 pub const MOST_ROOM: u64 = 12_400;
 pub const MOST_PLAN_BYTES: u64 = 4_096;
 pub const MOST_RECORDS: u64 = 40;
-/// Windows and tasks of the codes that document 02 adds (ASK-02.md).
+/// Windows and tasks under code 16 and of the codes that document 02 adds (ASK-02.md).
 pub const MOST_NEW_NUMBERS: u64 = 400;
 pub const MOST_TRACE_BYTES: u64 = 20_000;
+
+/// Code 16, "on a board": settings, then a query whose windows are in threes.
+pub const BOARD: u64 = 16;
+/// The one setting there is: the owner asked for.
+const SETTINGS: u64 = 1;
+/// The codes that may stand under 16.
+pub const ON_A_BOARD: [u64; 13] = [1, 2, 3, 4, 6, 7, 8, 9, 12, 13, 14, 15, 17];
 
 /// What every number of a lent buffer is at entry.
 const AT_ENTRY: u64 = 7;
@@ -49,35 +56,78 @@ impl Query {
     /// code or over its limit.
     pub fn read(cursor: &mut Cursor) -> Result<Query, usize> {
         let first = cursor.offset();
-        let code = cursor.number()?;
+        match cursor.number()? {
+            BOARD => {
+                let owner = read_settings(cursor)?;
+                let first = cursor.offset();
+                match cursor.number()? {
+                    code if ON_A_BOARD.contains(&code) => {
+                        Query::read_arguments(cursor, code, Some(owner))
+                    }
+                    _ => Err(first),
+                }
+            }
+            code @ (1..=15 | 17) => Query::read_arguments(cursor, code, None),
+            _ => Err(first),
+        }
+    }
+
+    /// What follows a known code, on the windows of an owner or in pairs.
+    fn read_arguments(c: &mut Cursor, code: u64, owner: Option<u64>) -> Result<Query, usize> {
         let records = (11..=15).contains(&code);
-        let c = cursor;
+        let most_numbers = match owner {
+            None if code <= 15 => MOST_OLD_NUMBERS,
+            _ => MOST_NEW_NUMBERS,
+        };
+        let table = |c: &mut Cursor| -> Result<TableNumbers, usize> {
+            Ok(TableNumbers {
+                frame: c.number()?,
+                windows: read_list(c, most_numbers)?,
+                owner,
+            })
+        };
+        let tasks = |c: &mut Cursor| match records {
+            true => read_records(c),
+            false => read_list(c, most_numbers).map(TaskNumbers::Triples),
+        };
         Ok(match if records { code - 6 } else { code } {
-            1 => Query::LeastSupply(read_table(c)?, c.number()?),
-            2 => Query::CriticalPartition(read_table(c)?, c.number_up_to(MOST_ROOM)?),
-            3 => Query::Delay(read_table(c)?),
-            4 => Query::Outage(read_table(c)?),
-            5 => Query::Demand(read_tasks(c, records)?, c.number()?),
-            6 => Query::Margin(read_table(c)?, read_tasks(c, records)?, c.number()?),
-            7 => Query::Verdict(read_table(c)?, read_tasks(c, records)?),
-            8 => Query::Bound(read_table(c)?, read_tasks(c, records)?, c.number()?),
+            1 => Query::LeastSupply(table(c)?, c.number()?),
+            2 => Query::CriticalPartition(table(c)?, c.number_up_to(MOST_ROOM)?),
+            3 => Query::Delay(table(c)?),
+            4 => Query::Outage(table(c)?),
+            5 => Query::Demand(tasks(c)?, c.number()?),
+            6 => Query::Margin(table(c)?, tasks(c)?, c.number()?),
+            7 => Query::Verdict(table(c)?, tasks(c)?),
+            8 => Query::Bound(table(c)?, tasks(c)?, c.number()?),
             9 => Query::Run(RunNumbers {
-                table: read_table(c)?,
-                tasks: read_tasks(c, records)?,
+                table: table(c)?,
+                tasks: tasks(c)?,
                 ticks: c.number()?,
                 jobs: read_list(c, MOST_JOB_NUMBERS)?,
                 room: c.number_up_to(MOST_ROOM)?,
             }),
             10 => Query::Plan(read_bytes(c, MOST_PLAN_BYTES)?),
-            17 => Query::Replay(
-                read_table_up_to(c, MOST_NEW_NUMBERS)?,
-                TaskNumbers::Triples(read_list(c, MOST_NEW_NUMBERS)?),
-                read_bytes(c, MOST_TRACE_BYTES)?,
-            ),
-            _ => return Err(first),
+            _ => Query::Replay(table(c)?, tasks(c)?, read_bytes(c, MOST_TRACE_BYTES)?),
         })
     }
 
+    /// The table it is about; a demand and a plan have none lent.
+    pub fn table(&self) -> Option<&TableNumbers> {
+        match self {
+            Query::LeastSupply(table, _)
+            | Query::CriticalPartition(table, _)
+            | Query::Delay(table)
+            | Query::Outage(table)
+            | Query::Margin(table, _, _)
+            | Query::Verdict(table, _)
+            | Query::Bound(table, _, _)
+            | Query::Replay(table, _, _) => Some(table),
+            Query::Run(run) => Some(&run.table),
+            Query::Demand(..) | Query::Plan(_) => None,
+        }
+    }
+
+    /// Its own code, which stands under 16 where the windows are in threes.
     pub fn code(&self) -> u64 {
         match self {
             Query::LeastSupply(..) => 1,
@@ -96,7 +146,11 @@ impl Query {
 
     /// Its numbers in the stream, the code first: what `read` reads.
     pub fn numbers(&self) -> Vec<u64> {
-        let mut n = vec![self.code()];
+        let mut n = match self.table().and_then(|table| table.owner) {
+            Some(owner) => vec![BOARD, SETTINGS, owner],
+            None => Vec::new(),
+        };
+        n.push(self.code());
         match self {
             Query::Delay(table) | Query::Outage(table) => push_table(&mut n, table),
             Query::LeastSupply(table, last) | Query::CriticalPartition(table, last) => {
@@ -165,19 +219,16 @@ fn read_list(cursor: &mut Cursor, limit: u64) -> Result<Vec<u64>, usize> {
     (0..count).map(|_| cursor.number()).collect()
 }
 
-fn read_table(cursor: &mut Cursor) -> Result<TableNumbers, usize> {
-    read_table_up_to(cursor, MOST_WINDOW_NUMBERS)
-}
-
-fn read_table_up_to(cursor: &mut Cursor, limit: u64) -> Result<TableNumbers, usize> {
-    let frame = cursor.number()?;
-    Ok(TableNumbers::pairs(frame, read_list(cursor, limit)?))
-}
-
-fn read_tasks(cursor: &mut Cursor, records: bool) -> Result<TaskNumbers, usize> {
-    if !records {
-        return Ok(TaskNumbers::Triples(read_list(cursor, MOST_TASK_NUMBERS)?));
+/// The owner asked for. "Another count is a bad query at that number."
+fn read_settings(cursor: &mut Cursor) -> Result<u64, usize> {
+    let first = cursor.offset();
+    match cursor.number()? {
+        SETTINGS => cursor.number(),
+        _ => Err(first),
     }
+}
+
+fn read_records(cursor: &mut Cursor) -> Result<TaskNumbers, usize> {
     let count = cursor.number_up_to(MOST_RECORDS)?;
     let record = |_| Ok([cursor.number()?, cursor.number()?, cursor.number()?]);
     Ok(TaskNumbers::Records(

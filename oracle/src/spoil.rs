@@ -3,7 +3,7 @@
 use crate::machine::{Job, MOST_JOBS, MOST_RUN};
 use crate::numbers::{encode, GREATEST};
 use crate::query::{
-    Query, RunNumbers, MOST_JOB_NUMBERS, MOST_PLAN_BYTES, MOST_ROOM, MOST_WINDOW_NUMBERS,
+    Query, RunNumbers, MOST_JOB_NUMBERS, MOST_OLD_NUMBERS, MOST_PLAN_BYTES, MOST_ROOM,
 };
 use crate::random::Random;
 use crate::table::{TableNumbers, MOST_FRAME, MOST_WINDOWS};
@@ -250,7 +250,7 @@ pub fn query_at_a_limit(r: &mut Random) -> Query {
         0 => Query::Outage(one_tick_windows(MOST_WINDOWS as u64 + r.below(2))),
         1 => Query::Outage(TableNumbers::pairs(
             MOST_FRAME,
-            (0..MOST_WINDOW_NUMBERS - r.below(2)).collect(),
+            (0..MOST_OLD_NUMBERS - r.below(2)).collect(),
         )),
         2 => Query::CriticalPartition(one_tick_windows(MOST_WINDOWS as u64), r.between(127, 129)),
         3 => Query::CriticalPartition(full, MOST_ROOM),

@@ -74,7 +74,7 @@ mod tests {
 
     #[test]
     fn unknown_codes() {
-        for code in [0, 16, 18, 127, 128, 4_294_967_295] {
+        for code in [0, 18, 127, 128, 4_294_967_295] {
             assert_eq!(answer(&[code, 0, 0]), ["BAD QUERY at 0"]);
         }
     }
@@ -166,11 +166,87 @@ mod tests {
         assert_eq!(trace(2, 255), ["REFUSED 9 at 0"]);
         assert_eq!(trace(2, 256), ["BAD QUERY at 7"]);
         // No other code is known yet.
-        assert_eq!(
-            answer(&[16, 1, 0, 17, 8, 2, 0, 8, 0, 0]),
-            ["BAD QUERY at 0"]
-        );
         assert_eq!(answer(&[29, 8, 2, 0, 8, 0, 0]), ["BAD QUERY at 0"]);
+    }
+
+    /// Code 16 has one setting, the owner; m, rule and q come with later requests.
+    #[test]
+    fn settings_of_a_board() {
+        let full = [4, 8, 3, 0, 8, 1];
+        let of = |settings: &[u64]| answer(&[&[16], settings, &full].concat());
+        assert_eq!(of(&[1, 1]), ["OUTAGE 0"]);
+        assert_eq!(of(&[1, 0]), ["REFUSED 1 at 0"]);
+        assert_eq!(of(&[1, 4_294_967_295]), ["REFUSED 1 at 0"]);
+        for count in [0, 2, 3, 4, 5, 4_294_967_295] {
+            assert_eq!(of(&[count, 1, 1, 1, 0]), ["BAD QUERY at 1"]);
+        }
+        assert_eq!(answers(&[16]), ["BAD QUERY at 1"]);
+        assert_eq!(answers(&[16, 0x81, 0x00, 1]), ["BAD QUERY at 1"]);
+        assert_eq!(answers(&[16, 1]), ["BAD QUERY at 2"]);
+        assert_eq!(answers(&[16, 1, 0x80]), ["BAD QUERY at 2"]);
+        assert_eq!(answers(&[16, 1, 0]), ["BAD QUERY at 3"]);
+        let second = answer(&[&[5, 0, 0, 16, 2], &full[..]].concat());
+        assert_eq!(second, ["DEMAND 0", "BAD QUERY at 4"]);
+    }
+
+    #[test]
+    fn codes_on_a_board() {
+        let table = [8, 3, 0, 8, 1];
+        // A list of one number is no task.
+        let no_tasks = "REFUSED 4 at 0";
+        for (code, rest, line) in [
+            (1, &[3][..], "AMOUNT 3"),
+            (2, &[2], "WINDOWS 1 BUFFER 0 8"),
+            (3, &[], "DELAY 0 of 8"),
+            (4, &[], "OUTAGE 0"),
+            (6, &[1, 1, 0], no_tasks),
+            (7, &[1, 1], no_tasks),
+            (8, &[1, 1, 0], no_tasks),
+            (9, &[1, 1, 0, 0, 0], "REFUSED 4 at 0 BUFFER"),
+            (12, &[1, 2, 2, 2, 2], "MARGIN 0"),
+            (13, &[1, 2, 2, 2], "MEETS cycle 8"),
+            (14, &[1, 2, 2, 2, 0], "BOUND 2"),
+            (15, &[1, 2, 2, 2, 0, 0, 0], "MET backlog 0 BUFFER"),
+            (17, &[0, 0], "SAME"),
+        ] {
+            let query = [&[16, 1, 1, code], &table[..], rest].concat();
+            assert_eq!(answer(&query), [line], "{code}");
+        }
+        let others = [0, 5, 10, 11, 16].into_iter().chain(18..40);
+        for code in others.chain([127, 128, 4_294_967_295]) {
+            let query = [&[16, 1, 1, code], &table[..]].concat();
+            assert_eq!(answer(&query), ["BAD QUERY at 3"], "{code}");
+            // An owner in two bytes, and in five.
+            let query = [&[16, 1, 300, code], &table[..]].concat();
+            assert_eq!(answer(&query), ["BAD QUERY at 4"], "{code}");
+            let query = [&[16, 1, 4_294_967_295, code], &table[..]].concat();
+            assert_eq!(answer(&query), ["BAD QUERY at 7"], "{code}");
+        }
+    }
+
+    #[test]
+    fn limits_on_a_board() {
+        let windows = |count| answer(&list(&[16, 1, 0, 4, 8], count, 1, &[]));
+        assert_eq!(windows(201), ["REFUSED 1 at 0"]);
+        assert_eq!(windows(400), ["REFUSED 1 at 0"]);
+        assert_eq!(windows(401), ["BAD QUERY at 5"]);
+        let tasks = |count| answer(&list(&[16, 1, 0, 7, 8, 3, 0, 8, 0], count, 1, &[]));
+        assert_eq!(tasks(201), ["REFUSED 4 at 0"]);
+        assert_eq!(tasks(400), ["REFUSED 4 at 0"]);
+        assert_eq!(tasks(401), ["BAD QUERY at 9"]);
+        let records = |count: u64| {
+            let mut numbers = vec![16, 1, 0, 13, 8, 3, 0, 8, 0, count];
+            numbers.extend(std::iter::repeat_n(1, 3 * count as usize));
+            answer(&numbers)
+        };
+        assert_eq!(records(40), ["REFUSED 4 at 0"]);
+        assert_eq!(records(41), ["BAD QUERY at 9"]);
+        let replay = |count| answer(&list(&[16, 1, 0, 17, 8], count, 1, &[0, 0]));
+        assert_eq!(replay(400), ["REFUSED 1 at 0"]);
+        assert_eq!(replay(401), ["BAD QUERY at 5"]);
+        // What stands alone keeps its limits, also after code 16.
+        let alone = [&[16, 1, 0, 4, 8, 3, 0, 8, 0, 4, 8, 201][..], &[1; 201]].concat();
+        assert_eq!(answer(&alone), ["OUTAGE 0", "BAD QUERY at 11"]);
     }
 
     #[test]

@@ -2,6 +2,7 @@
 //! "Supply and demand"; document 02, request 1).
 
 use crate::answer::{Answer, Reason, Refusal};
+use crate::owners::{self, OWNERS};
 
 pub const MOST_FRAME: u64 = 65_536;
 pub const MOST_WINDOWS: usize = 64;
@@ -13,6 +14,8 @@ pub const MOST_LENGTH: u64 = 1_000_000;
 pub struct TableNumbers {
     pub frame: u64,
     pub windows: Vec<u64>,
+    /// The owner asked for, where the windows are in threes; none where they are in pairs.
+    pub owner: Option<u64>,
 }
 
 /// A legal table, tick by tick.
@@ -27,15 +30,32 @@ pub struct Table {
 impl TableNumbers {
     /// Windows in pairs of start and end.
     pub fn pairs(frame: u64, windows: Vec<u64>) -> TableNumbers {
-        TableNumbers { frame, windows }
+        TableNumbers {
+            frame,
+            windows,
+            owner: None,
+        }
     }
 
-    /// Refusals 1, 2 and 3.
+    /// Refusals 1, 2 and 3; where teams share the table, then 1 for an owner that has no window.
     pub fn check(&self) -> Result<Table, Refusal> {
+        match self.owner {
+            Some(owner) => owners::table_of(owner, OWNERS, self)?.check_pairs(),
+            None => self.check_pairs(),
+        }
+    }
+
+    /// Refusals 1 and 2, with so many numbers for each window.
+    pub fn check_sizes(&self, numbers: usize) -> Result<(), Refusal> {
         let count = self.windows.len();
-        let bad_list = count % 2 == 1 || count == 0 || count / 2 > MOST_WINDOWS;
+        let bad_list =
+            !count.is_multiple_of(numbers) || count == 0 || count / numbers > MOST_WINDOWS;
         Reason::WindowList.check(bad_list, 0)?;
-        Reason::Frame.check(self.frame < 1 || self.frame > MOST_FRAME, 0)?;
+        Reason::Frame.check(self.frame < 1 || self.frame > MOST_FRAME, 0)
+    }
+
+    fn check_pairs(&self) -> Result<Table, Refusal> {
+        self.check_sizes(2)?;
         let mut previous_end = None;
         for (index, window) in self.windows.chunks(2).enumerate() {
             let (start, end) = (window[0], window[1]);
