@@ -5,7 +5,7 @@ use std::iter;
 use crate::generate;
 use crate::large;
 use crate::numbers::{encode, GREATEST};
-use crate::query::Query;
+use crate::query::{Query, BOARD, MOST_NEW_NUMBERS, MOST_OLD_NUMBERS};
 use crate::random::Random;
 use crate::spoil;
 use crate::stream::MOST_BYTES;
@@ -59,39 +59,58 @@ fn bad_end(r: &mut Random) -> Vec<u8> {
             cut.truncate(1 + r.index(cut.len() - 1));
             cut
         }
-        2 => {
-            let code = r.one_of(&[0, 16, 18, 26, 127, 128, 255, 256, GREATEST]);
-            encode(&[&[code], &numbers[1..]].concat())
-        }
+        2 => with_bad_code(r, numbers),
         _ => over_a_limit(r),
     }
 }
 
-/// A query with a count, a room or a byte over its limit.
+/// A query with a code that is not known where it stands, or with another count of settings.
+fn with_bad_code(r: &mut Random, mut numbers: Vec<u64>) -> Vec<u8> {
+    match numbers[0] {
+        BOARD if r.once_in(2) => {
+            let count = r.one_of(&[0, 0, 2, 2, 3, 4, 4, 5, GREATEST]);
+            numbers[1] = count;
+            if count < 6 && r.once_in(2) {
+                // As many settings as it says.
+                numbers.splice(2..3, vec![1; count as usize]);
+            }
+        }
+        BOARD => numbers[3] = r.one_of(&[0, 5, 10, 11, 16, 18, 20, 23, 24, 28, 30, 129, GREATEST]),
+        _ => numbers[0] = r.one_of(&[0, 18, 26, 127, 128, 255, 256, GREATEST]),
+    }
+    encode(&numbers)
+}
+
+/// A query with a count, a room or a byte over its limit; a third of them are under code 16, where
+/// some codes are bad already.
 fn over_a_limit(r: &mut Random) -> Vec<u8> {
-    let table: &[u64] = &[8, 2, 0, 8];
+    let is_on_a_board = r.once_in(3);
+    let (mut numbers, table, most): (Vec<u64>, &[u64], u64) = match is_on_a_board {
+        true => (vec![BOARD, 1, 0], &[8, 3, 0, 8, 0], MOST_NEW_NUMBERS),
+        false => (Vec::new(), &[8, 2, 0, 8], MOST_OLD_NUMBERS),
+    };
     let jobs: &[u64] = &[10, 3, 2, 0, 1];
     let (before, limit): (Vec<u64>, u64) = match r.below(16) {
-        0 => (vec![r.between(1, 4), 8], 200),
-        1 => (vec![r.between(6, 9), 8], 200),
-        2 => (vec![r.between(12, 15), 8], 200),
-        3 => (vec![5], 200),
-        4 => ([&[r.between(6, 9)], table].concat(), 200),
+        0 => (vec![r.between(1, 4), 8], most),
+        1 => (vec![r.between(6, 9), 8], most),
+        2 => (vec![r.between(12, 15), 8], most),
+        3 => (vec![5], most),
+        4 => ([&[r.between(6, 9)], table].concat(), most),
         5 => (vec![11], 40),
         6 => ([&[r.between(12, 15)], table].concat(), 40),
         7 => ([&[2], table].concat(), 12_400),
         8 => ([&[9], table, &[3, 1, 4, 4, 10]].concat(), 12_400),
         9 => ([&[9], table, &[3, 1, 4, 4], jobs].concat(), 12_400),
         10 => ([&[15], table, &[1, 1, 4, 4], jobs].concat(), 12_400),
-        11 => (vec![17, 8], 400),
-        12 => ([&[17], table].concat(), 400),
+        11 => (vec![17, 8], MOST_NEW_NUMBERS),
+        12 => ([&[17], table].concat(), MOST_NEW_NUMBERS),
         13 => ([&[17], table, &[3, 1, 4, 4]].concat(), 20_000),
         14 => ([&[17], table, &[0, 3, 1, 0]].concat(), 255),
         _ if r.once_in(2) => (vec![10], 4_096),
         _ => (vec![10, 3, 8], 255),
     };
     let over = r.one_of(&[limit + 1, limit + 1, 2 * limit, GREATEST]);
-    let mut numbers = before;
+    numbers.extend(before);
     numbers.push(over);
     // Sometimes what the count announces is there.
     if over < 500 && r.once_in(2) {

@@ -22,7 +22,8 @@ struct Comparison<'a> {
     command: &'a [&'a str],
     queries: u64,
     differences: u64,
-    by_code: BTreeMap<u64, u64>,
+    /// By whether the query is under code 16, then by its own code.
+    by_code: BTreeMap<(bool, u64), u64>,
     by_word: BTreeMap<String, u64>,
 }
 
@@ -90,7 +91,8 @@ impl<'a> Comparison<'a> {
         let stream = stream::read(bytes);
         let (own, other) = both_answers(self.command, bytes, &stream)?;
         for query in &stream.queries {
-            *self.by_code.entry(query.code()).or_default() += 1;
+            let code = (query.is_on_a_board(), query.code());
+            *self.by_code.entry(code).or_default() += 1;
         }
         for line in &own {
             *self.by_word.entry(word(line)).or_default() += 1;
@@ -110,8 +112,9 @@ impl<'a> Comparison<'a> {
 
     fn summary(&self) -> io::Result<bool> {
         let mut out = io::stdout().lock();
-        for (code, count) in &self.by_code {
-            writeln!(out, "code {code}: {count}")?;
+        for ((is_on_a_board, code), count) in &self.by_code {
+            let under = if *is_on_a_board { "16, " } else { "" };
+            writeln!(out, "code {under}{code}: {count}")?;
         }
         for (word, count) in &self.by_word {
             writeln!(out, "{word}: {count}")?;

@@ -12,6 +12,7 @@ use crate::random::Random;
 use crate::spoil;
 use crate::table::{TableNumbers, MOST_FRAME, MOST_WINDOWS};
 use crate::tasks::{least_common_multiple, TaskNumbers};
+use crate::teams;
 use crate::trace;
 use crate::traces;
 use crate::verdict::verdict;
@@ -31,8 +32,15 @@ pub fn query(r: &mut Random) -> Query {
     if r.once_in(500) {
         return traces::query_at_a_limit(r);
     }
+    if r.once_in(500) {
+        return teams::query_at_a_limit(r);
+    }
+    let is_shared = r.once_in(3);
     loop {
-        let query = any_query(r);
+        let mut query = any_query(r);
+        if is_shared {
+            query = teams::share(r, query);
+        }
         if steps(&query) <= allowance {
             return query;
         }

@@ -6,9 +6,10 @@
 //! `bound`, `machine`, `plan`, `trace` and `replay`, in this order, and `examples` and
 //! `owner_examples`, which are the documents' own and some worked out by hand; then `query` and
 //! `stream`, which are docs/ASK.md's.
-//! The other files make streams (`generate`, `outages`, `traces`, `large` with `frames`, `tight`
-//! and `edge_jobs`, `spoil`, `batch`, `enumerate`, `random`, `text`) and compare (`compare`): a
-//! fault there can hide a difference in the first program but can't change an answer.
+//! The other files make streams (`generate`, `outages`, `traces`, `teams`, `large` with `frames`,
+//! `tight` and `edge_jobs`, `spoil`, `batch`, `enumerate`, `random`, `text`) and compare
+//! (`compare`): a fault there can hide a difference in the first program but can't change an
+//! answer.
 
 mod answer;
 mod batch;
@@ -35,6 +36,7 @@ mod spoil;
 mod stream;
 mod table;
 mod tasks;
+mod teams;
 mod text;
 mod tight;
 mod trace;

@@ -127,6 +127,25 @@ impl Query {
         }
     }
 
+    pub fn table_mut(&mut self) -> Option<&mut TableNumbers> {
+        match self {
+            Query::LeastSupply(table, _)
+            | Query::CriticalPartition(table, _)
+            | Query::Delay(table)
+            | Query::Outage(table)
+            | Query::Margin(table, _, _)
+            | Query::Verdict(table, _)
+            | Query::Bound(table, _, _)
+            | Query::Replay(table, _, _) => Some(table),
+            Query::Run(run) => Some(&mut run.table),
+            Query::Demand(..) | Query::Plan(_) => None,
+        }
+    }
+
+    pub fn is_on_a_board(&self) -> bool {
+        self.table().is_some_and(|table| table.owner.is_some())
+    }
+
     /// Its own code, which stands under 16 where the windows are in threes.
     pub fn code(&self) -> u64 {
         match self {

@@ -8,6 +8,7 @@ use crate::query::{
 use crate::random::Random;
 use crate::table::{TableNumbers, MOST_FRAME, MOST_WINDOWS};
 use crate::tasks::{TaskNumbers, MOST_TASKS, MOST_TICKS};
+use crate::teams;
 
 /// Breaks one rule of a legal table (refusals 1, 2 and 3).
 pub fn table(r: &mut Random, table: &mut TableNumbers) {
@@ -51,6 +52,59 @@ pub fn last_window(r: &mut Random, table: &mut TableNumbers) {
         2 => windows[last + 1] = windows[last],
         3 => windows.swap(last, last + 1),
         _ => windows[last + 1] = table.frame.saturating_add(1).min(GREATEST),
+    }
+}
+
+/// Breaks one rule of a table that teams share (refusals 1, 2 and 3), mostly: where windows do not
+/// touch, another owner is no fault.
+pub fn shared_table(r: &mut Random, table: &mut TableNumbers) {
+    let windows = &mut table.windows;
+    let count = windows.len() / 3;
+    if count == 0 {
+        windows.extend([0, 1, r.below(2)]);
+        return;
+    }
+    let window = 3 * r.index(count);
+    let (start, end, owner) = (windows[window], windows[window + 1], windows[window + 2]);
+    // The window before it; before the first there is none.
+    let before = window.saturating_sub(3);
+    let (end_before, owner_before) = (windows[before + 1], windows[before + 2]);
+    match r.below(20) {
+        0 => not_in_threes(r, windows),
+        1 if r.once_in(2) => windows.clear(),
+        1 => {
+            // The owners are left out.
+            let pairs = windows.chunks(3).flat_map(|w| &w[..w.len().min(2)]);
+            *windows = pairs.copied().collect();
+        }
+        2 => {
+            let many = one_tick_windows(MOST_WINDOWS as u64 + r.between(1, 36));
+            let owned = many.windows.chunks(2).zip(0..);
+            *windows = owned.flat_map(|(w, i)| [w[0], w[1], i % 2]).collect();
+            table.frame = many.frame;
+        }
+        3 => table.frame = r.one_of(&[0, 0, MOST_FRAME + 1, MOST_FRAME + 2, GREATEST]),
+        4..=6 if window > 0 => {
+            // Touches the window before, of the same owner.
+            windows[window] = end_before;
+            windows[window + 2] = owner_before;
+        }
+        7 | 8 if window > 0 => windows[window] = end_before.saturating_sub(1),
+        4..=8 if end > start + 1 => {
+            // One window written as two that touch.
+            let middle = r.between(start + 1, end - 1);
+            windows.splice(window + 1..window + 1, [middle, owner, middle]);
+        }
+        9 | 10 => windows[window + 2] = teams::absent_owner(r),
+        11 => windows[window + 2] = owner_before,
+        12 => windows[window + 2] = 1 - owner.min(1),
+        13 => windows[window + 1] = start,
+        14 => windows.swap(window, window + 1),
+        15 => windows[3 * count - 2] = table.frame.saturating_add(1).min(GREATEST),
+        16 => table.frame = windows[3 * count - 2].saturating_sub(1),
+        17 => windows.rotate_left(3),
+        18 => windows.extend([start, end, r.below(2)]),
+        _ => windows[window + r.index(2)] = r.one_of(&[0, table.frame, MOST_FRAME + 1, GREATEST]),
     }
 }
 
