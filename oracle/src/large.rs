@@ -11,12 +11,29 @@ use crate::random::Random;
 use crate::spoil;
 use crate::table::{Table, TableNumbers, MOST_FRAME, MOST_LENGTH};
 use crate::tasks::{MOST_TASKS, MOST_TICKS};
+use crate::teams;
 use crate::tight::Ground;
 use crate::traces;
 
-/// Some queries on one table. One that tries every start at every length takes up to `most_steps`
-/// such steps, or as many as the frame `frames::LEAST_FRAME` needs.
+/// Some queries on one table, a third of them on one that it shares with another team. One that
+/// tries every start at every length takes up to `most_steps` such steps, or as many as the frame
+/// `frames::LEAST_FRAME` needs.
 pub fn queries(r: &mut Random, most_steps: u64) -> Vec<Query> {
+    let mut queries = plain_queries(r, most_steps);
+    for query in &mut queries {
+        if r.once_in(3) {
+            let shared = teams::share(r, query.clone());
+            // The other team's verdict may need more steps.
+            let is_verdict = matches!(shared, Query::Verdict(..));
+            if !is_verdict || generate::steps(&shared) <= most_steps {
+                *query = shared;
+            }
+        }
+    }
+    queries
+}
+
+fn plain_queries(r: &mut Random, most_steps: u64) -> Vec<Query> {
     let count = r.between(3, 8);
     let is_quick = r.once_in(2);
     let most_frame = match is_quick {
@@ -605,7 +622,7 @@ mod tests {
         let mut random = Random::new(seed);
         let mut asked = BTreeMap::new();
         for _ in 0..sets {
-            for query in queries(&mut random, most_steps) {
+            for query in plain_queries(&mut random, most_steps) {
                 // It keeps the limits of a stream.
                 let stream = stream::read(&encode(&query.numbers()));
                 assert_eq!(
@@ -635,6 +652,24 @@ mod tests {
         let all = (0..300).flat_map(|_| queries(&mut random, most_steps));
         for query in all.filter(|query| matches!(query.code(), 2 | 3 | 7 | 8 | 10 | 13 | 14)) {
             assert!(generate::steps(&query) <= most_steps, "{query:?}");
+        }
+    }
+
+    /// Those on shared tables keep the limits of a stream too.
+    #[test]
+    fn shared_tables_are_asked() {
+        let mut random = Random::new(18);
+        let all: Vec<Query> = (0..200)
+            .flat_map(|_| queries(&mut random, 1_000_000))
+            .collect();
+        let shared: Vec<&Query> = all.iter().filter(|query| query.is_on_a_board()).collect();
+        assert!(5 * shared.len() > all.len());
+        for query in shared {
+            let stream = stream::read(&encode(&query.numbers()));
+            assert_eq!(
+                (stream.bad, &stream.queries[..]),
+                (None, &[query.clone()][..])
+            );
         }
     }
 
