@@ -1,6 +1,8 @@
-//! Every small table, and every small group on the smaller ones.
+//! Every small table, and every small group on the smaller ones; every small table that two teams
+//! share, and every one of up to two windows that may break every rule.
 
 use crate::numbers::encode;
+use crate::owners::OWNERS;
 use crate::query::Query;
 use crate::stream::MOST_BYTES;
 use crate::table::TableNumbers;
@@ -10,10 +12,14 @@ use crate::tasks::TaskNumbers;
 const MOST_FRAME_OF_OUTAGES: u64 = 12;
 const MOST_FRAME: u64 = 7;
 const MOST_PERIOD: u64 = 6;
+const MOST_SHARED_FRAME: u64 = 6;
+/// The frame of the windows that may break every rule.
+const FRAME_OF_ANY_WINDOWS: u64 = 3;
 
-/// Streams of every small outage and then of every small verdict.
+/// Streams of every small outage, every small shared table and then every small verdict.
 pub fn streams() -> impl Iterator<Item = Vec<u8>> {
-    let queries = outages().chain(verdicts());
+    let shared = any_windows().chain(shared());
+    let queries = outages().chain(shared).chain(verdicts());
     let mut encoded = queries.map(|query| encode(&query.numbers())).peekable();
     std::iter::from_fn(move || {
         encoded.peek()?;
@@ -28,6 +34,87 @@ pub fn streams() -> impl Iterator<Item = Vec<u8>> {
 /// The outage of every table with P up to 12.
 fn outages() -> impl Iterator<Item = Query> {
     tables(MOST_FRAME_OF_OUTAGES).into_iter().map(Query::Outage)
+}
+
+/// The outage, for the owners 0 to 2, of every list of up to two windows with P = 3: starts and
+/// ends from 0 to P + 1, owners from 0 to 2.
+fn any_windows() -> impl Iterator<Item = Query> {
+    let edges = 0..=FRAME_OF_ANY_WINDOWS + 1;
+    let mut windows = Vec::new();
+    for start in edges.clone() {
+        for end in edges.clone() {
+            windows.extend((0..=OWNERS).map(|owner| vec![start, end, owner]));
+        }
+    }
+    let mut lists = vec![Vec::new()];
+    for first in &windows {
+        lists.push(first.clone());
+        lists.extend(windows.iter().map(|second| [&first[..], second].concat()));
+    }
+    let asked = |list: Vec<u64>| {
+        let table = move |owner| shared_table(FRAME_OF_ANY_WINDOWS, list.clone(), owner);
+        (0..=OWNERS).map(move |owner| Query::Outage(table(owner)))
+    };
+    lists.into_iter().flat_map(asked)
+}
+
+/// What both owners get of every table with P up to 6, cut into windows in every way: the least
+/// supplies up to 2P, the outage, the delay, the critical partition and two groups' verdicts.
+fn shared() -> impl Iterator<Item = Query> {
+    let asked = |(frame, windows): (u64, Vec<u64>)| {
+        let entries = move |owner| entries(&shared_table(frame, windows.clone(), owner));
+        (0..OWNERS).flat_map(entries)
+    };
+    (1..=MOST_SHARED_FRAME)
+        .flat_map(|frame| shared_lists(frame).into_iter().map(move |l| (frame, l)))
+        .flat_map(asked)
+}
+
+fn entries(table: &TableNumbers) -> Vec<Query> {
+    let lengths = 0..=2 * table.frame;
+    let amount = |length| Query::LeastSupply(table.clone(), length);
+    let verdict = |group: &[u64]| {
+        let tasks = TaskNumbers::Triples(group.to_vec());
+        Query::Verdict(table.clone(), tasks)
+    };
+    let mut queries: Vec<Query> = lengths.map(amount).collect();
+    queries.push(Query::Outage(table.clone()));
+    queries.push(Query::Delay(table.clone()));
+    queries.push(Query::CriticalPartition(table.clone(), 4));
+    queries.push(verdict(&[1, 4, 3]));
+    queries.push(verdict(&[1, 3, 3, 1, 6, 5]));
+    queries
+}
+
+fn shared_table(frame: u64, windows: Vec<u64>, owner: u64) -> TableNumbers {
+    TableNumbers {
+        frame,
+        windows,
+        owner: Some(owner),
+    }
+}
+
+/// Each tick is nobody's or begins a window of one owner, or it goes on with the window before.
+/// The legal lists are those without a cut, where no window begins at the end of its owner's.
+fn shared_lists(frame: u64) -> Vec<Vec<u64>> {
+    let mut lists: Vec<Vec<u64>> = vec![Vec::new()];
+    for tick in 0..frame {
+        let mut longer = Vec::new();
+        for list in lists {
+            for owner in 0..OWNERS {
+                longer.push([&list[..], &[tick, tick + 1, owner]].concat());
+            }
+            if let [.., start, end, owner] = list[..] {
+                if end == tick {
+                    let before = &list[..list.len() - 3];
+                    longer.push([before, &[start, tick + 1, owner]].concat());
+                }
+            }
+            longer.push(list);
+        }
+        lists = longer;
+    }
+    lists
 }
 
 /// The verdicts of every table with P up to 7 and every group of up to two tasks with T up to 6,
@@ -101,5 +188,56 @@ mod tests {
         assert_eq!(outages().count(), 8_190 - 12);
         let is_outage = |query: Query| query.line().starts_with("OUTAGE ");
         assert!(outages().all(is_outage));
+    }
+
+    /// With u lists that end in a silent tick and v that do not, one tick more makes u + v and
+    /// 2u + 3v of them: 3, 11, 41, 153, 571 and 2,131 in all.
+    #[test]
+    fn as_many_shared_ones_as_there_are() {
+        let counts = (1..=6).map(|frame| shared_lists(frame).len());
+        assert!(counts.eq([3, 11, 41, 153, 571, 2_131]));
+        let queries: u64 = (1..)
+            .zip([3, 11, 41, 153, 571, 2_131])
+            .map(|(frame, count)| 2 * count * (2 * frame + 6))
+            .sum();
+        assert_eq!(shared().count() as u64, queries);
+        // 5 starts, 5 ends and 3 owners.
+        assert_eq!(any_windows().count(), 3 * (1 + 75 + 75 * 75));
+    }
+
+    /// Of every way to share a frame, each owner gets what its own ticks get alone; and the legal
+    /// lists are as many as there are ways.
+    #[test]
+    fn each_owner_has_its_own_ticks() {
+        for frame in 1..=MOST_SHARED_FRAME {
+            let mut legal = 0;
+            for list in shared_lists(frame) {
+                let cut = list.chunks(3).zip(list.chunks(3).skip(1));
+                let is_cut = |(one, next): (&[u64], &[u64])| one[1] == next[0] && one[2] == next[2];
+                let first_cut = cut.map(is_cut).position(|is_cut| is_cut);
+                if first_cut.is_none() && !list.is_empty() {
+                    legal += 1;
+                }
+                for owner in 0..OWNERS {
+                    let own = list.chunks(3).filter(|w| w[2] == owner);
+                    let ticks = own.flat_map(|w| w[0]..w[1]);
+                    let set = ticks.fold(0, |set, tick| set | 1 << tick);
+                    let plain = entries(&table_of_ticks(frame, set));
+                    let shared = entries(&shared_table(frame, list.clone(), owner));
+                    for (shared, plain) in shared.iter().zip(&plain) {
+                        let line = shared.line();
+                        match first_cut {
+                            // Without a tick, the plain list is empty: 1 at 0 too.
+                            None => assert_eq!(line, plain.line()),
+                            Some(before) => {
+                                let refused = format!("REFUSED 3 at {}", before + 1);
+                                assert_eq!(line.split(" BUFFER").next(), Some(&refused[..]));
+                            }
+                        }
+                    }
+                }
+            }
+            assert_eq!(legal, 3u64.pow(frame as u32) - 1);
+        }
     }
 }

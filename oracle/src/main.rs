@@ -59,7 +59,7 @@ usage: oracle answer < stream       answer a query stream, a line each
        oracle large [--steps STEPS] SEED COUNT [COMMAND ...]
                                     compare with its answers to random queries on large frames
        oracle enumerate [COMMAND ...]
-                                    compare with its outages and verdicts of every small input
+                                    compare with its answers to every small input
 COMMAND is `tools/run-program palikudyom --ask` unless it is given. With STEPS, what asks about
 many lengths has at most so many starts to try in all, for a COMMAND that tries every start.
 ";
