@@ -49,7 +49,7 @@ pub fn any_stream(r: &mut Random, most: u64) -> Vec<u8> {
 /// Bytes that begin no complete query.
 fn bad_end(r: &mut Random) -> Vec<u8> {
     let numbers = generate::query(r).numbers();
-    match r.below(4) {
+    match r.below(6) {
         0 => {
             let index = r.index(numbers.len());
             spoil::with_bad_number(r, &numbers, index)
@@ -59,7 +59,7 @@ fn bad_end(r: &mut Random) -> Vec<u8> {
             cut.truncate(1 + r.index(cut.len() - 1));
             cut
         }
-        2 => with_bad_code(r, numbers),
+        2..=4 => with_bad_code(r, numbers),
         _ => over_a_limit(r),
     }
 }

@@ -59,7 +59,7 @@ fn streams(
     comparison.summary()
 }
 
-/// Compares every small outage, shared table and verdict; true where there is no difference.
+/// Compares every small input; true where there is no difference.
 pub fn enumeration(command: &[&str]) -> io::Result<bool> {
     let mut comparison = Comparison::new(command);
     for bytes in enumerate::streams() {

@@ -1,9 +1,10 @@
 //! Every small table, and every small group on the smaller ones; every small table that two teams
-//! share, and every one of up to two windows that may break every rule.
+//! share, and every one of up to two windows that may break every rule; every bad query by a code
+//! or a count of code 16.
 
 use crate::numbers::encode;
 use crate::owners::OWNERS;
-use crate::query::Query;
+use crate::query::{Query, BOARD, MOST_NEW_NUMBERS, MOST_OLD_NUMBERS, MOST_RECORDS, ON_A_BOARD};
 use crate::stream::MOST_BYTES;
 use crate::table::TableNumbers;
 use crate::tasks::TaskNumbers;
@@ -16,8 +17,13 @@ const MOST_SHARED_FRAME: u64 = 6;
 /// The frame of the windows that may break every rule.
 const FRAME_OF_ANY_WINDOWS: u64 = 3;
 
-/// Streams of every small outage, every small shared table and then every small verdict.
+/// Streams of bad queries, then of every small outage, shared table and verdict.
 pub fn streams() -> impl Iterator<Item = Vec<u8>> {
+    let bad = bad_queries().into_iter().map(|numbers| encode(&numbers));
+    bad.chain(streams_of_queries())
+}
+
+fn streams_of_queries() -> impl Iterator<Item = Vec<u8>> {
     let shared = any_windows().chain(shared());
     let queries = outages().chain(shared).chain(verdicts());
     let mut encoded = queries.map(|query| encode(&query.numbers())).peekable();
@@ -29,6 +35,39 @@ pub fn streams() -> impl Iterator<Item = Vec<u8>> {
         }
         Some(stream)
     })
+}
+
+/// A bad query ends its stream, so each has one of its own: other counts of settings, codes up to
+/// 40 that 16 does not name, and lists over their limits under 16 and alone.
+fn bad_queries() -> Vec<Vec<u64>> {
+    let mut bad = Vec::new();
+    let full: &[u64] = &[8, 3, 0, 8, 0];
+    let settings: &[u64] = &[BOARD, 1, 0];
+    for count in [0, 2, 3, 4, 5] {
+        let settings = vec![0; count as usize];
+        bad.push([&[BOARD, count], &settings[..], &[4], full].concat());
+    }
+    for code in (0..=40).filter(|code| !ON_A_BOARD.contains(code)) {
+        bad.push([settings, &[code], full, &[0; 4]].concat());
+    }
+    for code in ON_A_BOARD {
+        let over = MOST_NEW_NUMBERS + 1;
+        let alone = if code == 17 {
+            over
+        } else {
+            MOST_OLD_NUMBERS + 1
+        };
+        let ones = vec![1; over as usize];
+        bad.push([settings, &[code, 8, over], &ones].concat());
+        bad.push([&[code, 8, alone], &ones[..]].concat());
+        let tasks = match code {
+            6..=9 | 17 => over,
+            12..=15 => MOST_RECORDS + 1,
+            _ => continue,
+        };
+        bad.push([settings, &[code], full, &[tasks], &ones].concat());
+    }
+    bad
 }
 
 /// The outage of every table with P up to 12.
@@ -177,6 +216,7 @@ fn table_of_ticks(frame: u64, set: u64) -> TableNumbers {
 #[cfg(test)]
 mod tests {
     use super::*;
+    use crate::stream;
 
     #[test]
     fn as_many_as_there_are() {
@@ -188,6 +228,19 @@ mod tests {
         assert_eq!(outages().count(), 8_190 - 12);
         let is_outage = |query: Query| query.line().starts_with("OUTAGE ");
         assert!(outages().all(is_outage));
+    }
+
+    #[test]
+    fn bad_queries_are_bad() {
+        // 5 counts; 41 codes without the 13; 13 tables twice; 9 groups.
+        assert_eq!(bad_queries().len(), 5 + 28 + 26 + 9);
+        for numbers in bad_queries() {
+            let stream = stream::read(&encode(&numbers));
+            assert!(
+                stream.queries.is_empty() && stream.bad.is_some(),
+                "{numbers:?}"
+            );
+        }
     }
 
     /// With u lists that end in a silent tick and v that do not, one tick more makes u + v and

@@ -89,7 +89,10 @@ pub fn shared_table(r: &mut Random, table: &mut TableNumbers) {
             windows[window] = end_before;
             windows[window + 2] = owner_before;
         }
-        7 | 8 if window > 0 => windows[window] = end_before.saturating_sub(1),
+        7 | 8 if window > 0 => {
+            let ticks = r.one_of(&[1, 1, 2, 4]);
+            windows[window] = end_before.saturating_sub(ticks);
+        }
         4..=8 if end > start + 1 => {
             // One window written as two that touch.
             let middle = r.between(start + 1, end - 1);

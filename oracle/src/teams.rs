@@ -22,24 +22,38 @@ pub fn share(r: &mut Random, mut query: Query) -> Query {
             Ok(_) => beside_a_team(r, table, owner),
             Err(_) => any_owners(r, table),
         };
-        // In the query in ten that has many faults there may be two here, so that order counts.
-        let chances = if faults == 2 { 2 } else { 1 };
-        for _ in 0..chances {
-            if r.once_in(faults.min(5)) {
-                spoil::shared_table(r, table);
-            }
+        if r.once_in(faults.min(5)) {
+            spoil::shared_table(r, table);
         }
-        table.owner = Some(asked(r, owner));
+        if faults == 2 {
+            spoil_again(r, table);
+        }
+        table.owner = Some(asked(r, faults, owner));
     }
     query
 }
 
+/// More faults of one table, so that their order counts.
+fn spoil_again(r: &mut Random, table: &mut TableNumbers) {
+    if r.once_in(2) {
+        spoil::shared_table(r, table);
+    }
+    if r.once_in(4) {
+        table.frame = r.one_of(&[0, MOST_FRAME + 1, GREATEST]);
+    }
+    if r.once_in(6) {
+        spoil::not_in_threes(r, &mut table.windows);
+    }
+}
+
 /// The team that has the table's own windows, the other one, or one that does not exist.
-fn asked(r: &mut Random, owner: u64) -> u64 {
-    match r.below(20) {
-        0 => absent_owner(r),
-        1..=4 => 1 - owner,
-        _ => owner,
+fn asked(r: &mut Random, faults: u64, owner: u64) -> u64 {
+    if r.once_in((2 * faults).min(20)) {
+        absent_owner(r)
+    } else if r.once_in(5) {
+        1 - owner
+    } else {
+        owner
     }
 }
 
@@ -335,6 +349,10 @@ mod tests {
             ("1, one number over", left_over == 1),
             ("1, two numbers over", left_over == 2),
             ("1, no number", table.windows.is_empty()),
+            (
+                "1 before 2",
+                !absent && !(1..=MOST_FRAME).contains(&table.frame),
+            ),
             ("1, 65 windows", too_many && count == MOST_WINDOWS + 1),
             ("1, more", too_many && count > MOST_WINDOWS + 1),
             (
@@ -376,7 +394,7 @@ mod tests {
             }
         }
         let often: Vec<_> = asked.iter().filter(|(_, &times)| times >= 10).collect();
-        assert_eq!(often.len(), 50, "{asked:#?}");
+        assert_eq!(often.len(), 51, "{asked:#?}");
     }
 
     #[test]
