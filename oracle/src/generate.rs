@@ -37,9 +37,10 @@ pub fn query(r: &mut Random) -> Query {
     }
     let is_shared = r.once_in(3);
     loop {
-        let mut query = any_query(r);
+        let faults = faults(r);
+        let mut query = any_query(r, faults);
         if is_shared {
-            query = teams::share(r, query);
+            query = teams::share(r, faults, query);
         }
         if steps(&query) <= allowance {
             return query;
@@ -57,8 +58,7 @@ pub fn faults(r: &mut Random) -> u64 {
     }
 }
 
-fn any_query(r: &mut Random) -> Query {
-    let faults = faults(r);
+fn any_query(r: &mut Random, faults: u64) -> Query {
     match r.below(32) {
         0 => least_supply_query(r, faults),
         1 | 2 => critical_partition_query(r, faults),

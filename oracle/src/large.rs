@@ -22,7 +22,8 @@ pub fn queries(r: &mut Random, most_steps: u64) -> Vec<Query> {
     let mut queries = plain_queries(r, most_steps);
     for query in &mut queries {
         if r.once_in(3) {
-            let shared = teams::share(r, query.clone());
+            let faults = generate::faults(r);
+            let shared = teams::share(r, faults, query.clone());
             // The other team's verdict may need more steps.
             let is_verdict = matches!(shared, Query::Verdict(..));
             if !is_verdict || generate::steps(&shared) <= most_steps {

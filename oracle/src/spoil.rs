@@ -64,7 +64,11 @@ pub fn shared_table(r: &mut Random, table: &mut TableNumbers) {
         windows.extend([0, 1, r.below(2)]);
         return;
     }
-    let window = 3 * r.index(count);
+    // Every window before the last has to be found legal.
+    let window = match r.once_in(4) {
+        true => 3 * (count - 1),
+        false => 3 * r.index(count),
+    };
     let (start, end, owner) = (windows[window], windows[window + 1], windows[window + 2]);
     // The window before it; before the first there is none.
     let before = window.saturating_sub(3);

@@ -14,27 +14,27 @@ const MOST_LENT_WINDOWS: u64 = MOST_NEW_NUMBERS / 3;
 
 /// The query under code 16, unless it has no table. Mostly the team that is asked for has the
 /// table's own windows, so that the group is still near the edge of meeting its deadlines.
-pub fn share(r: &mut Random, mut query: Query) -> Query {
-    let faults = generate::faults(r);
+pub fn share(r: &mut Random, faults: u64, mut query: Query) -> Query {
     if let Some(table) = query.table_mut() {
         let owner = r.below(2);
         table.windows = match table.check() {
             Ok(_) => beside_a_team(r, table, owner),
             Err(_) => any_owners(r, table),
         };
-        if r.once_in(faults.min(5)) {
-            spoil::shared_table(r, table);
-        }
-        if faults == 2 {
-            spoil_again(r, table);
+        if faults > 2 {
+            if r.once_in(5) {
+                spoil::shared_table(r, table);
+            }
+        } else if r.once_in(2) {
+            spoil_often(r, table);
         }
         table.owner = Some(asked(r, faults, owner));
     }
     query
 }
 
-/// More faults of one table, so that their order counts.
-fn spoil_again(r: &mut Random, table: &mut TableNumbers) {
+/// Some faults of one table, so that their order counts.
+fn spoil_often(r: &mut Random, table: &mut TableNumbers) {
     if r.once_in(2) {
         spoil::shared_table(r, table);
     }
@@ -48,7 +48,7 @@ fn spoil_again(r: &mut Random, table: &mut TableNumbers) {
 
 /// The team that has the table's own windows, the other one, or one that does not exist.
 fn asked(r: &mut Random, faults: u64, owner: u64) -> u64 {
-    if r.once_in((2 * faults).min(20)) {
+    if r.once_in(faults.min(20)) {
         absent_owner(r)
     } else if r.once_in(5) {
         1 - owner
