@@ -8,7 +8,6 @@ use crate::query::{
 use crate::random::Random;
 use crate::table::{TableNumbers, MOST_FRAME, MOST_WINDOWS};
 use crate::tasks::{TaskNumbers, MOST_TASKS, MOST_TICKS};
-use crate::teams;
 
 /// Breaks one rule of a legal table (refusals 1, 2 and 3).
 pub fn table(r: &mut Random, table: &mut TableNumbers) {
@@ -102,7 +101,7 @@ pub fn shared_table(r: &mut Random, table: &mut TableNumbers) {
             let middle = r.between(start + 1, end - 1);
             windows.splice(window + 1..window + 1, [middle, owner, middle]);
         }
-        9 | 10 => windows[window + 2] = teams::absent_owner(r),
+        9 | 10 => windows[window + 2] = absent_owner(r),
         11 => windows[window + 2] = owner_before,
         12 => windows[window + 2] = 1 - owner.min(1),
         13 => windows[window + 1] = start,
@@ -113,6 +112,11 @@ pub fn shared_table(r: &mut Random, table: &mut TableNumbers) {
         18 => windows.extend([start, end, r.below(2)]),
         _ => windows[window + r.index(2)] = r.one_of(&[0, table.frame, MOST_FRAME + 1, GREATEST]),
     }
+}
+
+/// An owner that does not exist: often one that is 0 or 1 in its low byte or half.
+pub fn absent_owner(r: &mut Random) -> u64 {
+    r.one_of(&[2, 2, 3, 7, 8, 256, 257, 1 << 16, 1 << 31, GREATEST])
 }
 
 fn one_tick_windows(count: u64) -> TableNumbers {

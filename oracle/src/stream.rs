@@ -274,7 +274,7 @@ mod tests {
     #[test]
     fn queries_are_read_as_they_are_written() {
         let mut random = crate::random::Random::new(5);
-        for _ in 0..5_000 {
+        for _ in 0..20_000 {
             let query = crate::generate::query(&mut random);
             let stream = read(&encode(&query.numbers()));
             assert_eq!(stream.bad, None);

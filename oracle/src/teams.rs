@@ -9,8 +9,8 @@ use crate::spoil;
 use crate::table::{TableNumbers, MOST_FRAME, MOST_WINDOWS};
 use crate::tasks::TaskNumbers;
 
-/// As many windows as a query may have.
-const MOST_LENT_WINDOWS: u64 = MOST_NEW_NUMBERS / 3;
+/// As many windows as a query has room for, with some numbers left for faults.
+const MOST_LENT_WINDOWS: u64 = MOST_NEW_NUMBERS / 3 - 3;
 
 /// The query under code 16, unless it has no table. Mostly the team that is asked for has the
 /// table's own windows, so that the group is still near the edge of meeting its deadlines.
@@ -49,17 +49,12 @@ fn spoil_often(r: &mut Random, table: &mut TableNumbers) {
 /// The team that has the table's own windows, the other one, or one that does not exist.
 fn asked(r: &mut Random, faults: u64, owner: u64) -> u64 {
     if r.once_in(faults.min(20)) {
-        absent_owner(r)
+        spoil::absent_owner(r)
     } else if r.once_in(5) {
         1 - owner
     } else {
         owner
     }
-}
-
-/// Often one that is 0 or 1 in its low byte or half.
-pub fn absent_owner(r: &mut Random) -> u64 {
-    r.one_of(&[2, 2, 3, 7, 8, 256, 257, 1 << 16, 1 << 31, GREATEST])
 }
 
 /// The windows of a broken table, each some owner's: those that touched may be legal now.
