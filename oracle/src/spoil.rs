@@ -116,7 +116,7 @@ pub fn shared_table(r: &mut Random, table: &mut TableNumbers) {
 
 /// An owner that does not exist: often one that is 0 or 1 in its low byte or half.
 pub fn absent_owner(r: &mut Random) -> u64 {
-    r.one_of(&[2, 2, 3, 7, 8, 256, 257, 1 << 16, 1 << 31, GREATEST])
+    r.one_of(&[2, 2, 2, 2, 3, 8, 256, 257, 1 << 16, GREATEST])
 }
 
 fn one_tick_windows(count: u64) -> TableNumbers {
