@@ -23,7 +23,7 @@ use Rattle.scope.specs.Trace.{recordBytes, traceBytes}
 use Rattle.scope.specs.Replay.{ends, endedIn, endedFrom, releasedAt, recordedTo, firstDifference, replayed, extentFault, recordFault, replayFault}
 use Rattle.scope.specs.Replay.{recordsAnswer, replayAnswer}
 use Rattle.scope.specs.Shared.{windowsFor, asOwned, follows, ownedLegal, badOwned, ownedListFault, ownedFault, wholeFault, absentOwnerFault, sharedFault}
-use Rattle.scope.specs.Shared.{ownedAnswer, ownFault, ownAnswer, ownOut}
+use Rattle.scope.specs.Shared.{ownedAnswer, ownFault, ownAnswer, ownOut, asOwnedAnswer, asOwnedOut}
 use Rattle.scope.specs.Shared.{askedFor, suppliedFor, leastSupplyFor, criticalFor, criticalOutFor, delayFor, outageFor, marginFor, verdictFor, boundFor}
 use Rattle.scope.specs.Shared.{runFor, runOutFor, recordsFor, replayFor}
 use Rattle.scope.specs.Demands.{dueWithin, fullJobsIn, fullJobs, givenTo}
@@ -85,7 +85,7 @@ unfolding ends endedIn endedFrom releasedAt recordedTo firstDifference replayed 
 replays·compute = tt
 
 unfoldable pub sharedFaults·compute : Unit {0}
-unfolding windowsFor asOwned follows ownedLegal badOwned ownedListFault ownedFault wholeFault absentOwnerFault sharedFault ownedAnswer ownFault ownAnswer ownOut askedFor
+unfolding windowsFor asOwned follows ownedLegal badOwned ownedListFault ownedFault wholeFault absentOwnerFault sharedFault ownedAnswer ownFault ownAnswer ownOut asOwnedAnswer asOwnedOut askedFor
 sharedFaults·compute = tt
 
 unfoldable pub sharedAnswers·compute : Unit {0}

@@ -24,7 +24,7 @@ use Rattle.scope.specs.Trace.{Record, completion}
 use Rattle.scope.specs.Replay as Replays
 use Rattle.scope.specs.Replay.{Replayed, extentFault, replayAnswer}
 use Rattle.scope.specs.Limits.{teams}
-use Rattle.scope.specs.Shared.{Owned, owned, ownedListFault, ownedAnswer, ownAnswer, ownOut}
+use Rattle.scope.specs.Shared.{Owned, owned, ownedListFault, ownedAnswer, ownAnswer, ownOut, asOwnedAnswer, asOwnedOut}
 use Rattle.scope.specs.Shared.{leastSupplyFor, criticalFor, criticalOutFor, delayFor, outageFor, marginFor, verdictFor, boundFor}
 use Rattle.scope.specs.Shared.{runFor, runOutFor, replayFor}
 use Rattle.scope.specs.Computing.{everything}
@@ -65,6 +65,7 @@ pub data Question : Type 0 where
   sharedLists : (sizes : List ℕ) → Question
   ownedAlone : (frame start end owner : ℕ) → Question
   ownOf : (frame owner : ℕ) (windows buffer : List ℕ) → Question
+  ownedPairs : (owner : ℕ) (windows buffer : List ℕ) → Question
 
 pub data Reply : Type 0 where
   amounts : List (Answer ℕ) → Reply
@@ -131,6 +132,7 @@ reply (outageOfFor P o ws) = amounts (outageFor (onFor P o) ws ∷ [])
 reply (replayOfFor P o ws ts trace) = aReplay (replayFor (onFor P o) ws ts trace)
 reply (ownedAlone P s e o) = anOwned (ownedAnswer teams (on P) (owned s e o))
 reply (ownOf P o ws out) = windows (ownAnswer teams (onFor P o) ws (length out)) (ownOut teams (onFor P o) ws out)
+reply (ownedPairs o ws out) = windows (asOwnedAnswer o ws (length out)) (asOwnedOut o ws out)
 reply (sharedLists l) = faults (map (λ n. ownedListFault (replicate n 0)) l)
 
 -- ---- the table
@@ -305,6 +307,10 @@ table =
     ∷ ("owner 1's windows" asks ownOf 8 1 XShared (9 ∷ 9 ∷ 9 ∷ 9 ∷ 9 ∷ []) gives windows (given 4) (2 ∷ 5 ∷ 7 ∷ 8 ∷ 9 ∷ []))
     ∷ ("owner 1's windows without room" asks ownOf 8 1 XShared (9 ∷ 9 ∷ 9 ∷ []) gives windows (refused 8 4) (9 ∷ 9 ∷ 9 ∷ []))
     ∷ ("an absent owner before 8" asks ownOf 8 2 XShared [] gives windows (refused 1 0) [])
+    -- pairs read as one owner's, a number that is left over too
+    ∷ ("X as owner 1's" asks ownedPairs 1 X (9 ∷ 9 ∷ 9 ∷ 9 ∷ 9 ∷ 9 ∷ 9 ∷ []) gives windows (given 6) (0 ∷ 2 ∷ 1 ∷ 5 ∷ 7 ∷ 1 ∷ 9 ∷ []))
+    ∷ ("an odd list as owner 0's" asks ownedPairs 0 (0 ∷ 2 ∷ 5 ∷ []) (9 ∷ 9 ∷ 9 ∷ 9 ∷ []) gives windows (given 4) (0 ∷ 2 ∷ 0 ∷ 5 ∷ []))
+    ∷ ("pairs without room" asks ownedPairs 0 (0 ∷ 2 ∷ []) (9 ∷ 9 ∷ []) gives windows (refused 8 3) (9 ∷ 9 ∷ []))
     -- lists in threes: the longest, one window more, none, pairs; and the order
     ∷ ("shared lists" asks sharedLists (192 ∷ 195 ∷ 0 ∷ 4 ∷ []) gives faults (fine ∷ fault 1 0 ∷ fault 1 0 ∷ fault 1 0 ∷ []))
     ∷ ("1 before 2, shared" asks verdictOfFor 0 0 X [] gives aVerdict (refused 1 0))
@@ -386,7 +392,7 @@ Hold (e ∷ rows) = (reply (e .question) ≡ e .expected) × Hold rows
 pub examples : Hold table
 unfolding everything reply table
 examples =
-    (refl, (refl, (refl, (refl, (refl, (refl, (refl, (refl, (refl, (refl, (refl, (refl, (refl, (refl, (refl, (refl, (refl, (refl, (refl, (refl, (refl, (refl, (refl, (refl, (refl, (refl, (refl, (refl, (refl, (refl, (refl, (refl, (refl, (refl, (refl, (refl, (refl, (refl, (refl, (refl, (refl, (refl, (refl, (refl, (refl, (refl, (refl, (refl, (refl, (refl, (refl, (refl, (refl, (refl, (refl, (refl, (refl, (refl, (refl, (refl, (refl, (refl, (refl, (refl, (refl, (refl, (refl, (refl, (refl, (refl, (refl, (refl, (refl, (refl, (refl, (refl, (refl, (refl, (refl, (refl, (refl, (refl, (refl, (refl, (refl, (refl, (refl, (refl, (refl, (refl, (refl, (refl, (refl, (refl, (refl, (refl, (refl, (refl, (refl, (refl, (refl, (refl, (refl, (refl, (refl, (refl, (refl, (refl, (refl, (refl, (refl, (refl, (refl, (refl, (refl, (refl, (refl, (refl, (refl, (refl, (refl, (refl, (refl, (refl, (refl, (refl, (refl, (refl, (refl, (refl, (refl, (refl, (refl, (refl, (refl, (refl, (refl, (refl, (refl, (refl, (refl, (refl, (refl, (refl, tt))))))))))))))))))))))))))))))))))))))))))))))))))))))))))))))))))))))))))))))))))))))))))))))))))))))))))))))))))))))))))))))))))))))))))))))))
+    (refl, (refl, (refl, (refl, (refl, (refl, (refl, (refl, (refl, (refl, (refl, (refl, (refl, (refl, (refl, (refl, (refl, (refl, (refl, (refl, (refl, (refl, (refl, (refl, (refl, (refl, (refl, (refl, (refl, (refl, (refl, (refl, (refl, (refl, (refl, (refl, (refl, (refl, (refl, (refl, (refl, (refl, (refl, (refl, (refl, (refl, (refl, (refl, (refl, (refl, (refl, (refl, (refl, (refl, (refl, (refl, (refl, (refl, (refl, (refl, (refl, (refl, (refl, (refl, (refl, (refl, (refl, (refl, (refl, (refl, (refl, (refl, (refl, (refl, (refl, (refl, (refl, (refl, (refl, (refl, (refl, (refl, (refl, (refl, (refl, (refl, (refl, (refl, (refl, (refl, (refl, (refl, (refl, (refl, (refl, (refl, (refl, (refl, (refl, (refl, (refl, (refl, (refl, (refl, (refl, (refl, (refl, (refl, (refl, (refl, (refl, (refl, (refl, (refl, (refl, (refl, (refl, (refl, (refl, (refl, (refl, (refl, (refl, (refl, (refl, (refl, (refl, (refl, (refl, (refl, (refl, (refl, (refl, (refl, (refl, (refl, (refl, (refl, (refl, (refl, (refl, (refl, (refl, (refl, (refl, (refl, (refl, tt)))))))))))))))))))))))))))))))))))))))))))))))))))))))))))))))))))))))))))))))))))))))))))))))))))))))))))))))))))))))))))))))))))))))))))))))))))
 
 -- ---- a row by its name
 

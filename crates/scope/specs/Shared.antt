@@ -101,6 +101,14 @@ ownAnswer owners b ws room = unless (ownFault owners b ws room) (length (own b w
 unfoldable pub ownOut : ℕ → Board → List ℕ → List ℕ → List ℕ
 ownOut owners b ws out = unlessKept (ownFault owners b ws (length out)) (written (own b ws) out) out
 
+-- the same of pairs that are read as one owner's
+
+unfoldable pub asOwnedAnswer : ℕ → List ℕ → ℕ → Answer ℕ
+asOwnedAnswer o ws room = unless (roomFault (length (asOwned o ws)) room) (length (asOwned o ws))
+
+unfoldable pub asOwnedOut : ℕ → List ℕ → List ℕ → List ℕ
+asOwnedOut o ws out = unlessKept (roomFault (length (asOwned o ws)) (length out)) (written (asOwned o ws) out) out
+
 -- ---- entries. Windows ws are a list of numbers in threes
 
 -- a refusal in place of what is given

@@ -4,18 +4,19 @@ use mathlib.Core.Bool.{Bool, true, false, not, cond, _&&_, _||_, and-true, or-fa
 use mathlib.Core.Logic.{_≢_}
 use mathlib.Core.Option.{none, some}
 use mathlib.Core.List.{List, [], _∷_, _++_, append-nil, append-assoc}
-use Prim.Native.Nat.{ℕ, zero, suc, _+_, _-_, _≤_, _<_}
+use Prim.Native.Nat.{ℕ, zero, suc, _+_, _-_, _*_, _≤_, _<_}
 use native.Mathlib.Omega.{arith}
 use native.Mathlib.Numerals.{add-one}
 use lib.Dec.{ltb, eqb}
-use lib.ListN.{length, set, take, drop, length-append, length-set, take-append-drop}
-use lib.Seq.{take-suc, take-length}
+use lib.ListN.{length, getD, set, take, drop, length-append, length-set, take-append-drop}
+use lib.Seq.{take-suc, take-length, length-take-le}
 use borrow.Author.Tests.{lt-ltb, le-ltb, eq-eqb, ne-eqb}
 use Rattle.scope.specs.Numbers.{firstBy, written}
 use Rattle.scope.specs.Windows.{Board, Window, windowFits}
 use Rattle.scope.specs.Answers.{Answer.given, Answer.refused, faultAt, unless}
-use Rattle.scope.specs.Shared.{Owned, owned, ownedAt, windowsFor, follows, ownedLegal, badOwned, ownedFault, ownedAnswer}
+use Rattle.scope.specs.Shared.{Owned, owned, ownedAt, windowsFor, asOwned, follows, ownedLegal, badOwned, ownedFault, ownedAnswer}
 use Rattle.theory.specs.Buffers.{written-more}
+use Rattle.theory.specs.Alone.{owned-length}
 use Rattle.tables.proofs.FaultLaws.{keeps, breaks}
 
 -- ---- the rule
@@ -121,3 +122,57 @@ written-two l d at s e out len is h =
     ∙ ap (λ (n : ℕ). set (written (l ++ (s ∷ [])) d) n e) (sym more)
     ∙ written-more (l ++ (s ∷ [])) d e (omega (arith, more))
     ∙ ap (λ (m : List ℕ). written m d) (append-assoc l (s ∷ []) (e ∷ []))
+
+-- ---- pairs as threes of one owner
+
+module _ (o : ℕ) where
+  -- after whole pairs the reading starts afresh
+  owned-append : (n : ℕ) (l r : List ℕ) → length l ≡ 2 * n → asOwned o (l ++ r) ≡ asOwned o l ++ asOwned o r
+  unfolding asOwned
+  owned-append n [] r h = refl
+  owned-append n (s ∷ []) r h = absurd (omega arith)
+  owned-append zero (s ∷ e ∷ l) r h = absurd (omega arith)
+  owned-append (suc n) (s ∷ e ∷ l) r h = ap (λ (m : List ℕ). s ∷ e ∷ o ∷ m) (owned-append n l r (omega arith))
+
+  -- the threes of the first i pairs
+  abbrev pub threes : List ℕ → ℕ → List ℕ
+  threes ws i = asOwned o (take (2 * i) ws)
+
+  pub threes-none : (ws : List ℕ) → threes ws 0 ≡ []
+  unfolding asOwned
+  threes-none ws = refl
+
+  module _ (ws : List ℕ) (i : ℕ) where
+    pub threes-length : 2 * i ≤ length ws → length (threes ws i) ≡ 3 * i
+    threes-length h =
+        let l : length (take (2 * i) ws) ≡ 2 * i = length-take-le (2 * i) ws h in
+        let n = owned-length o (take (2 * i) ws) in
+        omega (arith, l, n)
+
+    pub threes-more : 2 * i + 1 < length ws → threes ws (i + 1) ≡ threes ws i ++ (getD ws (2 * i) 0 ∷ getD ws (2 * i + 1) 0 ∷ o ∷ [])
+    unfolding asOwned
+    threes-more h =
+        let two : 2 * (i + 1) ≡ suc (suc (2 * i)) = omega arith in
+        let one : 2 * i + 1 ≡ suc (2 * i) = omega arith in
+        rw (two, take-suc ws (suc (2 * i)) 0 (omega arith), take-suc ws (2 * i) 0 (omega arith), append-assoc, one)
+        (owned-append i (take (2 * i) ws) (getD ws (2 * i) 0 ∷ getD ws (suc (2 * i)) 0 ∷ []) (length-take-le (2 * i) ws (omega arith)))
+
+    -- all of them, where none is left over, and where one is
+    pub threes-all : length ws ≡ 2 * i → threes ws i ≡ asOwned o ws
+    threes-all e = rw (← e, take-length ws)
+
+    pub threes-left : length ws ≡ suc (2 * i) → asOwned o ws ≡ threes ws i ++ (getD ws (2 * i) 0 ∷ [])
+    unfolding asOwned
+    threes-left e =
+        ap (asOwned o) (sym (take-length ws) ∙ ap (λ (n : ℕ). take n ws) e ∙ take-suc ws (2 * i) 0 (omega arith))
+        ∙ owned-append i (take (2 * i) ws) (getD ws (2 * i) 0 ∷ []) (length-take-le (2 * i) ws (omega arith))
+
+-- three numbers more in the lent memory
+pub written-three : (l d : List ℕ) (at s e o : ℕ) (out : List ℕ) → at ≡ length l → out ≡ written l d → at + 2 < length d →
+    set (set (set out at s) (at + 1) e) (at + 2) o ≡ written (l ++ (s ∷ e ∷ o ∷ [])) d
+written-three l d at s e o out len is h =
+    let more : length (l ++ (s ∷ e ∷ [])) ≡ at + 2 = length-append l (s ∷ e ∷ []) ∙ omega arith in
+    ap (λ (m : List ℕ). set m (at + 2) o) (written-two l d at s e out len is (omega arith))
+    ∙ ap (λ (n : ℕ). set (written (l ++ (s ∷ e ∷ [])) d) n o) (sym more)
+    ∙ written-more (l ++ (s ∷ e ∷ [])) d o (omega (arith, more))
+    ∙ ap (λ (m : List ℕ). written m d) (append-assoc l (s ∷ e ∷ []) (o ∷ []))

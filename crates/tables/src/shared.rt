@@ -13,7 +13,7 @@ ghost use Prim.Native.Nat.{_≤_};
 ghost use lib.ListN.{length};
 ghost use Rattle.scope.specs.Numbers.{written};
 ghost use Rattle.scope.specs.Shared.{owned, ownedOf, ownedAt, own, follows, ownedLegal, ownedFault, ownedAnswer, wholeFault};
-ghost use Rattle.scope.specs.Shared.{absentOwnerFault, sharedFault, ownAnswer, ownOut};
+ghost use Rattle.scope.specs.Shared.{absentOwnerFault, sharedFault, ownAnswer, ownOut, asOwned, asOwnedAnswer, asOwnedOut};
 ghost use Rattle.tables.specs.Told.{boardOf, ownedBy, faultOf, toldOwned, toldAmount};
 
 // A window and the team that it belongs to.
@@ -200,5 +200,38 @@ pub fn own_windows(owners: u32, board: Board, windows: &[u32], out: &mut [u32]) 
                 Amount::Of(numbers as u64)
             }
         }
+    }
+}
+
+// Writes the pairs as threes of one owner at the front of out.
+fn write_owned(owner: u32, windows: &[u32], out: &mut [u32])
+    requires { ⌜ length (asOwned owner (now windows)) ≤ length (now out) ⌝ }
+    ensures { λ _. ⌜ now (out .exit) ≡ written (asOwned owner (now (windows .entry))) (now (out .entry)) ⌝ }
+{
+    let count = windows.len() / 2;
+    let mut i = 0;
+    while i < count {
+        out[3 * i] = windows[2 * i];
+        out[3 * i + 1] = windows[2 * i + 1];
+        out[3 * i + 2] = owner;
+        i += 1;
+    }
+    if windows.len() % 2 == 1 {
+        out[3 * i] = windows[2 * i];
+    }
+}
+
+// A list of pairs, all read as one owner's, at the front of out: how many numbers the threes have, where a number that is left over stays one. Refusal 8.
+pub fn as_owned(owner: u32, windows: &[u32], out: &mut [u32]) -> Amount
+    ensures answer { λ r. ⌜ toldAmount r ≡ asOwnedAnswer owner (now (windows .entry)) (length (now (out .entry))) ⌝ }
+    ensures buffer { λ _. ⌜ now (out .exit) ≡ asOwnedOut owner (now (windows .entry)) (now (out .entry)) ⌝ }
+{
+    let count = windows.len();
+    let numbers = count / 2 * 3 + count % 2;
+    if out.len() < numbers {
+        refuse(Refusal::Room(numbers as u64), out)
+    } else {
+        write_owned(owner, windows, out);
+        Amount::Of(numbers as u64)
     }
 }

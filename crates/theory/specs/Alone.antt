@@ -136,7 +136,7 @@ module _ (o : ℕ) where
   owned-read (s ∷ e ∷ ws) = ap (λ (l : List Owned). owned s e o ∷ l) (owned-read ws)
 
   -- threes for pairs, a number that is left over too
-  owned-length : (ws : List ℕ) → (length (asOwned o ws) % 3 ≡ length ws % 2) × (length (asOwned o ws) / 3 ≡ length ws / 2)
+  pub owned-length : (ws : List ℕ) → (length (asOwned o ws) % 3 ≡ length ws % 2) × (length (asOwned o ws) / 3 ≡ length ws / 2)
   unfolding asOwned
   owned-length [] = (refl, refl)
   owned-length (s ∷ []) = (refl, refl)
