@@ -101,6 +101,6 @@ module _ (bytes : List ℕ) where
   unfolding planAnswer planOf
   plan-refused r e = rw e
 
-  pub plan-judged : (p : Plan) → planFrom bytes 0 ≡ given p → verdictAnswer (record { frame = p .frame }) (p .windows) (p .tasks) ≡ planAnswer bytes
+  pub plan-judged : (p : Plan) → planFrom bytes 0 ≡ given p → verdictAnswer (record { frame = p .frame; owner = 0 }) (p .windows) (p .tasks) ≡ planAnswer bytes
   unfolding planAnswer planOf
   plan-judged p e = rw e

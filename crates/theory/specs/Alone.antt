@@ -18,96 +18,90 @@ use Rattle.scope.specs.Answers.{Fault, Fault.fine, Fault.fault, Answer, Answer.
 use Rattle.scope.specs.Answers.{windowListFault, frameFault, windowFault, tableFault, cycleFault, criticalFault, runFault}
 use Rattle.scope.specs.Answers.{suppliedAnswer, leastSupplyAnswer, criticalAnswer, criticalOut, delayAnswer, outageAnswer}
 use Rattle.scope.specs.Answers.{marginAnswer, verdictAnswer, boundAnswer, runAnswer, runOut}
-use Rattle.scope.specs.Trace.{Record}
-use Rattle.scope.specs.Replay.{replayFault, recordsAnswer}
+use Rattle.scope.specs.Plan.{Read, Read.read, Read.bad, orNine}
+use Rattle.scope.specs.Trace.{Record, traceOf, timed}
+use Rattle.scope.specs.Replay.{replayFault, recordsAnswer, replayAnswer}
 use Rattle.scope.specs.Shared.{Owned, owned, ownedOf, ownedAt, windowsFor, own, asOwned, follows, ownedLegal, badOwned, ownedListFault, ownedFault}
-use Rattle.scope.specs.Shared.{wholeFault, absentOwnerFault, sharedFault, unlessRefused, askedFor, kept}
+use Rattle.scope.specs.Shared.{wholeFault, absentOwnerFault, sharedFault, unlessRefused, askedFor, kept, recordsFor, replayFor}
 use Rattle.theory.specs.Shared.{asked-fine, asked-refused}
 use Rattle.theory.specs.Answers.{table-legal}
 
--- ---- the frame is all that an entry reads of its board
+-- ---- entries: functions of a board and a list of windows that refuse what is no table, and of the board read no more than the frame
 
--- an entry is a function of a board and a list of windows
-abbrev pub ByFrame : {R : Type 0} → (Board → List ℕ → R) → Type 0
-ByFrame entry = (b c : Board) (ws : List ℕ) → b .frame ≡ c .frame → entry b ws ≡ entry c ws
+pub record Entry {R : Type 0} (refusal : ℕ → ℕ → R) (entry : Board → List ℕ → R) : Type 0 where
+  pub checks : (b : Board) (ws : List ℕ) (n p : ℕ) → tableFault b ws ≡ fault n p → entry b ws ≡ refusal n p
+  pub by-frame : (b c : Board) (ws : List ℕ) → b .frame ≡ c .frame → entry b ws ≡ entry c ws
 
 covers-board : (b c : Board) (ws : List Window) (k : ℕ) → covers b ws k ≡ covers c ws k
 unfolding covers gives
 covers-board b c [] k = refl
 covers-board b c (w ∷ ws) k = rw (covers-board b c ws k)
 
-supply-board : ByFrame suppliedBy
+σ : (b c : Board) (ws : List ℕ) → b .frame ≡ c .frame → suppliedBy b ws ≡ suppliedBy c ws
 unfolding supplied
-supply-board b c ws e = fun-ext (λ k. ap (λ (P : ℕ). covers b (windowsOf ws) (k % P)) e ∙ covers-board b c (windowsOf ws) (k % c .frame))
+σ b c ws e = fun-ext (λ k. ap (λ (P : ℕ). covers b (windowsOf ws) (k % P)) e ∙ covers-board b c (windowsOf ws) (k % c .frame))
 
-fault-board : ByFrame tableFault
+φ : (b c : Board) (ws : List ℕ) → b .frame ≡ c .frame → tableFault b ws ≡ tableFault c ws
 unfolding tableFault frameFault windowFault badWindow windowLegal
-fault-board b c ws e = ap (λ (P : ℕ). tableFault (record { frame = P; owner = 0 }) ws) e
+φ b c ws e = ap (λ (P : ℕ). tableFault (record { frame = P; owner = 0 }) ws) e
 
-module _ (b c : Board) (ws : List ℕ) (e : b .frame ≡ c .frame) where
-  abbrev σ : suppliedBy b ws ≡ suppliedBy c ws
-  σ = supply-board b c ws e
+pub supplied-entry : (k : ℕ) → Entry refused (λ b ws. suppliedAnswer b ws k)
+unfolding suppliedAnswer
+supplied-entry k = record { checks = λ b ws n p e. rw e; by-frame = λ b c ws e. rw (φ b c ws e, σ b c ws e) }
 
-  abbrev φ : tableFault b ws ≡ tableFault c ws
-  φ = fault-board b c ws e
+pub least-supply-entry : (t : ℕ) → Entry refused (λ b ws. leastSupplyAnswer b ws t)
+unfolding leastSupplyAnswer
+least-supply-entry t = record { checks = λ b ws n p e. rw e; by-frame = λ b c ws e. rw (φ b c ws e, σ b c ws e, e) }
 
-  pub supplied-by-frame : (k : ℕ) → suppliedAnswer b ws k ≡ suppliedAnswer c ws k
-  unfolding suppliedAnswer
-  supplied-by-frame k = rw (φ, σ)
+pub critical-entry : (room : ℕ) → Entry refused (λ b ws. criticalAnswer b ws room)
+unfolding criticalAnswer criticalFault
+critical-entry room = record { checks = λ b ws n p e. rw e; by-frame = λ b c ws e. rw (φ b c ws e, σ b c ws e, e) }
 
-  pub least-supply-by-frame : (t : ℕ) → leastSupplyAnswer b ws t ≡ leastSupplyAnswer c ws t
-  unfolding leastSupplyAnswer
-  least-supply-by-frame t = rw (φ, σ, e)
+pub critical-out-entry : (out : List ℕ) → Entry (kept out) (λ b ws. criticalOut b ws out)
+unfolding criticalOut criticalFault
+critical-out-entry out = record { checks = λ b ws n p e. rw e; by-frame = λ b c ws e. rw (φ b c ws e, σ b c ws e, e) }
 
-  pub critical-by-frame : (room : ℕ) → criticalAnswer b ws room ≡ criticalAnswer c ws room
-  unfolding criticalAnswer criticalFault
-  critical-by-frame room = rw (φ, σ, e)
+pub delay-entry : Entry refused (λ b ws. delayAnswer b ws)
+unfolding delayAnswer
+delay-entry = record { checks = λ b ws n p e. rw e; by-frame = λ b c ws e. rw (φ b c ws e, σ b c ws e, e) }
 
-  pub critical-out-by-frame : (out : List ℕ) → criticalOut b ws out ≡ criticalOut c ws out
-  unfolding criticalOut criticalFault
-  critical-out-by-frame out = rw (φ, σ, e)
+pub outage-entry : Entry refused (λ b ws. outageAnswer b ws)
+unfolding outageAnswer
+outage-entry = record { checks = λ b ws n p e. rw e; by-frame = λ b c ws e. rw (φ b c ws e, σ b c ws e, e) }
 
-  pub delay-by-frame : delayAnswer b ws ≡ delayAnswer c ws
-  unfolding delayAnswer
-  delay-by-frame = rw (φ, σ, e)
+pub margin-entry : (ts : List ℕ) (t : ℕ) → Entry refused (λ b ws. marginAnswer b ws ts t)
+unfolding marginAnswer
+margin-entry ts t = record { checks = λ b ws n p e. rw e; by-frame = λ b c ws e. rw (φ b c ws e, σ b c ws e, e) }
 
-  pub outage-by-frame : outageAnswer b ws ≡ outageAnswer c ws
-  unfolding outageAnswer
-  outage-by-frame = rw (φ, σ, e)
+pub verdict-entry : (ts : List ℕ) → Entry refused (λ b ws. verdictAnswer b ws ts)
+unfolding verdictAnswer cycleFault
+verdict-entry ts = record { checks = λ b ws n p e. rw e; by-frame = λ b c ws e. rw (φ b c ws e, σ b c ws e, e) }
 
-  pub margin-by-frame : (ts : List ℕ) (t : ℕ) → marginAnswer b ws ts t ≡ marginAnswer c ws ts t
-  unfolding marginAnswer
-  margin-by-frame ts t = rw (φ, σ, e)
+pub bound-entry : (ts : List ℕ) (i : ℕ) → Entry refused (λ b ws. boundAnswer b ws ts i)
+unfolding boundAnswer
+bound-entry ts i = record { checks = λ b ws n p e. rw e; by-frame = λ b c ws e. rw (φ b c ws e, σ b c ws e, e) }
 
-  pub verdict-by-frame : (ts : List ℕ) → verdictAnswer b ws ts ≡ verdictAnswer c ws ts
-  unfolding verdictAnswer cycleFault
-  verdict-by-frame ts = rw (φ, σ, e)
+pub run-entry : (ts : List ℕ) (n : ℕ) (js : List ℕ) (room : ℕ) → Entry refused (λ b ws. runAnswer b ws ts n js room)
+unfolding runAnswer runFault
+run-entry ts n js room = record { checks = λ b ws n p e. rw e; by-frame = λ b c ws e. rw (φ b c ws e, σ b c ws e) }
 
-  pub bound-by-frame : (ts : List ℕ) (i : ℕ) → boundAnswer b ws ts i ≡ boundAnswer c ws ts i
-  unfolding boundAnswer
-  bound-by-frame ts i = rw (φ, σ, e)
+pub run-out-entry : (ts : List ℕ) (n : ℕ) (js out : List ℕ) → Entry (kept out) (λ b ws. runOut b ws ts n js out)
+unfolding runOut runFault
+run-out-entry ts n js out = record { checks = λ b ws n p e. rw e; by-frame = λ b c ws e. rw (φ b c ws e, σ b c ws e) }
 
-  pub run-by-frame : (ts : List ℕ) (n : ℕ) (js : List ℕ) (room : ℕ) → runAnswer b ws ts n js room ≡ runAnswer c ws ts n js room
-  unfolding runAnswer runFault
-  run-by-frame ts n js room = rw (φ, σ)
-
-  pub run-out-by-frame : (ts : List ℕ) (n : ℕ) (js out : List ℕ) → runOut b ws ts n js out ≡ runOut c ws ts n js out
-  unfolding runOut runFault
-  run-out-by-frame ts n js out = rw (φ, σ)
-
-  pub records-by-frame : (ts : List ℕ) (rs : List Record) → recordsAnswer b ws ts rs ≡ recordsAnswer c ws ts rs
-  unfolding recordsAnswer replayFault
-  records-by-frame ts rs = rw (φ, σ)
+pub records-entry : (ts : List ℕ) (rs : List Record) → Entry refused (λ b ws. recordsAnswer b ws ts rs)
+unfolding recordsAnswer replayFault
+records-entry ts rs = record { checks = λ b ws n p e. rw e; by-frame = λ b c ws e. rw (φ b c ws e, σ b c ws e) }
 
 -- ---- whatever the other team does
 
-pub alone : {R : Type 0} (owners : ℕ) (refusal : ℕ → ℕ → R) (entry : Board → List ℕ → R) → ByFrame entry →
-    (b c : Board) (ws vs : List ℕ) → wholeFault owners b ws ≡ fine → wholeFault owners c vs ≡ fine →
+pub alone : {R : Type 0} {refusal : ℕ → ℕ → R} {entry : Board → List ℕ → R} → Entry refusal entry →
+    (owners : ℕ) (b c : Board) (ws vs : List ℕ) → wholeFault owners b ws ≡ fine → wholeFault owners c vs ≡ fine →
     b .frame ≡ c .frame → own b ws ≡ own c vs →
     askedFor owners b ws refusal (entry b) ≡ askedFor owners c vs refusal (entry c)
 unfolding askedFor sharedFault absentOwnerFault
-alone owners refusal entry by b c ws vs e f framed same =
-    rw (e, f, same) (ap (unlessRefused (faultIf (eqb (length (own c vs)) 0) 1 0) refusal) (by b c (own c vs) framed))
+alone {R} {refusal} {entry} is owners b c ws vs e f framed same =
+    rw (e, f, same) (ap (unlessRefused (faultIf (eqb (length (own c vs)) 0) 1 0) refusal) (is .by-frame b c (own c vs) framed))
 
 -- ---- a table with one owner
 
@@ -192,12 +186,31 @@ module _ (owners : ℕ) (b : Board) (exists : b .owner < owners) (ws : List ℕ)
           let ok = table-legal b ws e in
           rw (owned-back (b .owner) ws (ok .even), ne-eqb (length ws) 0 (λ z. omega (arith, ok .some)))
 
-  -- and answered as they are, by every entry that refuses what is no table
-  pub one-owner : {R : Type 0} (refusal : ℕ → ℕ → R) (entry : List ℕ → R) → ((n p : ℕ) → tableFault b ws ≡ fault n p → entry ws ≡ refusal n p) →
-      askedFor owners b threes refusal entry ≡ entry ws
-  one-owner refusal entry checks = go (tableFault b ws) refl
+  -- where they are a table they are its owner's windows
+  pub own-pairs : length ws % 2 ≡ 0 → own b threes ≡ ws
+  own-pairs h = owned-back (b .owner) ws h
+
+  -- and they are answered as the pairs are, refusals and places too
+  pub one-owner : {R : Type 0} {refusal : ℕ → ℕ → R} {entry : Board → List ℕ → R} → Entry refusal entry → askedFor owners b threes refusal (entry b) ≡ entry b ws
+  one-owner {R} {refusal} {entry} is = go (tableFault b ws) refl
     where
-      go : (f : Fault) → tableFault b ws ≡ f → askedFor owners b threes refusal entry ≡ entry ws
-      go (fault n p) e = asked-refused owners b threes refusal entry (pairs-fault ∙ e) ∙ sym (checks n p e)
+      go : (f : Fault) → tableFault b ws ≡ f → askedFor owners b threes refusal (entry b) ≡ entry b ws
+      go (fault n p) e = asked-refused owners b threes refusal (entry b) (pairs-fault ∙ e) ∙ sym (is .checks b ws n p e)
       go fine e =
-          asked-fine owners b threes refusal entry (pairs-fault ∙ e) ∙ ap entry (owned-back (b .owner) ws (table-legal b ws e .even))
+          asked-fine owners b threes refusal (entry b) (pairs-fault ∙ e) ∙ ap (entry b) (own-pairs (table-legal b ws e .even))
+
+-- ---- a trace, whose bytes are refused before any table
+
+or-nine : {A B : Type 0} (r : Read A) (f g : A → ℕ → Answer B) → ((a : A) (next : ℕ) → f a next ≡ g a next) → orNine r f ≡ orNine r g
+or-nine (read a next) f g h = h a next
+or-nine (bad o) f g h = refl
+
+pub replay-alone : (b c : Board) (ws vs ts bytes : List ℕ) → wholeFault teams b ws ≡ fine → wholeFault teams c vs ≡ fine →
+    b .frame ≡ c .frame → own b ws ≡ own c vs → replayFor b ws ts bytes ≡ replayFor c vs ts bytes
+unfolding replayFor recordsFor
+replay-alone b c ws vs ts bytes e f framed same =
+    or-nine (traceOf bytes) _ _ (λ rs next. alone (records-entry ts (timed rs)) teams b c ws vs e f framed same)
+
+pub replay-one-owner : (b : Board) → b .owner < teams → (ws ts bytes : List ℕ) → replayFor b (asOwned (b .owner) ws) ts bytes ≡ replayAnswer b ws ts bytes
+unfolding replayFor recordsFor replayAnswer
+replay-one-owner b exists ws ts bytes = or-nine (traceOf bytes) _ _ (λ rs next. one-owner teams b exists ws (records-entry ts (timed rs)))
