@@ -1,20 +1,23 @@
 -- The checks of a run, in their order, and what they leave
 use mathlib.Core.Path.{_≡_, sym, ap, _∙_}
 use mathlib.Core.List.{List}
-use Prim.Native.Nat.{ℕ, _≤_, _<_}
+use Prim.Native.Nat.{ℕ, _*_, _≤_, _<_}
 use native.Mathlib.Omega.{arith}
-use lib.ListN.{length}
+use lib.ListN.{length, take}
 use borrow.Author.Tests.{lt-ltb, le-ltb}
-use Rattle.scope.specs.Limits.{mostTicks, mostJobs}
+use Rattle.scope.specs.Limits.{mostWindows, mostTicks, mostJobs, teams}
 use Rattle.scope.specs.Windows.{Board, suppliedBy}
 use Rattle.scope.specs.Tasks.{tasksOf}
 use Rattle.scope.specs.Jobs.{jobsOf, job}
 use Rattle.scope.specs.Machine.{edf}
-use Rattle.scope.specs.Run.{ran}
-use Rattle.scope.specs.Answers.{Fault, Fault.fine, Fault.fault, _orElse_, tableFault, groupFault, jobListFault, jobFault, roomFault, runFault, runAnswer}
+use Rattle.scope.specs.Run.{Ran, ran}
+use Rattle.scope.specs.Answers.{Fault, Fault.fine, Fault.fault, Answer, Answer.refused, _orElse_, tableFault, groupFault, jobListFault, jobFault, roomFault}
+use Rattle.scope.specs.Answers.{runFault, runAnswer, runOut}
+use Rattle.scope.specs.Shared.{ownAnswer, kept, runFor, runOutFor}
 use Rattle.theory.specs.Lists.{pieces-length}
 use Rattle.theory.specs.Answers.{LegalTable, run-given}
-use Rattle.tables.proofs.FaultLaws.{or-assoc, given-by}
+use Rattle.theory.specs.Shared.{Taken, asked-taken, asked-not}
+use Rattle.tables.proofs.FaultLaws.{or-assoc, or-fine, given-by}
 use Rattle.jobs.specs.Legal.{Tasks, Jobs}
 use Rattle.jobs.proofs.Legality.{tasks-of, jobs-of}
 
@@ -28,24 +31,52 @@ module _ (needed room : ℕ) where
   unfolding roomFault
   has-room h = rw (le-ltb room needed h)
 
-module _ (b : Board) (ws ts : List ℕ) (n : ℕ) (js : List ℕ) (room : ℕ) where
+module _ (ts : List ℕ) (n : ℕ) (js : List ℕ) (room : ℕ) where
   abbrev J : Fault
   J = jobListFault n js orElse jobFault (tasksOf ts) n (jobsOf js)
 
-  -- the three checks, in their order
-  pub in-turn : (tableFault b ws orElse ((groupFault ts orElse J) orElse roomFault (length (jobsOf js)) room)) ≡ runFault b ws ts n js room
-  unfolding runFault
+  -- the checks after the table's
+  abbrev later : Fault
+  later = groupFault ts orElse jobListFault n js orElse jobFault (tasksOf ts) n (jobsOf js) orElse roomFault (length (jobsOf js)) room
+
+  -- of the list and of the room, in their order
+  pub in-turn : ((groupFault ts orElse J) orElse roomFault (length (jobsOf js)) room) ≡ later
   in-turn =
       let r : Fault = roomFault (length (jobsOf js)) room in
-      ap (λ (f : Fault). tableFault b ws orElse f)
-      (or-assoc (groupFault ts) J r ∙ ap (λ (f : Fault). groupFault ts orElse f) (or-assoc (jobListFault n js) (jobFault (tasksOf ts) n (jobsOf js)) r))
+      or-assoc (groupFault ts) J r ∙ ap (λ (f : Fault). groupFault ts orElse f) (or-assoc (jobListFault n js) (jobFault (tasksOf ts) n (jobsOf js)) r)
 
-  -- a run without a fault has all that it needs
-  pub legal-run : runFault b ws ts n js room ≡ fine →
-      LegalTable b ws × (Tasks (tasksOf ts) × Jobs (tasksOf ts) (jobsOf js) × (n ≤ mostTicks) × (length (jobsOf js) ≤ room))
-  unfolding runAnswer
-  legal-run e =
-      let answer = ran (suppliedBy b ws) (edf (tasksOf ts) (jobsOf js)) (tasksOf ts) (jobsOf js) n in
-      let r = run-given b ws ts n js room _ (sym (given-by (runFault b ws ts n js room) answer e)) in
-      let few : length (jobsOf js) ≤ mostJobs = omega (arith, pieces-length _ 3 job js, r .few) in
-      (r .table, (tasks-of ts (r .group), jobs-of (tasksOf ts) n (jobsOf js) (r .jobs) (r .ticks) few, r .ticks, r .roomy))
+  module _ (b : Board) (ws : List ℕ) where
+    -- on a table without a fault they are all there are
+    pub after-table : tableFault b ws ≡ fine → (f : Fault) → f ≡ later → runFault b ws ts n js room ≡ f
+    unfolding runFault
+    after-table e f is = or-fine (tableFault b ws) later e ∙ sym is
+
+    -- a run without a fault has all that it needs
+    pub legal-run : runFault b ws ts n js room ≡ fine →
+        LegalTable b ws × (Tasks (tasksOf ts) × Jobs (tasksOf ts) (jobsOf js) × (n ≤ mostTicks) × (length (jobsOf js) ≤ room))
+    unfolding runAnswer
+    legal-run e =
+        let answer = ran (suppliedBy b ws) (edf (tasksOf ts) (jobsOf js)) (tasksOf ts) (jobsOf js) n in
+        let r = run-given b ws ts n js room _ (sym (given-by (runFault b ws ts n js room) answer e)) in
+        let few : length (jobsOf js) ≤ mostJobs = omega (arith, pieces-length _ 3 job js, r .few) in
+        (r .table, (tasks-of ts (r .group), jobs-of (tasksOf ts) n (jobsOf js) (r .jobs) (r .ticks) few, r .ticks, r .roomy))
+
+-- what is answered and written for an owner, by what was asked into the memory for its windows
+module _ (b : Board) (ws ts : List ℕ) (n : ℕ) (js out : List ℕ) (answer : Answer Ran) (after : List ℕ) where
+  abbrev Asked : Type 0
+  Asked = (answer ≡ runFor b ws ts n js (length out)) × (after ≡ runOutFor b ws ts n js out)
+
+  pub run-taken : {m : ℕ} {memory : List ℕ} → Taken teams b ws m memory →
+      (answer ≡ runAnswer b (take m memory) ts n js (length out)) × (after ≡ runOut b (take m memory) ts n js out) → Asked
+  unfolding runFor runOutFor
+  run-taken t r = (
+    r .0 ∙ asked-taken teams b ws refused (λ windows. runAnswer b windows ts n js (length out)) t,
+    r .1 ∙ asked-taken teams b ws (kept out) (λ windows. runOut b windows ts n js out) t,
+  )
+
+  pub run-not : (room m p : ℕ) → 2 * mostWindows ≤ room → ownAnswer teams b ws room ≡ refused m p → (answer ≡ refused m p) × (after ≡ out) → Asked
+  unfolding runFor runOutFor
+  run-not room m p h e r = (
+    r .0 ∙ asked-not teams b ws refused (λ windows. runAnswer b windows ts n js (length out)) room m p h e,
+    r .1 ∙ asked-not teams b ws (kept out) (λ windows. runOut b windows ts n js out) room m p h e,
+  )

@@ -1,18 +1,23 @@
 -- The demands at marked examples, of what `verdict` and `run` answer on them
-use mathlib.Core.Path.{_≡_, _∙_}
+use mathlib.Core.Path.{_≡_, refl, _∙_}
 use mathlib.Core.List.{List, [], _∷_}
 use Prim.Native.Nat.{ℕ, _≤_}
 use native.Mathlib.Omega.{arith}
 use lib.ListN.{getD}
 use Rattle.scope.specs.Numbers.{piecesFrom, pieces}
+use Rattle.scope.specs.Limits.{teams}
 use Rattle.scope.specs.Windows.{suppliedBy}
 use Rattle.scope.specs.Tasks.{tasksOf}
 use Rattle.scope.specs.Jobs.{jobsOf, deadline}
 use Rattle.scope.specs.Run.{countOf}
-use Rattle.scope.specs.Answers.{_orElse_, tableFault, groupFault, jobListFault, jobFault, roomFault, verdictAnswer, runFault, runAnswer, runOut}
+use Rattle.scope.specs.Answers.{Fault.fine, Answer.refused, _orElse_, tableFault, groupFault, jobListFault, jobFault, roomFault, verdictAnswer, runFault}
+use Rattle.scope.specs.Answers.{runAnswer}
+use Rattle.scope.specs.Shared.{windowsFor, sharedFault, askedFor, verdictFor, runFor, runOutFor}
 use Rattle.scope.specs.Demands.{Under, Way, Served}
-use Rattle.scope.specs.Examples.{X}
+use Rattle.scope.specs.Examples.{X, XShared}
+use Rattle.scope.specs.Computing.{everything}
 use Rattle.theory.specs.Answers.{orElse-fine, unless-given, run-given}
+use Rattle.theory.specs.Shared.{asked-fine}
 use Rattle.theory.specs.Applied.{w6, w7, w13, w6-misses, w7-meets, w13-runs}
 use Rattle.tables.specs.declared.board.Board.{Board}
 use Rattle.tables.specs.declared.answer.Verdict.{Verdict}
@@ -24,34 +29,49 @@ use Rattle.machine.specs.declared.run.Ran.the-variants.{Met}
 use Rattle.machine.specs.Told.{toldRan}
 use Rattle.machine.specs.Demands.{meets-runs, meets-every, miss-starves}
 
+-- the owner whose windows are X, and beside it another, who has the rest of the frame
 abbrev board : Board
-board = record { frame = 8 }
+board = record { frame = 8; owner = 0 }
+
+shared-fine : sharedFault teams (boardOf board) XShared ≡ fine
+unfolding everything
+shared-fine = refl
+
+-- whatever it asks, it is answered as X is
+as-x : {R : Type 0} (refusal : ℕ → ℕ → R) (entry : List ℕ → R) → askedFor teams (boardOf board) XShared refusal entry ≡ entry X
+unfolding windowsFor piecesFrom pieces
+as-x refusal entry = asked-fine teams (boardOf board) XShared refusal entry shared-fine
 
 -- W7 is let in
-let-in : (v : Verdict) → toldVerdict v ≡ verdictAnswer (boardOf board) X w7 → v ≡ Meets 8
-let-in v p = verdict-determined v (Meets 8) (p ∙ w7-meets)
+let-in : (v : Verdict) → toldVerdict v ≡ verdictFor (boardOf board) XShared w7 → v ≡ Meets 8
+unfolding verdictFor
+let-in v p = verdict-determined v (Meets 8) (p ∙ as-x refused (λ windows. verdictAnswer (boardOf board) windows w7) ∙ w7-meets)
 
 -- so W13's run is met, and its second job has a count of at most 7
-met-in-time : (v : Verdict) → toldVerdict v ≡ verdictAnswer (boardOf board) X w7 → (r : Ran) (left : List ℕ) →
-    toldRan r ≡ runAnswer (boardOf board) X w7 10 w13 3 → left ≡ runOut (boardOf board) X w7 10 w13 (9 ∷ 9 ∷ 9 ∷ []) →
+met-in-time : (v : Verdict) → toldVerdict v ≡ verdictFor (boardOf board) XShared w7 → (r : Ran) (left : List ℕ) →
+    toldRan r ≡ runFor (boardOf board) XShared w7 10 w13 3 → left ≡ runOutFor (boardOf board) XShared w7 10 w13 (9 ∷ 9 ∷ 9 ∷ []) →
     ((backlog : ℕ) × (r ≡ Met backlog)) × (getD left 1 0 ≤ 7)
 unfolding piecesFrom pieces runAnswer runFault
-met-in-time v p r left told kept =
+met-in-time v p r left told wrote =
     let fine-run = unless-given (runFault (boardOf board) X w7 10 w13 3) _ _ w13-runs .0 in
     let after-table = orElse-fine (tableFault (boardOf board) X)
     (groupFault w7 orElse jobListFault 10 w13 orElse jobFault (tasksOf w7) 10 (jobsOf w13) orElse roomFault 2 3) fine-run .1 in
     let legal = orElse-fine (groupFault w7) (jobListFault 10 w13 orElse jobFault (tasksOf w7) 10 (jobsOf w13) orElse roomFault 2 3) after-table .1 in
-    let m = meets-runs board X w7 v p 8 (let-in v p) 10 w13 (9 ∷ 9 ∷ 9 ∷ []) left r told kept legal in
+    let m = meets-runs board XShared w7 v p 8 (let-in v p) 10 w13 (9 ∷ 9 ∷ 9 ∷ []) left r told wrote legal in
     (m .0, m .1 1 (omega arith) (omega arith) .1)
 
 -- and so is every run of W13 under earliest deadline first, of which the machine's is one
-every-in-time : (v : Verdict) → toldVerdict v ≡ verdictAnswer (boardOf board) X w7 → (left : ℕ → List ℕ) →
+every-in-time : (v : Verdict) → toldVerdict v ≡ verdictFor (boardOf board) XShared w7 → (left : ℕ → List ℕ) →
     Under (suppliedBy (boardOf board) X) (jobsOf w13) (deadline (tasksOf w7) (jobsOf w13)) left → countOf left (jobsOf w13) 10 1 ≤ 7
-unfolding piecesFrom pieces
+unfolding windowsFor piecesFrom pieces
 every-in-time v p left run =
     let legal = run-given (boardOf board) X w7 10 w13 3 _ w13-runs .jobs in
-    meets-every board X w7 v p 8 (let-in v p) 10 (jobsOf w13) legal left run 1 (omega arith) (omega arith) .2
+    meets-every board XShared w7 v p 8 (let-in v p) 10 (jobsOf w13) legal left run 1 (omega arith) (omega arith) .2
 
 -- W6 is turned away, and no way serves its full jobs from start 2
-turned-away : (v : Verdict) → toldVerdict v ≡ verdictAnswer (boardOf board) X w6 → (w : Way) → Served (suppliedBy (boardOf board) X) (tasksOf w6) w 2 6 → ⊥
-turned-away v p = miss-starves board X w6 v p 6 2 3 2 (verdict-determined v (Miss 6 2 3 2) (p ∙ w6-misses))
+turned-away : (v : Verdict) → toldVerdict v ≡ verdictFor (boardOf board) XShared w6 → (w : Way) →
+    Served (suppliedBy (boardOf board) X) (tasksOf w6) w 2 6 → ⊥
+unfolding verdictFor windowsFor piecesFrom pieces
+turned-away v p =
+    let missed = p ∙ as-x refused (λ windows. verdictAnswer (boardOf board) windows w6) ∙ w6-misses in
+    miss-starves board XShared w6 v p 6 2 3 2 (verdict-determined v (Miss 6 2 3 2) missed)

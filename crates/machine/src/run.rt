@@ -2,11 +2,14 @@ use crate::late::late;
 use crate::state::RunState;
 use crate::tick::advance;
 use jobs::check::check_jobs;
+use tables::answer::Amount;
 use tables::answer::Checked;
 use tables::answer::Refusal;
 use tables::board::Board;
+use tables::shared::Owned;
+use tables::shared::own_windows;
 use tables::task::Task;
-use tables::window::check_table;
+use tables::window::Window;
 ghost use mathlib.Core.Path.{_≡_};
 ghost use Prim.Native.Nat.{ℕ, _≤_};
 ghost use mathlib.Core.Bool.{Bool};
@@ -17,7 +20,8 @@ ghost use Rattle.scope.specs.Windows.{suppliedBy};
 ghost use Rattle.scope.specs.Tasks.{tasksOf};
 ghost use Rattle.scope.specs.Jobs.{jobsOf};
 ghost use Rattle.scope.specs.Run.{ran, counts as countsBy};
-ghost use Rattle.scope.specs.Answers.{Answer.given, roomFault, runFault, runAnswer, runOut};
+ghost use Rattle.scope.specs.Answers.{Answer.given, Fault.fine, _orElse_, tableFault, groupFault, jobListFault, jobFault, roomFault, runAnswer, runOut};
+ghost use Rattle.scope.specs.Shared.{runFor, runOutFor};
 ghost use Rattle.theory.specs.Answers.{LegalTable};
 ghost use Rattle.tables.specs.Told.{boardOf, no, faultOf};
 ghost use Rattle.jobs.specs.Legal.{Tasks, Jobs};
@@ -85,21 +89,14 @@ fn run_legal(
     Ran::Met { backlog: s.backlog }
 }
 
-// The checks of a run: 1 2 3 4 5 10 11 8, where `room` is how many counts the lent buffer has room for.
-fn check_run(
-    board: Board,
-    windows: &[u32],
-    tasks: &[u32],
-    n: u32,
-    jobs: &[u32],
-    room: usize,
-) -> Checked
-    ensures { λ r. ⌜ faultOf r ≡ runFault (boardOf board) (now (windows .entry)) (now (tasks .entry)) n (now (jobs .entry)) room ⌝ }
+// The checks of a run that come after its table's, in document 01's order: 4 5 10 11 8, where `room` is how many counts the lent buffer has room for.
+fn check_run(tasks: &[u32], n: u32, jobs: &[u32], room: usize) -> Checked
+    ensures { λ r. ⌜ faultOf r ≡ (groupFault (now (tasks .entry)) orElse jobListFault n (now (jobs .entry))
+        orElse jobFault (tasksOf (now (tasks .entry))) n (jobsOf (now (jobs .entry))) orElse roomFault (length (jobsOf (now (jobs .entry)))) room) ⌝ }
 {
-    let table = check_table(board, windows);
     let list = check_jobs(tasks, n, jobs);
     let space = check_room(jobs.len() / 3, room);
-    table.or_else(list.or_else(space))
+    list.or_else(space)
 }
 
 // Refusal 8.
@@ -121,7 +118,30 @@ fn refuse(r: Refusal, counts: &mut [u32]) -> Ran
     Ran::Refused(r)
 }
 
-// Runs a job list of a group on a table for n ticks: the answer, and one count for each job in the lent buffer. Refusals 1 2 3 4 5 10 11 8.
+// Runs a job list of a group on a legal list of windows for n ticks. The windows were checked where they were taken from the table, so not again here.
+// Refusals 4 5 10 11 8.
+fn run_on(
+    board: Board,
+    windows: &[u32],
+    tasks: &[u32],
+    n: u32,
+    jobs: &[u32],
+    counts: &mut [u32],
+) -> Ran
+    requires { ⌜ tableFault (boardOf board) (now windows) ≡ fine ⌝ }
+    ensures answer { λ r. ⌜ toldRan r ≡ runAnswer (boardOf board) (now (windows .entry))
+        (now (tasks .entry)) n (now (jobs .entry)) (length (now (counts .entry))) ⌝ }
+    ensures buffer { λ _. ⌜ now (counts .exit) ≡ runOut (boardOf board) (now (windows .entry))
+        (now (tasks .entry)) n (now (jobs .entry)) (now (counts .entry)) ⌝ }
+{
+    match check_run(tasks, n, jobs, counts.len()) {
+        Checked::Bad(r) => refuse(r, counts),
+        Checked::Fine => run_legal(board, windows, tasks, n, jobs, counts),
+    }
+}
+
+// Runs a job list of a group on the asked owner's windows of a shared table, as if they were the table (document 02, request 4), for n ticks:
+// the answer, and one count for each job in the lent buffer. Refusals 1 2 3, 1 of an absent owner, 4 5 10 11 8.
 pub fn run(
     board: Board,
     windows: &[u32],
@@ -130,13 +150,14 @@ pub fn run(
     jobs: &[u32],
     counts: &mut [u32],
 ) -> Ran
-    ensures answer { λ r. ⌜ toldRan r ≡ runAnswer (boardOf board) (now (windows .entry))
+    ensures answer { λ r. ⌜ toldRan r ≡ runFor (boardOf board) (now (windows .entry))
         (now (tasks .entry)) n (now (jobs .entry)) (length (now (counts .entry))) ⌝ }
-    ensures buffer { λ _. ⌜ now (counts .exit) ≡ runOut (boardOf board) (now (windows .entry))
+    ensures buffer { λ _. ⌜ now (counts .exit) ≡ runOutFor (boardOf board) (now (windows .entry))
         (now (tasks .entry)) n (now (jobs .entry)) (now (counts .entry)) ⌝ }
 {
-    match check_run(board, windows, tasks, n, jobs, counts.len()) {
-        Checked::Bad(r) => refuse(r, counts),
-        Checked::Fine => run_legal(board, windows, tasks, n, jobs, counts),
+    let mut own = [0; 2 * Window::MOST];
+    match own_windows(Owned::TEAMS, board, windows, &mut own) {
+        Amount::Refused(r) => refuse(r, counts),
+        Amount::Of(numbers) => run_on(board, &own[..numbers as usize], tasks, n, jobs, counts),
     }
 }

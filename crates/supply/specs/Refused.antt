@@ -6,8 +6,7 @@ use lib.ListN.{length}
 use Rattle.scope.specs.Limits.{teams}
 use Rattle.scope.specs.Answers.{criticalAnswer, criticalOut}
 use Rattle.scope.specs.Shared.{criticalFor, criticalOutFor}
-use Rattle.theory.specs.Shared.{asked-kept}
-use Rattle.theory.specs.Refused.{critical-kept}
+use Rattle.theory.specs.Refused.{critical-kept, asked-kept}
 use Rattle.tables.specs.declared.board.Board.{Board}
 use Rattle.tables.specs.declared.answer.Refusal.{Refusal}
 use Rattle.tables.specs.declared.answer.Amount.{Amount}
@@ -19,5 +18,5 @@ pub critical-refused : (b : Board) (ws out left : List ℕ) (r : Amount) →
     (e : Refusal) → r ≡ Refused e → left ≡ out
 unfolding criticalFor criticalOutFor
 critical-refused b ws out left r told wrote e is =
-    wrote ∙ asked-kept teams (boardOf b) ws out (λ l. criticalAnswer (boardOf b) l (length out)) (λ l. criticalOut (boardOf b) l out)
-    (λ n p l. critical-kept n p (boardOf b) l out) (number e) (place e) (sym told ∙ ap toldAmount is)
+    wrote ∙ asked-kept (number e) (place e) teams (boardOf b) ws (λ l. criticalAnswer (boardOf b) l (length out)) (λ l. criticalOut (boardOf b) l out) out
+    (λ l. critical-kept (number e) (place e) (boardOf b) l out) (sym told ∙ ap toldAmount is)

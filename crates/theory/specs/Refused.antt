@@ -1,12 +1,13 @@
 -- Demand 1: a refusal writes nothing. Where an entry that is lent a buffer refuses, the buffer after it is the buffer before it
-use mathlib.Core.Path.{_≡_}
+use mathlib.Core.Path.{_≡_, refl}
 use mathlib.Core.List.{List}
 use Prim.Native.Nat.{ℕ}
 use lib.ListN.{length}
 use Rattle.scope.specs.Windows.{Board}
 use Rattle.scope.specs.Verdict.{Verdict}
-use Rattle.scope.specs.Answers.{Fault, Answer, Answer.refused, unless, unlessKept, roomFault, criticalFault, criticalAnswer, criticalOut, runFault, runAnswer}
-use Rattle.scope.specs.Answers.{runOut}
+use Rattle.scope.specs.Answers.{Fault, Fault.fine, Fault.fault, Answer, Answer.refused, unless, unlessKept, roomFault, criticalFault, criticalAnswer}
+use Rattle.scope.specs.Answers.{criticalOut, runFault, runAnswer, runOut}
+use Rattle.scope.specs.Shared.{own, sharedFault, unlessRefused, askedFor, kept as keptBy}
 use Rattle.scope.specs.Plan.{Plan, writeFault, writeAnswer, writeOut}
 use Rattle.scope.specs.Line.{line, lineAnswer, lineOut}
 use Rattle.theory.specs.Answers.{unless-refused}
@@ -31,3 +32,14 @@ module _ (n p : ℕ) where
   pub line-kept : (a : Answer Verdict) (out : List ℕ) → lineAnswer a (length out) ≡ refused n p → lineOut a out ≡ out
   unfolding lineAnswer lineOut
   line-kept a out e = kept (roomFault (length (line a)) (length out)) _ _ out e
+
+  -- and so for an owner of a table that teams share: an entry that keeps its buffer where it refuses keeps it where the table is refused too
+  pub asked-kept : {A : Type 0} (owners : ℕ) (b : Board) (ws : List ℕ) (entry : List ℕ → Answer A) (after : List ℕ → List ℕ) (out : List ℕ) →
+      ((windows : List ℕ) → entry windows ≡ refused n p → after windows ≡ out) →
+      askedFor owners b ws refused entry ≡ refused n p → askedFor owners b ws (keptBy out) after ≡ out
+  unfolding askedFor
+  asked-kept owners b ws entry after out keeps = go (sharedFault owners b ws)
+    where
+      go : (f : Fault) → unlessRefused f refused (entry (own b ws)) ≡ refused n p → unlessRefused f (keptBy out) (after (own b ws)) ≡ out
+      go fine e = keeps (own b ws) e
+      go (fault m q) e = refl

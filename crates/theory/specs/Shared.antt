@@ -18,7 +18,7 @@ use Rattle.scope.specs.Windows.{Board, Window, window, windowsOf, windowAt, win
 use Rattle.scope.specs.Answers.{Fault, Fault.fine, Fault.fault, Answer, Answer.given, Answer.refused, faultIf, faultAt, _orElse_, unless}
 use Rattle.scope.specs.Answers.{windowListFault, frameFault, windowFault, tableFault, roomFault}
 use Rattle.scope.specs.Shared.{Owned, owned, ownedOf, ownedAt, windowsFor, own, asOwned, follows, ownedLegal, badOwned, ownedListFault, ownedFault}
-use Rattle.scope.specs.Shared.{wholeFault, absentOwnerFault, sharedFault, ownFault, ownAnswer, ownOut, unlessRefused, askedFor, kept}
+use Rattle.scope.specs.Shared.{wholeFault, absentOwnerFault, sharedFault, ownFault, ownAnswer, ownOut, unlessRefused, askedFor}
 use Rattle.theory.specs.Numbers.{and-both, both-and, bool-cases, or-neither, first-none}
 use Rattle.theory.specs.Lists.{pieces-length, count-fine, Rising}
 use Rattle.theory.specs.MaximalRuns.{rising-rule}
@@ -337,17 +337,6 @@ asked-given owners b ws entry v = go (sharedFault owners b ws)
     go : (f : Fault) → unlessRefused f refused (entry (own b ws)) ≡ given v → (f ≡ fine) × (entry (own b ws) ≡ given v)
     go fine e = (refl, e)
     go (fault n p) e = let z : _≡_ {A = ℕ} 0 1 = cc in absurd (omega arith)
-
--- where an entry that refuses leaves its lent buffer as it was, so does what is asked for an owner
-pub asked-kept : {A : Type 0} (owners : ℕ) (b : Board) (ws out : List ℕ) (entry : List ℕ → Answer A) (left : List ℕ → List ℕ) →
-    ((n p : ℕ) (l : List ℕ) → entry l ≡ refused n p → left l ≡ out) →
-    (n p : ℕ) → askedFor owners b ws refused entry ≡ refused n p → askedFor owners b ws (kept out) left ≡ out
-unfolding askedFor
-asked-kept owners b ws out entry left keeps n p = go (sharedFault owners b ws)
-  where
-    go : (f : Fault) → unlessRefused f refused (entry (own b ws)) ≡ refused n p → unlessRefused f (kept out) (left (own b ws)) ≡ out
-    go fine e = keeps n p (own b ws) e
-    go (fault m q) e = refl
 
 -- ---- lent memory that the owner's windows are asked into
 
