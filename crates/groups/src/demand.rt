@@ -7,7 +7,8 @@ use tables::task::Task;
 ghost use mathlib.Core.Path.{_≡_};
 ghost use Prim.Native.Nat.{_≤_};
 ghost use lib.ListN.{take};
-ghost use Rattle.scope.specs.Answers.{demandAnswer, marginAnswer};
+ghost use Rattle.scope.specs.Answers.{demandAnswer};
+ghost use Rattle.scope.specs.Shared.{marginFor};
 ghost use Rattle.tables.specs.Told.{boardOf, toldAmount, toldMargin};
 ghost use Rattle.records.specs.Numbers.{numbersOf, enoughRecords};
 
@@ -35,14 +36,14 @@ fn margin_of(
     length: u32,
 ) -> Margin
     requires { ⌜ count ≤ enoughRecords ⌝ }
-    ensures { λ r. ⌜ toldMargin r ≡ marginAnswer (boardOf board) (now (windows .entry)) (numbersOf (take count tasks)) length ⌝ }
+    ensures { λ r. ⌜ toldMargin r ≡ marginFor (boardOf board) (now (windows .entry)) (numbersOf (take count tasks)) length ⌝ }
 {
     records::demand::margin(board, windows, &tasks[..count], length)
 }
 
-// Least supply minus demand at a length. Refusals 1 2 3 4 5 7.
+// Least supply minus demand at a length. Refusals 1 2 3, 1 of an absent owner, 4 5 7.
 pub fn margin(board: Board, windows: &[u32], numbers: &[u32], length: u32) -> Margin
-    ensures { λ r. ⌜ toldMargin r ≡ marginAnswer (boardOf board) (now (windows .entry)) (now (numbers .entry)) length ⌝ }
+    ensures { λ r. ⌜ toldMargin r ≡ marginFor (boardOf board) (now (windows .entry)) (now (numbers .entry)) length ⌝ }
 {
     margin_of(gathered(numbers), count(numbers), board, windows, length)
 }

@@ -7,10 +7,12 @@ use native.Mathlib.Omega.{arith}
 use native.Mathlib.Decide.{decLe}
 use lib.ListN.{length, take}
 use lib.Seq.{length-take-le, take-all}
-use Rattle.scope.specs.Limits.{mostTasks}
+use Rattle.scope.specs.Limits.{teams, mostTasks}
 use Rattle.scope.specs.Windows.{Board}
 use Rattle.scope.specs.Answers.{Fault, Fault.fine, Fault.fault, _orElse_, unless, unlessKept, taskListFault, tableFault, groupFault, demandAnswer, marginAnswer}
-use Rattle.scope.specs.Answers.{verdictAnswer, boundAnswer, runFault, runAnswer, runOut}
+use Rattle.scope.specs.Answers.{Answer.refused, verdictAnswer, boundAnswer, runFault, runAnswer, runOut}
+use Rattle.scope.specs.Shared.{own, kept, marginFor, verdictFor, boundFor, runFor, runOutFor}
+use Rattle.theory.specs.Shared.{asked-same}
 use Rattle.tables.specs.declared.task.Task.{Task}
 use Rattle.tables.proofs.FaultLaws.{or-fault}
 use Rattle.tables.proofs.TaskLaws.{too-many}
@@ -42,36 +44,49 @@ module _ (f g g′ h h′ : Fault) (e : g ≡ fault 4 0) (e′ : g′ ≡ fault 
 
 module _ (ts ts′ : List ℕ) (alike : Alike ts ts′) where
   by-alike : {A : Type 0} (answer : List ℕ → A) → (groupFault ts ≡ fault 4 0 → groupFault ts′ ≡ fault 4 0 → answer ts ≡ answer ts′) → answer ts ≡ answer ts′
-  by-alike answer refused = go alike
+  by-alike answer both = go alike
     where
       go : Alike ts ts′ → answer ts ≡ answer ts′
       go (inl e) = ap answer e
-      go (inr e) = refused (e .0) (e .1)
+      go (inr e) = both (e .0) (e .1)
 
   pub alike-demand : (t : ℕ) → demandAnswer ts t ≡ demandAnswer ts′ t
   unfolding demandAnswer
   alike-demand t = by-alike (λ l. demandAnswer l t) (λ e e′. no-value fine _ _ _ _ e e′ _ _)
 
   module _ (b : Board) (ws : List ℕ) where
-    pub alike-margin : (t : ℕ) → marginAnswer b ws ts t ≡ marginAnswer b ws ts′ t
-    unfolding marginAnswer
-    alike-margin t = by-alike (λ l. marginAnswer b ws l t) (λ e e′. no-value (tableFault b ws) _ _ _ _ e e′ _ _)
+    abbrev mine : List ℕ
+    mine = own b ws
 
-    pub alike-verdict : verdictAnswer b ws ts ≡ verdictAnswer b ws ts′
-    unfolding verdictAnswer
-    alike-verdict = by-alike (λ l. verdictAnswer b ws l) (λ e e′. no-value (tableFault b ws) _ _ _ _ e e′ _ _)
+    pub alike-margin : (t : ℕ) → marginFor b ws ts t ≡ marginFor b ws ts′ t
+    unfolding marginFor marginAnswer
+    alike-margin t =
+        asked-same teams b ws refused (λ l. marginAnswer b l ts t) (λ l. marginAnswer b l ts′ t)
+        (by-alike (λ l. marginAnswer b mine l t) (λ e e′. no-value (tableFault b mine) _ _ _ _ e e′ _ _))
 
-    pub alike-bound : (i : ℕ) → boundAnswer b ws ts i ≡ boundAnswer b ws ts′ i
-    unfolding boundAnswer
-    alike-bound i = by-alike (λ l. boundAnswer b ws l i) (λ e e′. no-value (tableFault b ws) _ _ _ _ e e′ _ _)
+    pub alike-verdict : verdictFor b ws ts ≡ verdictFor b ws ts′
+    unfolding verdictFor verdictAnswer
+    alike-verdict =
+        asked-same teams b ws refused (λ l. verdictAnswer b l ts) (λ l. verdictAnswer b l ts′)
+        (by-alike (λ l. verdictAnswer b mine l) (λ e e′. no-value (tableFault b mine) _ _ _ _ e e′ _ _))
 
-    pub alike-run : (n : ℕ) (js : List ℕ) (room : ℕ) → runAnswer b ws ts n js room ≡ runAnswer b ws ts′ n js room
-    unfolding runAnswer runFault
-    alike-run n js room = by-alike (λ l. runAnswer b ws l n js room) (λ e e′. no-value (tableFault b ws) _ _ _ _ e e′ _ _)
+    pub alike-bound : (i : ℕ) → boundFor b ws ts i ≡ boundFor b ws ts′ i
+    unfolding boundFor boundAnswer
+    alike-bound i =
+        asked-same teams b ws refused (λ l. boundAnswer b l ts i) (λ l. boundAnswer b l ts′ i)
+        (by-alike (λ l. boundAnswer b mine l i) (λ e e′. no-value (tableFault b mine) _ _ _ _ e e′ _ _))
 
-    pub alike-out : (n : ℕ) (js out : List ℕ) → runOut b ws ts n js out ≡ runOut b ws ts′ n js out
-    unfolding runOut runFault
-    alike-out n js out = by-alike (λ l. runOut b ws l n js out) (λ e e′. no-writing (tableFault b ws) _ _ _ _ e e′ _ _ _)
+    pub alike-run : (n : ℕ) (js : List ℕ) (room : ℕ) → runFor b ws ts n js room ≡ runFor b ws ts′ n js room
+    unfolding runFor runAnswer runFault
+    alike-run n js room =
+        asked-same teams b ws refused (λ l. runAnswer b l ts n js room) (λ l. runAnswer b l ts′ n js room)
+        (by-alike (λ l. runAnswer b mine l n js room) (λ e e′. no-value (tableFault b mine) _ _ _ _ e e′ _ _))
+
+    pub alike-out : (n : ℕ) (js out : List ℕ) → runOutFor b ws ts n js out ≡ runOutFor b ws ts′ n js out
+    unfolding runOutFor runOut runFault
+    alike-out n js out =
+        asked-same teams b ws (kept out) (λ l. runOut b l ts n js out) (λ l. runOut b l ts′ n js out)
+        (by-alike (λ l. runOut b mine l n js out) (λ e e′. no-writing (tableFault b mine) _ _ _ _ e e′ _ _ _))
 
 -- ---- groups that are alike
 

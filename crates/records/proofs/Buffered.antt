@@ -24,7 +24,7 @@ use denote.Builtin.{u32}
 use denote.Ref.{RefT}
 use denote.Slice.{ShrSlice, MutSlice, sliceTy, sliceVal, finally, shr-slice-copy}
 use denote.Steps.{owned, heard, nothing}
-use Rattle.scope.specs.Answers.{runAnswer, runOut}
+use Rattle.scope.specs.Shared.{runFor, runOutFor}
 use Rattle.tables.specs.declared.board.Board.{Board}
 use Rattle.tables.specs.Told.{boardOf}
 use Rattle.machine.specs.declared.run.Ran.{Ran}
@@ -62,10 +62,10 @@ lent-anew cs = (tyRef erased mut (tyInt w32), vptr (cs .ptr .0) (cs .ptr .1)) �
 module _ (b : Board) (ws : Windows) (ts : List ℕ) (n : ℕ) (js cs : Numbers) where
   -- what is said of an answer and of the buffer's last numbers, with the group's numbers ts
   abbrev pub Answered : Ran → Type 0
-  Answered r = toldRan r ≡ runAnswer (boardOf b) (ws .now) ts n (js .now) (length (cs .now))
+  Answered r = toldRan r ≡ runFor (boardOf b) (ws .now) ts n (js .now) (length (cs .now))
 
   abbrev pub Written : List ℕ → Type 0
-  Written ys = ys ≡ runOut (boardOf b) (ws .now) ts n (js .now) (cs .now)
+  Written ys = ys ≡ runOutFor (boardOf b) (ws .now) ts n (js .now) (cs .now)
 
   abbrev pub Told : Ran → List ℕ → Type 0
   Told r ys = Answered r × Written ys × (length ys ≡ length (cs .now))

@@ -12,8 +12,8 @@ use Rattle.scope.specs.Cycle.{cycle}
 use Rattle.scope.specs.Verdict as Verdicts
 use Rattle.scope.specs.Jobs.{Job, jobsOf, taskOf, deadline, badJob}
 use Rattle.scope.specs.Run.{countOf}
-use Rattle.scope.specs.Answers.{Answer.given, Fault.fine, _orElse_, jobListFault, jobFault, roomFault, demandAnswer, marginAnswer, verdictAnswer, boundAnswer}
-use Rattle.scope.specs.Answers.{runAnswer, runOut}
+use Rattle.scope.specs.Answers.{Answer.given, Fault.fine, _orElse_, jobListFault, jobFault, roomFault, demandAnswer}
+use Rattle.scope.specs.Shared.{own, marginFor, verdictFor, boundFor, runFor, runOutFor}
 use Rattle.scope.specs.Demands.{LeastMiss, Under, Way, Served}
 use Rattle.tables.specs.declared.board.Board.{Board}
 use Rattle.tables.specs.declared.task.Task.{Task}
@@ -40,45 +40,45 @@ module _ (xs : List Task) where
 
   module _ (b : Board) (ws : List ℕ) where
     pub same-margin : (t : ℕ) (x y : Margin) →
-        toldMargin x ≡ marginAnswer (boardOf b) ws (numbersOf xs) t → toldMargin y ≡ marginAnswer (boardOf b) ws (numbersOf xs) t → x ≡ y
+        toldMargin x ≡ marginFor (boardOf b) ws (numbersOf xs) t → toldMargin y ≡ marginFor (boardOf b) ws (numbersOf xs) t → x ≡ y
     same-margin t x y p q = margin-determined x y (p ∙ sym q)
 
-    pub same-verdict : (x y : Verdict) → toldVerdict x ≡ verdictAnswer (boardOf b) ws (numbersOf xs) →
-        toldVerdict y ≡ verdictAnswer (boardOf b) ws (numbersOf xs) → x ≡ y
+    pub same-verdict : (x y : Verdict) → toldVerdict x ≡ verdictFor (boardOf b) ws (numbersOf xs) →
+        toldVerdict y ≡ verdictFor (boardOf b) ws (numbersOf xs) → x ≡ y
     same-verdict x y p q = verdict-determined x y (p ∙ sym q)
 
     pub same-bound : (i : ℕ) (x y : Bound) →
-        toldBound x ≡ boundAnswer (boardOf b) ws (numbersOf xs) i → toldBound y ≡ boundAnswer (boardOf b) ws (numbersOf xs) i → x ≡ y
+        toldBound x ≡ boundFor (boardOf b) ws (numbersOf xs) i → toldBound y ≡ boundFor (boardOf b) ws (numbersOf xs) i → x ≡ y
     same-bound i x y p q = bound-determined x y (p ∙ sym q)
 
     pub same-run : (n : ℕ) (js : List ℕ) (room : ℕ) (x y : Ran) →
-        toldRan x ≡ runAnswer (boardOf b) ws (numbersOf xs) n js room → toldRan y ≡ runAnswer (boardOf b) ws (numbersOf xs) n js room → x ≡ y
+        toldRan x ≡ runFor (boardOf b) ws (numbersOf xs) n js room → toldRan y ≡ runFor (boardOf b) ws (numbersOf xs) n js room → x ≡ y
     same-run n js room x y p q = ran-determined x y (p ∙ sym q)
 
 -- ---- the demands
 
 -- 1: where `run` refuses, the lent buffer is as it was
 pub records-refused : (b : Board) (ws : List ℕ) (xs : List Task) (n : ℕ) (js out left : List ℕ) (r : Ran) →
-    toldRan r ≡ runAnswer (boardOf b) ws (numbersOf xs) n js (length out) → left ≡ runOut (boardOf b) ws (numbersOf xs) n js out →
+    toldRan r ≡ runFor (boardOf b) ws (numbersOf xs) n js (length out) → left ≡ runOutFor (boardOf b) ws (numbersOf xs) n js out →
     (e : Refusal) → r ≡ Refused e → left ≡ out
 records-refused b ws xs = run-refused b ws (numbersOf xs)
 
-module _ (b : Board) (ws : List ℕ) (xs : List Task) (v : Verdict) (promised : toldVerdict v ≡ verdictAnswer (boardOf b) ws (numbersOf xs)) where
+module _ (b : Board) (ws : List ℕ) (xs : List Task) (v : Verdict) (promised : toldVerdict v ≡ verdictFor (boardOf b) ws (numbersOf xs)) where
   -- (a)
   pub records-meet : (w : Verdicts.Verdict) → toldVerdict v ≡ given w → (h : ℕ) →
       (v ≡ Meets h) ↔ ((h ≡ cycle (b .frame) (tasksOf (numbersOf xs)))
-      × ((t : ℕ) → demand (tasksOf (numbersOf xs)) t ≤ leastSupply (suppliedBy (boardOf b) ws) (b .frame) t))
+      × ((t : ℕ) → demand (tasksOf (numbersOf xs)) t ≤ leastSupply (suppliedBy (boardOf b) (own (boardOf b) ws)) (b .frame) t))
   records-meet = verdict-meets b ws (numbersOf xs) v promised
 
   -- (b)
   pub records-miss : (w : Verdicts.Verdict) → toldVerdict v ≡ given w → (t s d p : ℕ) →
-      (v ≡ Miss t s d p) ↔ LeastMiss (suppliedBy (boardOf b) ws) (b .frame) (tasksOf (numbersOf xs)) t s d p
+      (v ≡ Miss t s d p) ↔ LeastMiss (suppliedBy (boardOf b) (own (boardOf b) ws)) (b .frame) (tasksOf (numbersOf xs)) t s d p
   records-miss = verdict-miss b ws (numbersOf xs) v promised
 
   -- (c)
   pub records-run : (h : ℕ) → v ≡ Meets h →
       (n : ℕ) (js out left : List ℕ) (r : Ran) →
-      toldRan r ≡ runAnswer (boardOf b) ws (numbersOf xs) n js (length out) → left ≡ runOut (boardOf b) ws (numbersOf xs) n js out →
+      toldRan r ≡ runFor (boardOf b) ws (numbersOf xs) n js (length out) → left ≡ runOutFor (boardOf b) ws (numbersOf xs) n js out →
       (jobListFault n js orElse jobFault (tasksOf (numbersOf xs)) n (jobsOf js) orElse roomFault (length (jobsOf js)) (length out)) ≡ fine →
       ((backlog : ℕ) × (r ≡ Met backlog))
       × ((j : ℕ) → j < length (jobsOf js) → deadline (tasksOf (numbersOf xs)) (jobsOf js) j ≤ n →
@@ -87,12 +87,12 @@ module _ (b : Board) (ws : List ℕ) (xs : List Task) (v : Verdict) (promised : 
 
   pub records-every : (h : ℕ) → v ≡ Meets h →
       (n : ℕ) (js : List Job) → badJob (tasksOf (numbersOf xs)) n js ≡ none →
-      (left : ℕ → List ℕ) → Under (suppliedBy (boardOf b) ws) js (deadline (tasksOf (numbersOf xs)) js) left →
+      (left : ℕ → List ℕ) → Under (suppliedBy (boardOf b) (own (boardOf b) ws)) js (deadline (tasksOf (numbersOf xs)) js) left →
       (j : ℕ) → j < length js → deadline (tasksOf (numbersOf xs)) js j ≤ n →
       (getD (left (deadline (tasksOf (numbersOf xs)) js j)) j 0 ≡ 0)
       × (1 ≤ countOf left js n j) × (countOf left js n j ≤ (taskAt (tasksOf (numbersOf xs)) (taskOf js j)) .D)
   records-every = meets-every b ws (numbersOf xs) v promised
 
   -- (d)
-  pub records-starve : (t s d p : ℕ) → v ≡ Miss t s d p → (w : Way) → Served (suppliedBy (boardOf b) ws) (tasksOf (numbersOf xs)) w s t → ⊥
+  pub records-starve : (t s d p : ℕ) → v ≡ Miss t s d p → (w : Way) → Served (suppliedBy (boardOf b) (own (boardOf b) ws)) (tasksOf (numbersOf xs)) w s t → ⊥
   records-starve = miss-starves b ws (numbersOf xs) v promised

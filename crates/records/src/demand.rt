@@ -12,7 +12,8 @@ ghost use mathlib.Core.Path.{_≡_};
 ghost use Prim.Native.Nat.{_≤_};
 ghost use lib.ListN.{take};
 ghost use Rattle.scope.specs.Tasks.{task};
-ghost use Rattle.scope.specs.Answers.{demandAnswer, marginAnswer};
+ghost use Rattle.scope.specs.Answers.{demandAnswer};
+ghost use Rattle.scope.specs.Shared.{marginFor};
 ghost use Rattle.tables.specs.Told.{boardOf, toldAmount, toldMargin};
 ghost use Rattle.records.specs.Numbers.{numbersOf, enoughNumbers};
 ghost use Rattle.records.specs.Sums.{beginOf, addOf, finishOf, Roomy};
@@ -81,16 +82,16 @@ pub fn demand(tasks: &[Task], length: u32) -> Amount
 // The margin of a group's first numbers.
 fn margin_of(board: Board, windows: &[u32], flat: Flat, length: u32) -> Margin
     requires { ⌜ flat .len ≤ enoughNumbers ⌝ }
-    ensures { λ r. ⌜ toldMargin r ≡ marginAnswer (boardOf board) (now (windows .entry)) (take (flat .len) (flat .numbers)) length ⌝ }
+    ensures { λ r. ⌜ toldMargin r ≡ marginFor (boardOf board) (now (windows .entry)) (take (flat .len) (flat .numbers)) length ⌝ }
 {
     let numbers = flat.numbers;
     let n = flat.len;
     checker::demand::margin(board, windows, &numbers[..n], length)
 }
 
-// Least supply minus demand at a length. Refusals 1 2 3 4 (only of too many records) 5 7.
+// Least supply minus demand at a length. Refusals 1 2 3, 1 of an absent owner, 4 (only of too many records) 5 7.
 pub fn margin(board: Board, windows: &[u32], tasks: &[Task], length: u32) -> Margin
-    ensures { λ r. ⌜ toldMargin r ≡ marginAnswer (boardOf board) (now (windows .entry)) (numbersOf (now (tasks .entry))) length ⌝ }
+    ensures { λ r. ⌜ toldMargin r ≡ marginFor (boardOf board) (now (windows .entry)) (numbersOf (now (tasks .entry))) length ⌝ }
 {
     margin_of(board, windows, flatten(tasks), length)
 }

@@ -6,7 +6,7 @@ use tables::task::Task;
 ghost use mathlib.Core.Path.{_≡_};
 ghost use Prim.Native.Nat.{_≤_};
 ghost use lib.ListN.{length, take};
-ghost use Rattle.scope.specs.Answers.{runAnswer, runOut};
+ghost use Rattle.scope.specs.Shared.{runFor, runOutFor};
 ghost use Rattle.tables.specs.Told.{boardOf};
 ghost use Rattle.machine.specs.Told.{toldRan};
 ghost use Rattle.records.specs.Numbers.{numbersOf, enoughNumbers};
@@ -21,9 +21,9 @@ fn run_of(
     counts: &mut [u32],
 ) -> Ran
     requires { ⌜ flat .len ≤ enoughNumbers ⌝ }
-    ensures answer { λ r. ⌜ toldRan r ≡ runAnswer (boardOf board) (now (windows .entry)) (take (flat .len) (flat .numbers))
+    ensures answer { λ r. ⌜ toldRan r ≡ runFor (boardOf board) (now (windows .entry)) (take (flat .len) (flat .numbers))
         n (now (jobs .entry)) (length (now (counts .entry))) ⌝ }
-    ensures buffer { λ _. ⌜ now (counts .exit) ≡ runOut (boardOf board) (now (windows .entry)) (take (flat .len) (flat .numbers))
+    ensures buffer { λ _. ⌜ now (counts .exit) ≡ runOutFor (boardOf board) (now (windows .entry)) (take (flat .len) (flat .numbers))
         n (now (jobs .entry)) (now (counts .entry)) ⌝ }
 {
     let numbers = flat.numbers;
@@ -32,7 +32,7 @@ fn run_of(
 }
 
 // Runs a job list of a group on a table for n ticks: the answer, and one count for each job in the lent buffer.
-// Refusals 1 2 3 4 (only of too many records) 5 10 11 8.
+// Refusals 1 2 3, 1 of an absent owner, 4 (only of too many records) 5 10 11 8.
 pub fn run(
     board: Board,
     windows: &[u32],
@@ -41,9 +41,9 @@ pub fn run(
     jobs: &[u32],
     counts: &mut [u32],
 ) -> Ran
-    ensures answer { λ r. ⌜ toldRan r ≡ runAnswer (boardOf board) (now (windows .entry)) (numbersOf (now (tasks .entry)))
+    ensures answer { λ r. ⌜ toldRan r ≡ runFor (boardOf board) (now (windows .entry)) (numbersOf (now (tasks .entry)))
         n (now (jobs .entry)) (length (now (counts .entry))) ⌝ }
-    ensures buffer { λ _. ⌜ now (counts .exit) ≡ runOut (boardOf board) (now (windows .entry)) (numbersOf (now (tasks .entry)))
+    ensures buffer { λ _. ⌜ now (counts .exit) ≡ runOutFor (boardOf board) (now (windows .entry)) (numbersOf (now (tasks .entry)))
         n (now (jobs .entry)) (now (counts .entry)) ⌝ }
 {
     run_of(board, windows, flatten(tasks), n, jobs, counts)

@@ -328,6 +328,12 @@ module _ {R : Type 0} (owners : ℕ) (b : Board) (ws : List ℕ) (refusal : ℕ 
   unfolding askedFor
   asked-refused e = rw e
 
+-- entries that give the owner's windows the same
+pub asked-same : {R : Type 0} (owners : ℕ) (b : Board) (ws : List ℕ) (refusal : ℕ → ℕ → R) (entry other : List ℕ → R) →
+    entry (own b ws) ≡ other (own b ws) → askedFor owners b ws refusal entry ≡ askedFor owners b ws refusal other
+unfolding askedFor
+asked-same owners b ws refusal entry other e = ap (unlessRefused (sharedFault owners b ws) refusal) e
+
 -- a value is given only where the list has no fault, and then it is what the owner's windows get
 pub asked-given : {A : Type 0} (owners : ℕ) (b : Board) (ws : List ℕ) (entry : List ℕ → Answer A) (v : A) →
     askedFor owners b ws refused entry ≡ given v → (sharedFault owners b ws ≡ fine) × (entry (own b ws) ≡ given v)

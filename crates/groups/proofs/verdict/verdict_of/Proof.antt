@@ -31,7 +31,7 @@ use denote.Triple.Statement.{Contract, Triple}
 use denote.Triple.Clauses.{ensured, lasts}
 use denote.Triple.Table.{entered, cited}
 use denote.Triple.Walked.{Stays, needs, walkOf, Walks, ends-at, walked, walk-meets}
-use Rattle.scope.specs.Answers.{verdictAnswer}
+use Rattle.scope.specs.Shared.{verdictFor}
 use Rattle.tables.specs.declared.board.Board.{Board}
 use Rattle.tables.specs.declared.task.Task.{Task}
 use Rattle.tables.specs.declared.answer.Verdict.{Verdict}
@@ -69,7 +69,7 @@ module _ {M : Type 1} (𝓤 : URA M) (H : Heap 𝓤) (A : Atoms 𝓤) (W : Given
 
     -- what is said of an answer
     abbrev Right : Verdict → Type 0
-    Right r = toldVerdict r ≡ verdictAnswer (boardOf b) (ws .now) (numbersOf (take k xs))
+    Right r = toldVerdict r ≡ verdictFor (boardOf b) (ws .now) (numbersOf (take k xs))
 
     abbrev bound : walkOf 𝓤 H A this.ended stayed (this.clauses 𝓤 H A mem run) .Ghost
     bound = (((κ, tt), (q, tt), tt, (xs, (k, (b, (ws, tt)))), (row-vals xs, (vint w64 k ∷ [], (board-vals b, (windows-val ws ∷ [], tt))))), tt)

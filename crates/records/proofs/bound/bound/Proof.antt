@@ -7,7 +7,7 @@ use contract.Running.{givenOf, tables, tablesOf}
 use denote.Enum.Laws as EL
 use denote.Triple.Spec.{tripleOf}
 use denote.Triple.Table.{entered, cited}
-use Rattle.scope.specs.Answers.{boundAnswer}
+use Rattle.scope.specs.Shared.{boundFor}
 use Rattle.tables.specs.declared.board.Board.{Board}
 use Rattle.tables.specs.declared.answer.Bound.{Bound}
 use Rattle.tables.specs.Told.{boardOf, toldBound}
@@ -29,7 +29,7 @@ use Rattle.records.proofs.bound.bound.Statement as stated
 use Rattle.records.proofs.bound.bound.Code as code
 
 abbrev Right : Board → List ℕ → List ℕ → ℕ → Bound → Type 0
-Right b ws ns i r = toldBound r ≡ boundAnswer (boardOf b) ws ns i
+Right b ws ns i r = toldBound r ≡ boundFor (boardOf b) ws ns i
 
 pub bound-spec : {M : Type 1} → stated.statement M
 unfolding code.routine tablesOf

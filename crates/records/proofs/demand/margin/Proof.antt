@@ -7,7 +7,7 @@ use contract.Running.{givenOf, tables, tablesOf}
 use denote.Enum.Laws as EL
 use denote.Triple.Spec.{tripleOf}
 use denote.Triple.Table.{entered, cited}
-use Rattle.scope.specs.Answers.{marginAnswer}
+use Rattle.scope.specs.Shared.{marginFor}
 use Rattle.tables.specs.declared.board.Board.{Board}
 use Rattle.tables.specs.declared.answer.Margin.{Margin}
 use Rattle.tables.specs.Told.{boardOf, toldMargin}
@@ -29,7 +29,7 @@ use Rattle.records.proofs.demand.margin.Statement as stated
 use Rattle.records.proofs.demand.margin.Code as code
 
 abbrev Right : Board → List ℕ → List ℕ → ℕ → Margin → Type 0
-Right b ws ns t r = toldMargin r ≡ marginAnswer (boardOf b) ws ns t
+Right b ws ns t r = toldMargin r ≡ marginFor (boardOf b) ws ns t
 
 pub margin-spec : {M : Type 1} → stated.statement M
 unfolding code.routine tablesOf

@@ -30,7 +30,7 @@ use denote.Triple.Table.{entered, cited}
 use denote.Triple.Clauses.{ensured, lasts}
 use denote.Triple.Walked.{Stays, stay-none, stay-none-slice, walkOf, goes-none, goes-none-slice, Walks, ends-at, walked, walk-meets}
 use denote.Exit.{yes}
-use Rattle.scope.specs.Answers.{verdictAnswer}
+use Rattle.scope.specs.Shared.{verdictFor}
 use Rattle.tables.specs.declared.board.Board.{Board}
 use Rattle.tables.specs.declared.answer.Verdict.{Verdict}
 use Rattle.tables.specs.Told.{boardOf, toldVerdict}
@@ -66,7 +66,7 @@ stayed = (
 
 -- what is said of an answer, with the group's numbers
 abbrev Right : Board → List ℕ → List ℕ → Verdict → Type 0
-Right b ws ns r = toldVerdict r ≡ verdictAnswer (boardOf b) ws ns
+Right b ws ns r = toldVerdict r ≡ verdictFor (boardOf b) ws ns
 
 abbrev operands : List Operand
 operands = copy (place 1 []) ∷ copy (place 2 []) ∷ copy (place 4 []) ∷ []
