@@ -10,7 +10,8 @@ use Rattle.scope.specs.Windows.{suppliedBy}
 use Rattle.scope.specs.Tasks.{tasksOf, demand}
 use Rattle.scope.specs.Verdict as Verdicts
 use Rattle.scope.specs.Jobs.{jobsOf}
-use Rattle.scope.specs.Answers.{Answer.given, Fault.fine, _orElse_, jobListFault, jobFault, roomFault, runAnswer, runOut}
+use Rattle.scope.specs.Answers.{Answer.given, Fault.fine, _orElse_, jobListFault, jobFault, roomFault}
+use Rattle.scope.specs.Shared.{asOwned, runFor, runOutFor}
 use Rattle.scope.specs.Plan.{Plan, planOf, planAnswer}
 use Rattle.scope.specs.Demands.{LeastMiss, Way, Served}
 use Rattle.scope.specs.Examples.{X, on}
@@ -49,7 +50,7 @@ module _ (v : Verdict) (promised : toldVerdict v ≡ planAnswer w7-file) where
 
   -- (c) W13's run is met, and its second job has a count of at most 7
   met-in-time : (r : Ran) (left : List ℕ) →
-      toldRan r ≡ runAnswer (on 8) X w7 10 w13 3 → left ≡ runOut (on 8) X w7 10 w13 (9 ∷ 9 ∷ 9 ∷ []) →
+      toldRan r ≡ runFor (on 8) (asOwned 0 X) w7 10 w13 3 → left ≡ runOutFor (on 8) (asOwned 0 X) w7 10 w13 (9 ∷ 9 ∷ 9 ∷ []) →
       ((backlog : ℕ) × (r ≡ Met backlog)) × (getD left 1 0 ≤ 7)
   unfolding piecesFrom pieces
   met-in-time r left told kept =

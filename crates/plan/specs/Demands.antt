@@ -1,10 +1,12 @@
 -- The demands, of what `check_plan` answers. The premises are what it promises, and that the file is a plan
 use Prim.Native.Nat.{ℕ, _≤_, _<_}
-use mathlib.Core.Path.{_≡_, _∙_}
+use mathlib.Core.Path.{_≡_, sym, ap, _∙_}
 use mathlib.Core.Logic.{_↔_}
 use mathlib.Core.Option.{none}
 use mathlib.Core.List.{List}
+use native.Mathlib.Omega.{arith}
 use lib.ListN.{length, getD}
+use Rattle.scope.specs.Limits.{teams}
 use Rattle.scope.specs.Ticks.{leastSupply}
 use Rattle.scope.specs.Windows.{suppliedBy}
 use Rattle.scope.specs.Tasks.{tasksOf, taskAt, demand}
@@ -12,7 +14,10 @@ use Rattle.scope.specs.Cycle.{cycle}
 use Rattle.scope.specs.Verdict as Verdicts
 use Rattle.scope.specs.Jobs.{Job, jobsOf, taskOf, deadline, badJob}
 use Rattle.scope.specs.Run.{countOf}
-use Rattle.scope.specs.Answers.{Answer.given, Fault.fine, _orElse_, jobListFault, jobFault, roomFault, verdictAnswer, runAnswer, runOut}
+use Rattle.scope.specs.Answers.{Answer.given, Fault.fine, _orElse_, jobListFault, jobFault, roomFault, verdictAnswer}
+use Rattle.scope.specs.Shared.{own, asOwned, verdictFor, runFor, runOutFor}
+use Rattle.theory.specs.Answers.{judged}
+use Rattle.theory.specs.Alone.{verdict-entry, own-pairs, one-owner}
 use Rattle.scope.specs.Plan.{Plan, planOf, planAnswer}
 use Rattle.scope.specs.Demands.{LeastMiss, Under, Way, Served}
 use Rattle.tables.specs.declared.board.Board.{Board}
@@ -24,9 +29,12 @@ use Rattle.machine.specs.declared.run.Ran.the-variants.{Met}
 use Rattle.machine.specs.Told.{toldRan}
 use Rattle.machine.specs.Demands.{verdict-meets, verdict-miss, meets-runs, meets-every, miss-starves}
 
--- the board of a plan
+-- the board of a plan, and its windows as the entries take them: its pairs are owner 0's
 abbrev pub planBoard : Plan → Board
-planBoard p = record { frame = p .frame }
+planBoard p = record { frame = p .frame; owner = 0 }
+
+abbrev pub planWindows : Plan → List ℕ
+planWindows p = asOwned 0 (p .windows)
 
 module _ (bytes : List ℕ) (p : Plan) (read : planOf bytes ≡ given p) (v : Verdict) (promised : toldVerdict v ≡ planAnswer bytes) where
   -- a plan that was read is answered as its numbers are
@@ -34,27 +42,38 @@ module _ (bytes : List ℕ) (p : Plan) (read : planOf bytes ≡ given p) (v : Ve
   unfolding planAnswer
   plan-verdict = promised ∙ rw read
 
+  -- which is as `verdict` answers owner 0 on them
+  plan-asked : toldVerdict v ≡ verdictFor (boardOf (planBoard p)) (planWindows p) (p .tasks)
+  unfolding verdictFor
+  plan-asked = plan-verdict ∙ sym (one-owner teams (boardOf (planBoard p)) (omega arith) (p .windows) (verdict-entry (p .tasks)))
+
+  -- and owner 0's windows are the plan's
+  plan-own : (w : Verdicts.Verdict) → toldVerdict v ≡ given w → own (boardOf (planBoard p)) (planWindows p) ≡ p .windows
+  plan-own w e =
+      own-pairs teams (boardOf (planBoard p)) (omega arith) (p .windows)
+      (judged (boardOf (planBoard p)) (p .windows) (p .tasks) w (sym plan-verdict ∙ e) .table .even)
+
   -- (a)
   pub plan-meets : (w : Verdicts.Verdict) → toldVerdict v ≡ given w → (h : ℕ) →
       (v ≡ Meets h) ↔ ((h ≡ cycle (p .frame) (tasksOf (p .tasks)))
       × ((t : ℕ) → demand (tasksOf (p .tasks)) t ≤ leastSupply (suppliedBy (boardOf (planBoard p)) (p .windows)) (p .frame) t))
-  plan-meets = verdict-meets (planBoard p) (p .windows) (p .tasks) v plan-verdict
+  plan-meets w e = rw (plan-own w e) at (verdict-meets (planBoard p) (planWindows p) (p .tasks) v plan-asked w e)
 
   -- (b)
   pub plan-miss : (w : Verdicts.Verdict) → toldVerdict v ≡ given w → (t s d u : ℕ) →
       (v ≡ Miss t s d u) ↔ LeastMiss (suppliedBy (boardOf (planBoard p)) (p .windows)) (p .frame) (tasksOf (p .tasks)) t s d u
-  plan-miss = verdict-miss (planBoard p) (p .windows) (p .tasks) v plan-verdict
+  plan-miss w e = rw (plan-own w e) at (verdict-miss (planBoard p) (planWindows p) (p .tasks) v plan-asked w e)
 
   -- (c)
   pub plan-runs : (h : ℕ) → v ≡ Meets h →
       (n : ℕ) (js out left : List ℕ) (r : Ran) →
-      toldRan r ≡ runAnswer (boardOf (planBoard p)) (p .windows) (p .tasks) n js (length out) →
-      left ≡ runOut (boardOf (planBoard p)) (p .windows) (p .tasks) n js out →
+      toldRan r ≡ runFor (boardOf (planBoard p)) (planWindows p) (p .tasks) n js (length out) →
+      left ≡ runOutFor (boardOf (planBoard p)) (planWindows p) (p .tasks) n js out →
       (jobListFault n js orElse jobFault (tasksOf (p .tasks)) n (jobsOf js) orElse roomFault (length (jobsOf js)) (length out)) ≡ fine →
       ((backlog : ℕ) × (r ≡ Met backlog))
       × ((j : ℕ) → j < length (jobsOf js) → deadline (tasksOf (p .tasks)) (jobsOf js) j ≤ n →
       (1 ≤ getD left j 0) × (getD left j 0 ≤ (taskAt (tasksOf (p .tasks)) (taskOf (jobsOf js) j)) .D))
-  plan-runs = meets-runs (planBoard p) (p .windows) (p .tasks) v plan-verdict
+  plan-runs = meets-runs (planBoard p) (planWindows p) (p .tasks) v plan-asked
 
   pub plan-every : (h : ℕ) → v ≡ Meets h →
       (n : ℕ) (js : List Job) → badJob (tasksOf (p .tasks)) n js ≡ none →
@@ -62,9 +81,10 @@ module _ (bytes : List ℕ) (p : Plan) (read : planOf bytes ≡ given p) (v : Ve
       (j : ℕ) → j < length js → deadline (tasksOf (p .tasks)) js j ≤ n →
       (getD (left (deadline (tasksOf (p .tasks)) js j)) j 0 ≡ 0)
       × (1 ≤ countOf left js n j) × (countOf left js n j ≤ (taskAt (tasksOf (p .tasks)) (taskOf js j)) .D)
-  plan-every = meets-every (planBoard p) (p .windows) (p .tasks) v plan-verdict
+  plan-every h m = rw (plan-own (Verdicts.meets h) (ap toldVerdict m)) at (meets-every (planBoard p) (planWindows p) (p .tasks) v plan-asked h m)
 
   -- (d)
   pub plan-starves : (t s d u : ℕ) → v ≡ Miss t s d u →
       (w : Way) → Served (suppliedBy (boardOf (planBoard p)) (p .windows)) (tasksOf (p .tasks)) w s t → ⊥
-  plan-starves = miss-starves (planBoard p) (p .windows) (p .tasks) v plan-verdict
+  plan-starves t s d u m =
+      rw (plan-own (Verdicts.miss t s d u) (ap toldVerdict m)) at (miss-starves (planBoard p) (planWindows p) (p .tasks) v plan-asked t s d u m)

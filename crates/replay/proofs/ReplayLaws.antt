@@ -9,7 +9,7 @@ use native.Mathlib.Decide.{decLt}
 use lib.Dec.{ltb}
 use lib.ListN.{length, getD}
 use borrow.Author.Tests.{ltb-false, le-leb, lt-leb, lt-ltb, le-ltb}
-use Rattle.scope.specs.Limits.{mostTicks, mostJobs}
+use Rattle.scope.specs.Limits.{teams, mostTicks, mostJobs}
 use Rattle.scope.specs.Windows.{Board, suppliedBy}
 use Rattle.scope.specs.Tasks.{Task, tasksOf}
 use Rattle.scope.specs.Jobs.{Job, jobsOf, badJob}
@@ -17,18 +17,20 @@ use Rattle.scope.specs.Numbers.{first, listed, written}
 use Rattle.scope.specs.Machine.{edf, workLeft}
 use Rattle.scope.specs.Run as Runs
 use Rattle.scope.specs.Run.{Outcome, late, thenAt, judged, outcome, ticksDone, count, ran, counts}
-use Rattle.scope.specs.Answers.{Fault, Fault.fine, Fault.fault, Answer, Answer.given, Answer.refused, faultIf, _orElse_, unless, tableFault, groupFault}
+use Rattle.scope.specs.Answers.{Fault, Fault.fine, Fault.fault, Answer, Answer.given, Answer.refused, faultIf, _orElse_, unless, groupFault}
 use Rattle.scope.specs.Answers.{jobFault, roomFault, runFault, runAnswer, runOut}
 use Rattle.scope.specs.Plan.{Read, Read.read, Read.bad, orNine}
 use Rattle.scope.specs.Trace.{Stamped, traceOf, Record, timed, ticksOf, releases, completions, badRecord}
 use Rattle.scope.specs.Replay.{endedFrom, Difference, firstDifference, Replayed.missed, named, replayed, extentFault, recordFault, replayFault}
-use Rattle.scope.specs.Replay.{recordsAnswer, replayAnswer}
+use Rattle.scope.specs.Replay.{recordsAnswer}
+use Rattle.scope.specs.Shared.{own, sharedFault, kept, runFor, runOutFor, recordsFor, replayFor}
 use Rattle.theory.specs.Numbers.{or-neither}
 use Rattle.theory.specs.Answers.{fault-not-fine, faultIf-fine, faultAt-fine, orElse-fine}
 use Rattle.theory.specs.Jobs.{job-rules}
 use Rattle.theory.specs.Run.{listed-length, listed-at, done-within, done-before}
 use Rattle.theory.specs.Buffers.{written-at}
 use Rattle.theory.specs.Replays.{records-given, jobs-legal}
+use Rattle.theory.specs.Shared.{own-fine, asked-fine, asked-unless}
 use Rattle.tables.proofs.FaultLaws.{or-assoc}
 use Rattle.replay.specs.Surveyed.{Surveyed.extends, Surveyed.damaged, surveyed}
 use Rattle.replay.specs.Rebuilt.{timedIn, recordsOf, Fits, Rebuilt, Legal}
@@ -78,8 +80,12 @@ module _ (b : Board) (ws ts bytes : List ℕ) (n : ℕ) (jobs : List ℕ) (l : L
   abbrev js : List Job
   js = releases rs
 
+  -- the asked owner's windows
+  abbrev mine : List ℕ
+  mine = own b ws
+
   abbrev σ : ℕ → Bool
-  σ = suppliedBy b ws
+  σ = suppliedBy b mine
 
   abbrev before : ℕ → ℕ → Bool
   before = edf (tasksOf ts) js
@@ -100,11 +106,11 @@ module _ (b : Board) (ws ts bytes : List ℕ) (n : ℕ) (jobs : List ℕ) (l : L
   jobs-are : jobsOf jobs ≡ js
   jobs-are = ap jobsOf (built .numbers) ∙ jobs-back js
 
-  run-fine : (room : ℕ) → mostJobs ≡ room → runFault b ws ts n jobs room ≡ fine
+  run-fine : (room : ℕ) → mostJobs ≡ room → runFault b mine ts n jobs room ≡ fine
   unfolding runFault roomFault jobFault
   run-fine room h =
       rw (
-        built .table,
+        own-fine teams b ws (built .table),
         built .group,
         list-fine bytes ts jobs n (built .fits) (built .group) (built .ticks) (built .numbers),
         jobs-are,
@@ -116,22 +122,23 @@ module _ (b : Board) (ws ts bytes : List ℕ) (n : ℕ) (jobs : List ℕ) (l : L
   room-enough room h = rw jobs-are (omega (arith, built .fits .few, h))
 
   -- the run's answer
-  ran-is : (room : ℕ) → mostJobs ≡ room → runAnswer b ws ts n jobs room ≡ given (ran σ before (tasksOf ts) js n)
-  unfolding runAnswer
-  ran-is room h = rw (run-fine room h, jobs-are)
+  ran-is : (room : ℕ) → mostJobs ≡ room → runFor b ws ts n jobs room ≡ given (ran σ before (tasksOf ts) js n)
+  unfolding runFor runAnswer
+  ran-is room h = asked-fine teams b ws refused (λ l. runAnswer b l ts n jobs room) (built .table) ∙ rw (run-fine room h, jobs-are)
 
   -- and its counts
-  counts-are : (out left : List ℕ) → mostJobs ≡ length out → left ≡ runOut b ws ts n jobs out → (j : ℕ) → j < length js →
+  counts-are : (out left : List ℕ) → mostJobs ≡ length out → left ≡ runOutFor b ws ts n jobs out → (j : ℕ) → j < length js →
       getD left j 0 ≡ count σ before js (ticksDone (outcome σ before (tasksOf ts) js n) n) j
-  unfolding runOut counts
+  unfolding runOutFor runOut counts
   counts-are out left h e j k =
       let f = count σ before js (ticksDone (outcome σ before (tasksOf ts) js n) n) in
-      let z : left ≡ written (listed f (length js)) out = e ∙ rw (run-fine (length out) h, jobs-are) in
+      let z : left ≡ written (listed f (length js)) out =
+      e ∙ asked-fine teams b ws (kept out) (λ l. runOut b l ts n jobs out) (built .table) ∙ rw (run-fine (length out) h, jobs-are) in
       ap (λ (w : List ℕ). getD w j 0) z
       ∙ written-at (listed f (length js)) out j (omega (arith, listed-length f (length js)))
       ∙ listed-at f (length js) j k
 
-  compared-is : (out left : List ℕ) → mostJobs ≡ length out → left ≡ runOut b ws ts n jobs out →
+  compared-is : (out left : List ℕ) → mostJobs ≡ length out → left ≡ runOutFor b ws ts n jobs out →
       comparedFrom bytes (jobsOf jobs) left last
       ≡ firstDifference (completions rs) (endedFrom σ before js 0 (ticksDone (outcome σ before (tasksOf ts) js last) last))
   unfolding comparedFrom
@@ -146,14 +153,15 @@ module _ (b : Board) (ws ts bytes : List ℕ) (n : ℕ) (jobs : List ℕ) (l : L
 
   -- so what is named is the replay's answer
   pub legal-answer : (out left : List ℕ) (a : Answer Runs.Ran) (d : Option Difference) (k : ℕ) → mostJobs ≡ length out →
-      a ≡ runAnswer b ws ts n jobs (length out) → left ≡ runOut b ws ts n jobs out → k ≡ last →
-      d ≡ comparedFrom bytes (jobsOf jobs) left k → namedIn a k d ≡ recordsAnswer b ws ts rs
-  unfolding replayed ran
+      a ≡ runFor b ws ts n jobs (length out) → left ≡ runOutFor b ws ts n jobs out → k ≡ last →
+      d ≡ comparedFrom bytes (jobsOf jobs) left k → namedIn a k d ≡ recordsFor b ws ts rs
+  unfolding recordsFor replayed ran
   legal-answer out left a d k h e f g q =
       let ended = endedFrom σ before js 0 (ticksDone (outcome σ before (tasksOf ts) js last) last) in
       let z : d ≡ firstDifference (completions rs) ended = q ∙ ap (comparedFrom bytes (jobsOf jobs) left) g ∙ compared-is out left h f in
       rw (e, ran-is (length out) h, g, z, up-to σ before (tasksOf ts) js n, built .ticks)
-      (sym (records-given b ws ts rs (built .table) (built .group) (built .fits .ticks) (built .fits .few) no-bad-record))
+      (sym (asked-fine teams b ws refused (λ w. recordsAnswer b w ts rs) (built .table)
+      ∙ records-given b mine ts rs (own-fine teams b ws (built .table)) (built .group) (built .fits .ticks) (built .fits .few) no-bad-record))
 
 -- ---- refusals
 
@@ -162,18 +170,26 @@ module _ (b : Board) (ws ts bytes : List ℕ) where
   unfolding extentFault
   extent-fine f = rw (le-ltb mostTicks (ticksOf (recordsOf bytes)) (f .ticks), le-ltb mostJobs (length (releases (recordsOf bytes))) (f .few))
 
+  -- the list's fault takes the place of the table's
+  records-for : (rs : List Record) → recordsFor b ws ts rs
+      ≡ unless (sharedFault teams b ws orElse groupFault ts orElse extentFault rs orElse recordFault (tasksOf ts) rs)
+      (replayed (suppliedBy b (own b ws)) (edf (tasksOf ts) (releases rs)) (tasksOf ts) rs)
+  unfolding recordsFor recordsAnswer replayFault
+  records-for rs =
+      asked-unless teams b ws (groupFault ts orElse extentFault rs orElse recordFault (tasksOf ts) rs)
+      (λ l. replayed (suppliedBy b l) (edf (tasksOf ts) (releases rs)) (tasksOf ts) rs)
+
   -- 11
   pub records-refused : (n m p : ℕ) (jobs : List ℕ) → Rebuilt b ws ts bytes n jobs → fault m p ≡ recordFault (tasksOf ts) (recordsOf bytes) →
-      refused m p ≡ recordsAnswer b ws ts (recordsOf bytes)
-  unfolding recordsAnswer replayFault
-  records-refused n m p jobs r e = rw (r .table, r .group, extent-fine (r .fits), ← e)
+      refused m p ≡ recordsFor b ws ts (recordsOf bytes)
+  records-refused n m p jobs r e = sym (records-for (recordsOf bytes) ∙ rw (r .table, r .group, extent-fine (r .fits), ← e))
 
   -- 9
-  pub damaged-refused : (o : ℕ) → damaged o ≡ surveyed (traceOf bytes) → refused 9 o ≡ replayAnswer b ws ts bytes
-  unfolding replayAnswer
+  pub damaged-refused : (o : ℕ) → damaged o ≡ surveyed (traceOf bytes) → refused 9 o ≡ replayFor b ws ts bytes
+  unfolding replayFor
   damaged-refused o e = go (traceOf bytes) e
     where
-      go : (y : Read (List Stamped)) → damaged o ≡ surveyed y → refused 9 o ≡ orNine y (λ rs end. recordsAnswer b ws ts (timed rs))
+      go : (y : Read (List Stamped)) → damaged o ≡ surveyed y → refused 9 o ≡ orNine y (λ rs end. recordsFor b ws ts (timed rs))
       go (bad p) q = let z : o ≡ p = cc in ap (refused 9) z
       go (read rs end) q = let z : _≡_ {A = ℕ} 0 1 = cc in absurd (omega arith)
 
@@ -184,10 +200,10 @@ module _ (b : Board) (ws ts bytes : List ℕ) where
     pub reads : traceOf bytes ≡ read stamped end
     pub ticks-are : ticks ≡ min (ticksOf (recordsOf bytes)) (suc mostTicks)
     pub count-is : count ≡ length (releases (recordsOf bytes))
-    pub answer : replayAnswer b ws ts bytes ≡ recordsAnswer b ws ts (recordsOf bytes)
+    pub answer : replayFor b ws ts bytes ≡ recordsFor b ws ts (recordsOf bytes)
 
   pub extends-is : (ticks count : ℕ) → extends ticks count ≡ surveyed (traceOf bytes) → Extends ticks count
-  unfolding replayAnswer recordsOf
+  unfolding replayFor recordsOf
   extends-is ticks count e = go (traceOf bytes) refl e
     where
       go : (y : Read (List Stamped)) → traceOf bytes ≡ y → extends ticks count ≡ surveyed y → Extends ticks count
@@ -218,28 +234,27 @@ module _ (b : Board) (ws ts bytes : List ℕ) where
         rw (t, x .count-is)
 
     abbrev checked : Fault
-    checked = (tableFault b ws orElse groupFault ts) orElse faultIf (ltb mostTicks ticks || ltb mostJobs count) 10 0
+    checked = (sharedFault teams b ws orElse groupFault ts) orElse faultIf (ltb mostTicks ticks || ltb mostJobs count) 10 0
 
-    pub extent-refused : (m p : ℕ) → fault m p ≡ checked → refused m p ≡ replayAnswer b ws ts bytes
-    unfolding recordsAnswer replayFault
+    pub extent-refused : (m p : ℕ) → fault m p ≡ checked → refused m p ≡ replayFor b ws ts bytes
     extent-refused m p e =
-        let z : fault m p ≡ (tableFault b ws orElse groupFault ts orElse extentFault (recordsOf bytes)) =
-        e ∙ or-assoc (tableFault b ws) (groupFault ts) _ ∙ rw extent-is in
-        go (tableFault b ws) (groupFault ts) (extentFault (recordsOf bytes)) z ∙ sym (x .answer)
+        let z : fault m p ≡ (sharedFault teams b ws orElse groupFault ts orElse extentFault (recordsOf bytes)) =
+        e ∙ or-assoc (sharedFault teams b ws) (groupFault ts) _ ∙ rw extent-is in
+        go (sharedFault teams b ws) (groupFault ts) (extentFault (recordsOf bytes)) z ∙ sym (x .answer ∙ records-for (recordsOf bytes))
       where
         go : (f g h : Fault) → fault m p ≡ (f orElse g orElse h) →
             refused m p ≡ unless (f orElse g orElse h orElse recordFault (tasksOf ts) (recordsOf bytes))
-            (replayed (suppliedBy b ws) (edf (tasksOf ts) (releases (recordsOf bytes))) (tasksOf ts) (recordsOf bytes))
+            (replayed (suppliedBy b (own b ws)) (edf (tasksOf ts) (releases (recordsOf bytes))) (tasksOf ts) (recordsOf bytes))
         go fine fine fine q = absurd (fault-not-fine q)
         go fine fine (fault u v) q = cc
         go fine (fault u v) h q = cc
         go (fault u v) g h q = cc
 
-    pub fitting : fine ≡ checked → Fits bytes × (tableFault b ws ≡ fine) × (groupFault ts ≡ fine) × (ticks ≡ ticksOf (recordsOf bytes))
+    pub fitting : fine ≡ checked → Fits bytes × (sharedFault teams b ws ≡ fine) × (groupFault ts ≡ fine) × (ticks ≡ ticksOf (recordsOf bytes))
         × (count ≡ length (releases (recordsOf bytes)))
     fitting e =
-        let p = orElse-fine (tableFault b ws orElse groupFault ts) _ (sym e) in
-        let q = orElse-fine (tableFault b ws) (groupFault ts) (p .0) in
+        let p = orElse-fine (sharedFault teams b ws orElse groupFault ts) _ (sym e) in
+        let q = orElse-fine (sharedFault teams b ws) (groupFault ts) (p .0) in
         let n = or-neither (ltb mostTicks ticks) (ltb mostJobs count) (faultIf-fine _ 10 0 (p .1)) in
         let t = ltb-false mostTicks ticks (n .0) in
         let c = ltb-false mostJobs count (n .1) in

@@ -5,14 +5,15 @@ use mathlib.Core.List.{List, [], _∷_}
 use Prim.Native.Nat.{ℕ, _+_, _*_, _≤_}
 use lib.Dec.{eqb}
 use lib.ListN.{length, set}
-use Rattle.scope.specs.Limits.{mostTicks, mostJobs}
+use Rattle.scope.specs.Limits.{teams, mostTicks, mostJobs}
 use Rattle.scope.specs.Windows.{Board}
 use Rattle.scope.specs.Tasks.{tasksOf}
 use Rattle.scope.specs.Jobs.{Job}
-use Rattle.scope.specs.Answers.{Fault.fine, tableFault, groupFault}
+use Rattle.scope.specs.Answers.{Fault.fine, groupFault}
 use Rattle.scope.specs.Plan.{Read, Read.read, Read.bad}
 use Rattle.scope.specs.Trace.{Stamped, traceOf, Record, timed, ticksOf, isRelease, releases, recordAt, goesBefore, inTurn, releasesBefore}
 use Rattle.scope.specs.Replay.{recordFault}
+use Rattle.scope.specs.Shared.{sharedFault}
 use Rattle.replay.specs.declared.read.Reader.{Reader}
 
 abbrev pub timedIn : Read (List Stamped) → List Record
@@ -39,7 +40,7 @@ numbersOf (x ∷ js) = x .release ∷ x .task ∷ x .work ∷ numbersOf js
 -- of a legal table and group, with the job list in numbers
 pub record Rebuilt (b : Board) (ws ts bytes : List ℕ) (n : ℕ) (jobs : List ℕ) : Type 0 where
   pub fits : Fits bytes
-  pub table : tableFault b ws ≡ fine
+  pub table : sharedFault teams b ws ≡ fine
   pub group : groupFault ts ≡ fine
   pub ticks : n ≡ ticksOf (recordsOf bytes)
   pub numbers : jobs ≡ numbersOf (releases (recordsOf bytes))

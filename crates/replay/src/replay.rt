@@ -16,11 +16,12 @@ use tables::board::Board;
 use tables::task::check_group;
 ghost use mathlib.Core.Path.{_≡_};
 ghost use Prim.Native.Nat.{_-_, _*_};
-ghost use Rattle.scope.specs.Limits.{mostJobs};
+ghost use Rattle.scope.specs.Limits.{teams, mostJobs};
 ghost use lib.ListN.{length};
-ghost use Rattle.scope.specs.Answers.{Fault.fine, Answer.given, tableFault, groupFault};
+ghost use Rattle.scope.specs.Answers.{Fault.fine, Answer.given, groupFault};
 ghost use Rattle.scope.specs.Trace.{ticksOf, releases};
-ghost use Rattle.scope.specs.Replay.{lesser as lesserOf, recordsAnswer, replayAnswer};
+ghost use Rattle.scope.specs.Replay.{lesser as lesserOf};
+ghost use Rattle.scope.specs.Shared.{sharedFault, recordsFor, replayFor};
 ghost use Rattle.tables.specs.Told.{boardOf};
 ghost use Rattle.machine.specs.Told.{toldRan};
 ghost use Rattle.replay.specs.Rebuilt.{recordsOf, Fits, Rebuilt, Legal};
@@ -129,7 +130,7 @@ fn replay_legal(
     jobs: &[u32],
 ) -> Replayed
     requires { ⌜ Legal (boardOf board) (now windows) (now tasks) (now trace) ticks (now jobs) ⌝ }
-    ensures { λ r. ⌜ toldReplayed r ≡ recordsAnswer (boardOf board) (now (windows .entry)) (now (tasks .entry)) (recordsOf (now (trace .entry))) ⌝ }
+    ensures { λ r. ⌜ toldReplayed r ≡ recordsFor (boardOf board) (now (windows .entry)) (now (tasks .entry)) (recordsOf (now (trace .entry))) ⌝ }
 {
     let mut counts = count_room();
     let ran = run(board, windows, tasks, ticks, jobs, &mut counts);
@@ -148,7 +149,7 @@ fn replay_jobs(
     jobs: &[u32],
 ) -> Replayed
     requires { ⌜ Rebuilt (boardOf board) (now windows) (now tasks) (now trace) ticks (now jobs) ⌝ }
-    ensures { λ r. ⌜ toldReplayed r ≡ recordsAnswer (boardOf board) (now (windows .entry)) (now (tasks .entry)) (recordsOf (now (trace .entry))) ⌝ }
+    ensures { λ r. ⌜ toldReplayed r ≡ recordsFor (boardOf board) (now (windows .entry)) (now (tasks .entry)) (recordsOf (now (trace .entry))) ⌝ }
 {
     match check_records(tasks, ticks, trace, jobs) {
         Checked::Bad(r) => Replayed::Refused(r),
@@ -164,9 +165,9 @@ fn replay_fitting(
     ticks: u32,
     count: usize,
 ) -> Replayed
-    requires { ⌜ Fits (now trace) × (tableFault (boardOf board) (now windows) ≡ fine) × (groupFault (now tasks) ≡ fine)
+    requires { ⌜ Fits (now trace) × (sharedFault teams (boardOf board) (now windows) ≡ fine) × (groupFault (now tasks) ≡ fine)
         × (ticks ≡ ticksOf (recordsOf (now trace))) × (count ≡ length (releases (recordsOf (now trace)))) ⌝ }
-    ensures { λ r. ⌜ toldReplayed r ≡ recordsAnswer (boardOf board) (now (windows .entry)) (now (tasks .entry)) (recordsOf (now (trace .entry))) ⌝ }
+    ensures { λ r. ⌜ toldReplayed r ≡ recordsFor (boardOf board) (now (windows .entry)) (now (tasks .entry)) (recordsOf (now (trace .entry))) ⌝ }
 {
     let mut jobs = job_room();
     rebuild(trace, &mut jobs);
@@ -174,9 +175,10 @@ fn replay_fitting(
     replay_jobs(board, windows, tasks, trace, ticks, &jobs[..m])
 }
 
-// Replays a trace, any bytes at all, on a table and a group of tasks. Refusals 9 1 2 3 4 5 10 11; 11 names the record.
+// Replays a trace, any bytes at all, on the asked owner's windows and a group of tasks. Refusals 9, 1 2 3, 1 of an absent owner, 4 5 10 11; 11 names the
+// record.
 pub fn replay(board: Board, windows: &[u32], tasks: &[u32], trace: &[u8]) -> Replayed
-    ensures { λ r. ⌜ toldReplayed r ≡ replayAnswer (boardOf board) (now (windows .entry)) (now (tasks .entry)) (now (trace .entry)) ⌝ }
+    ensures { λ r. ⌜ toldReplayed r ≡ replayFor (boardOf board) (now (windows .entry)) (now (tasks .entry)) (now (trace .entry)) ⌝ }
 {
     match survey(trace) {
         Extent::Bad(offset) => {

@@ -19,11 +19,11 @@ use Rattle.scope.specs.Answers.{windowListFault, frameFault, windowFault, table
 use Rattle.scope.specs.Answers.{suppliedAnswer, leastSupplyAnswer, criticalAnswer, criticalOut, delayAnswer, outageAnswer}
 use Rattle.scope.specs.Answers.{marginAnswer, verdictAnswer, boundAnswer, runAnswer, runOut}
 use Rattle.scope.specs.Plan.{Read, Read.read, Read.bad, orNine}
-use Rattle.scope.specs.Trace.{Record, traceOf, timed}
-use Rattle.scope.specs.Replay.{replayFault, recordsAnswer, replayAnswer}
+use Rattle.scope.specs.Trace.{Stamped, Record, traceOf, timed}
+use Rattle.scope.specs.Replay.{Replayed, replayFault, recordsAnswer, replayAnswer}
 use Rattle.scope.specs.Shared.{Owned, owned, ownedOf, ownedAt, windowsFor, own, asOwned, follows, ownedLegal, badOwned, ownedListFault, ownedFault}
 use Rattle.scope.specs.Shared.{wholeFault, absentOwnerFault, sharedFault, unlessRefused, askedFor, kept, recordsFor, replayFor}
-use Rattle.theory.specs.Shared.{asked-fine, asked-refused}
+use Rattle.theory.specs.Shared.{asked-fine, asked-refused, asked-given}
 use Rattle.theory.specs.Answers.{table-legal}
 
 -- ---- entries: functions of a board and a list of windows that refuse what is no table, and of the board read no more than the frame
@@ -214,3 +214,19 @@ replay-alone b c ws vs ts bytes e f framed same =
 pub replay-one-owner : (b : Board) → b .owner < teams → (ws ts bytes : List ℕ) → replayFor b (asOwned (b .owner) ws) ts bytes ≡ replayAnswer b ws ts bytes
 unfolding replayFor recordsFor replayAnswer
 replay-one-owner b exists ws ts bytes = or-nine (traceOf bytes) _ _ (λ rs next. one-owner teams b exists ws (records-entry ts (timed rs)))
+
+-- where the list has no fault, what the owner's windows get is answered
+pub replay-own : (b : Board) (ws ts bytes : List ℕ) → sharedFault teams b ws ≡ fine → replayFor b ws ts bytes ≡ replayAnswer b (own b ws) ts bytes
+unfolding replayFor recordsFor replayAnswer
+replay-own b ws ts bytes e =
+    or-nine (traceOf bytes) _ _ (λ rs next. asked-fine teams b ws refused (λ l. recordsAnswer b l ts (timed rs)) e)
+
+pub replay-asked : (b : Board) (ws ts bytes : List ℕ) (v : Replayed) → replayFor b ws ts bytes ≡ given v →
+    (sharedFault teams b ws ≡ fine) × (replayAnswer b (own b ws) ts bytes ≡ given v)
+unfolding replayFor recordsFor replayAnswer
+replay-asked b ws ts bytes v = go (traceOf bytes)
+  where
+    go : (r : Read (List Stamped)) → orNine r (λ rs next. askedFor teams b ws refused (λ l. recordsAnswer b l ts (timed rs))) ≡ given v →
+        (sharedFault teams b ws ≡ fine) × (orNine r (λ rs next. recordsAnswer b (own b ws) ts (timed rs)) ≡ given v)
+    go (read rs next) e = asked-given teams b ws (λ l. recordsAnswer b l ts (timed rs)) v e
+    go (bad o) e = let z : _≡_ {A = ℕ} 0 1 = cc in absurd (omega arith)

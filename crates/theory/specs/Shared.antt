@@ -344,6 +344,17 @@ asked-given owners b ws entry v = go (sharedFault owners b ws)
     go fine e = (refl, e)
     go (fault n p) e = let z : _≡_ {A = ℕ} 0 1 = cc in absurd (omega arith)
 
+-- the list's fault takes the place of the table's in an entry's order
+pub asked-unless : {A : Type 0} (owners : ℕ) (b : Board) (ws : List ℕ) (rest : Fault) (value : List ℕ → A) →
+    askedFor owners b ws refused (λ l. unless (tableFault b l orElse rest) (value l)) ≡ unless (sharedFault owners b ws orElse rest) (value (own b ws))
+unfolding askedFor
+asked-unless owners b ws rest value = go (sharedFault owners b ws) refl
+  where
+    go : (f : Fault) → sharedFault owners b ws ≡ f →
+        unlessRefused f refused (unless (tableFault b (own b ws) orElse rest) (value (own b ws))) ≡ unless (f orElse rest) (value (own b ws))
+    go fine e = rw (own-fine owners b ws e)
+    go (fault n p) e = refl
+
 -- ---- lent memory that the owner's windows are asked into
 
 module _ (owners : ℕ) (b : Board) (ws : List ℕ) where

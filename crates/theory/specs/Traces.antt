@@ -12,10 +12,11 @@ use lib.ListN.{length, drop, length-append, length-drop}
 use borrow.Author.Tests.{leb-true, le-leb, lt-leb, eq-eqb, ne-eqb}
 use Rattle.scope.specs.Limits.{mostNumber}
 use Rattle.scope.specs.Windows.{Board}
-use Rattle.scope.specs.Plan.{Read, Read.read, Read.bad, andRead, readNumber, numberBytes}
+use Rattle.scope.specs.Answers.{Answer}
+use Rattle.scope.specs.Plan.{Read, Read.read, Read.bad, andRead, readNumber, numberBytes, orNine}
 use Rattle.scope.specs.Trace.{Stamped, readKind, readWork, readRecord, recordsWithin, traceOf, elapsed, Record, timedFrom, firstStamp, timed, lastInstant}
 use Rattle.scope.specs.Trace.{ticksOf, recordAt, recordBytes, traceBytes, stampedFrom, shifted}
-use Rattle.scope.specs.Replay.{replayAnswer}
+use Rattle.scope.specs.Replay.{recordsAnswer, replayAnswer}
 use Rattle.theory.specs.Every.{Every, EveryTwo, every-imp}
 use Rattle.theory.specs.Seven.{bad-not-read, number-most, written-number, written-groups}
 use Rattle.theory.specs.Reading.{groups-size}
@@ -312,9 +313,14 @@ module _ (bytes : List ℕ) (rs : List Stamped) (end : ℕ) (reads : traceOf byt
   pub shifted-bytes : traceOf (traceBytes (shifted c rs)) ≡ read (shifted c rs) (length (traceBytes (shifted c rs)))
   shifted-bytes = trace-round-trip (shifted c rs) (shifted-recordable c rs (trace-recordable bytes rs end reads))
 
-  -- and whichever they are, they answer as before: a free-running counter may show anything when the run starts
+  -- and whichever they are, what is made of the timed records stays: a free-running counter may show anything when the run starts
+  pub shift-same : {A : Type 0} (bytes′ : List ℕ) (end′ : ℕ) → traceOf bytes′ ≡ read (shifted c rs) end′ → (answer : List Record → Answer A) →
+      orNine (traceOf bytes′) (λ r next. answer (timed r)) ≡ orNine (traceOf bytes) (λ r next. answer (timed r))
+  shift-same bytes′ end′ reads′ answer =
+      rw (reads, reads′, timed-shifted c rs (recordable-counted rs (trace-recordable bytes rs end reads)))
+
+  -- so they answer as before
   pub shift-answer : (bytes′ : List ℕ) (end′ : ℕ) → traceOf bytes′ ≡ read (shifted c rs) end′ → (b : Board) (ws ts : List ℕ) →
       replayAnswer b ws ts bytes′ ≡ replayAnswer b ws ts bytes
   unfolding replayAnswer
-  shift-answer bytes′ end′ reads′ b ws ts =
-      rw (reads, reads′, timed-shifted c rs (recordable-counted rs (trace-recordable bytes rs end reads)))
+  shift-answer bytes′ end′ reads′ b ws ts = shift-same bytes′ end′ reads′ (recordsAnswer b ws ts)

@@ -8,7 +8,7 @@ use Rattle.plan.proofs.check.check_plan.Statement.{statement}
 use Rattle.plan.proofs.check.check_plan.Tie as tie
 use Rattle.plan.proofs.check.check_plan.Reads as reads
 use Rattle.plan.proofs.check.check_plan.Lts as lts
-use Rattle.checker.proofs.verdict.verdict.Reads as verdict-reads
+use Rattle.plan.proofs.check.verdict_of.Reads as verdict-of-reads
 use Rattle.plan.proofs.read.read_plan.Reads as read-plan-reads
 
 slice-aggregate-read-plan : tie.Need-slice-aggregate-read-plan
@@ -31,19 +31,22 @@ array-share-prefix-windows c =
     let h = rw (c .before .frame .given .1) at (c .before .before .before .before .before .read-plan .ensures .1) in
     omega (arith, h .0)
 
-slice-aggregate-verdict : tie.Need-slice-aggregate-verdict
-slice-aggregate-verdict c = sym (length-take-le _ _ (array-share-prefix-windows (c .before)))
+slice-aggregate-verdict-of : tie.Need-slice-aggregate-verdict-of
+slice-aggregate-verdict-of c = sym (length-take-le _ _ (array-share-prefix-windows (c .before)))
 
 array-share-prefix-tasks : tie.Need-array-share-prefix-tasks
 array-share-prefix-tasks c =
     let h = rw (c .before .before .frame .given .1) at (c .before .before .before .before .before .before .read-plan .ensures .1) in
     omega (arith, h .1)
 
-slice-aggregate-verdict-2 : tie.Need-slice-aggregate-verdict-2
-slice-aggregate-verdict-2 c = sym (length-take-le _ _ (array-share-prefix-tasks (c .before)))
+slice-aggregate-verdict-of-2 : tie.Need-slice-aggregate-verdict-of-2
+slice-aggregate-verdict-of-2 c = sym (length-take-le _ _ (array-share-prefix-tasks (c .before)))
 
-verdict-requires : tie.Need-verdict-requires
-verdict-requires c κs = search needs
+verdict-of-requires : tie.Need-verdict-of-requires
+verdict-of-requires c κs =
+    let h = array-share-prefix-windows (c .before .before) in
+    let e = slice-aggregate-verdict-of (c .before) in
+    omega (arith, h, e)
 
 returns : tie.Need-returns
 returns c =
@@ -55,7 +58,7 @@ returns-2 : tie.Need-returns-2
 returns-2 c =
     let r = c .before .before .before .before .before .before .before .before .read-plan in
     let e = ap (λ z. toldPlan z (r .last .1 .1 .0) (r .last .1 .1 .1 .0)) (c .before .before .before .before .frame .given .1) in
-    c .verdict .ensures ∙ plan-judged _ _ (sym (r .ensures .0) ∙ e)
+    c .verdict-of .ensures ∙ plan-judged _ _ (sym (r .ensures .0) ∙ e)
 
 pub check-plan-spec : {M : Type 1} → statement M
 check-plan-spec =
@@ -67,9 +70,9 @@ check-plan-spec =
     enum-known-refusal
     enum-known-frame
     array-share-prefix-windows
-    slice-aggregate-verdict
+    slice-aggregate-verdict-of
     array-share-prefix-tasks
-    slice-aggregate-verdict-2
-    verdict-requires
+    slice-aggregate-verdict-of-2
+    verdict-of-requires
     returns
     returns-2)
