@@ -5,8 +5,8 @@ use checker::bound::bound;
 use tables::answer::Bound;
 use tables::board::Board;
 ghost use mathlib.Core.Path.{_≡_};
-ghost use Rattle.scope.specs.Answers.{boundAnswer};
-ghost use Rattle.tables.specs.Told.{toldBound};
+ghost use Rattle.scope.specs.Shared.{boundFor};
+ghost use Rattle.tables.specs.Told.{boardOf, toldBound};
 ghost use Rattle.host.specs.Told.{cBound};
 
 fn bound_answer(b: Bound) -> Answer
@@ -19,10 +19,15 @@ fn bound_answer(b: Bound) -> Answer
     }
 }
 
-// Refusals 1 2 3 4 5 7.
+// Refusals 1 2 3, 1 of an absent owner, 4 5 7.
 #[no_mangle]
-pub extern "C" fn palikudyom_bound(frame: u32, windows: &[u32], tasks: &[u32], index: u32) -> Answer
-    ensures { λ r. ⌜ r ≡ cBound (boundAnswer (record { frame = frame }) (now (windows .entry)) (now (tasks .entry)) index) ⌝ }
+pub extern "C" fn palikudyom_bound(
+    board: Board,
+    windows: &[u32],
+    tasks: &[u32],
+    index: u32,
+) -> Answer
+    ensures { λ r. ⌜ r ≡ cBound (boundFor (boardOf board) (now (windows .entry)) (now (tasks .entry)) index) ⌝ }
 {
-    bound_answer(bound(Board { frame }, windows, tasks, index))
+    bound_answer(bound(board, windows, tasks, index))
 }

@@ -8,8 +8,9 @@ use tables::answer::Margin;
 use tables::answer::magnitude;
 use tables::board::Board;
 ghost use mathlib.Core.Path.{_≡_};
-ghost use Rattle.scope.specs.Answers.{demandAnswer, marginAnswer};
-ghost use Rattle.tables.specs.Told.{toldMargin};
+ghost use Rattle.scope.specs.Answers.{demandAnswer};
+ghost use Rattle.scope.specs.Shared.{marginFor};
+ghost use Rattle.tables.specs.Told.{boardOf, toldMargin};
 ghost use Rattle.host.specs.Told.{signed, cAmount, cMargin};
 
 fn signed_answer(m: i64) -> Answer
@@ -39,15 +40,15 @@ pub extern "C" fn palikudyom_demand(tasks: &[u32], length: u32) -> Answer
     amount_answer(demand(tasks, length))
 }
 
-// Refusals 1 2 3 4 5 7.
+// Refusals 1 2 3, 1 of an absent owner, 4 5 7.
 #[no_mangle]
 pub extern "C" fn palikudyom_margin(
-    frame: u32,
+    board: Board,
     windows: &[u32],
     tasks: &[u32],
     length: u32,
 ) -> Answer
-    ensures { λ r. ⌜ r ≡ cMargin (marginAnswer (record { frame = frame }) (now (windows .entry)) (now (tasks .entry)) length) ⌝ }
+    ensures { λ r. ⌜ r ≡ cMargin (marginFor (boardOf board) (now (windows .entry)) (now (tasks .entry)) length) ⌝ }
 {
-    margin_answer(margin(Board { frame }, windows, tasks, length))
+    margin_answer(margin(board, windows, tasks, length))
 }

@@ -9,8 +9,8 @@ use tables::answer::Delay;
 use tables::board::Board;
 ghost use mathlib.Core.Path.{_≡_};
 ghost use lib.ListN.{length};
-ghost use Rattle.scope.specs.Answers.{criticalAnswer, criticalOut, delayAnswer, outageAnswer};
-ghost use Rattle.tables.specs.Told.{toldDelay};
+ghost use Rattle.scope.specs.Shared.{criticalFor, criticalOutFor, delayFor, outageFor};
+ghost use Rattle.tables.specs.Told.{boardOf, toldDelay};
 ghost use Rattle.host.specs.Told.{cAmount, cDelay};
 
 fn delay_answer(d: Delay) -> Answer
@@ -22,27 +22,27 @@ fn delay_answer(d: Delay) -> Answer
     }
 }
 
-// How many critical windows, two numbers each in `out`. Refusals 1 2 3 8.
+// How many critical windows, two numbers each in `out`. Refusals 1 2 3, 1 of an absent owner, 8.
 #[no_mangle]
-pub extern "C" fn palikudyom_critical(frame: u32, windows: &[u32], out: &mut [u32]) -> Answer
-    ensures answer { λ r. ⌜ r ≡ cAmount (criticalAnswer (record { frame = frame }) (now (windows .entry)) (length (now (out .entry)))) ⌝ }
-    ensures buffer { λ _. ⌜ now (out .exit) ≡ criticalOut (record { frame = frame }) (now (windows .entry)) (now (out .entry)) ⌝ }
+pub extern "C" fn palikudyom_critical(board: Board, windows: &[u32], out: &mut [u32]) -> Answer
+    ensures answer { λ r. ⌜ r ≡ cAmount (criticalFor (boardOf board) (now (windows .entry)) (length (now (out .entry)))) ⌝ }
+    ensures buffer { λ _. ⌜ now (out .exit) ≡ criticalOutFor (boardOf board) (now (windows .entry)) (now (out .entry)) ⌝ }
 {
-    amount_answer(critical(Board { frame }, windows, out))
+    amount_answer(critical(board, windows, out))
 }
 
-// Refusals 1 2 3.
+// Refusals 1 2 3, 1 of an absent owner.
 #[no_mangle]
-pub extern "C" fn palikudyom_delay(frame: u32, windows: &[u32]) -> Answer
-    ensures { λ r. ⌜ r ≡ cDelay (delayAnswer (record { frame = frame }) (now (windows .entry))) ⌝ }
+pub extern "C" fn palikudyom_delay(board: Board, windows: &[u32]) -> Answer
+    ensures { λ r. ⌜ r ≡ cDelay (delayFor (boardOf board) (now (windows .entry))) ⌝ }
 {
-    delay_answer(delay(Board { frame }, windows))
+    delay_answer(delay(board, windows))
 }
 
-// Refusals 1 2 3.
+// Refusals 1 2 3, 1 of an absent owner.
 #[no_mangle]
-pub extern "C" fn palikudyom_outage(frame: u32, windows: &[u32]) -> Answer
-    ensures { λ r. ⌜ r ≡ cAmount (outageAnswer (record { frame = frame }) (now (windows .entry))) ⌝ }
+pub extern "C" fn palikudyom_outage(board: Board, windows: &[u32]) -> Answer
+    ensures { λ r. ⌜ r ≡ cAmount (outageFor (boardOf board) (now (windows .entry))) ⌝ }
 {
-    amount_answer(outage(Board { frame }, windows))
+    amount_answer(outage(board, windows))
 }

@@ -6,7 +6,8 @@ use machine::run::run;
 use tables::board::Board;
 ghost use mathlib.Core.Path.{_≡_};
 ghost use lib.ListN.{length};
-ghost use Rattle.scope.specs.Answers.{runAnswer, runOut};
+ghost use Rattle.scope.specs.Shared.{runFor, runOutFor};
+ghost use Rattle.tables.specs.Told.{boardOf};
 ghost use Rattle.machine.specs.Told.{toldRan};
 ghost use Rattle.host.specs.Told.{cRan};
 
@@ -30,20 +31,20 @@ fn ran_answer(r: Ran) -> Answer
     }
 }
 
-// Each job's count goes into `counts`. Refusals 1 2 3 4 5 10 11 8.
+// Each job's count goes into `counts`. Refusals 1 2 3, 1 of an absent owner, 4 5 10 11 8.
 #[no_mangle]
 pub extern "C" fn palikudyom_run(
-    frame: u32,
+    board: Board,
     windows: &[u32],
     tasks: &[u32],
     ticks: u32,
     jobs: &[u32],
     counts: &mut [u32],
 ) -> Answer
-    ensures answer { λ r. ⌜ r ≡ cRan (runAnswer (record { frame = frame }) (now (windows .entry)) (now (tasks .entry))
+    ensures answer { λ r. ⌜ r ≡ cRan (runFor (boardOf board) (now (windows .entry)) (now (tasks .entry))
         ticks (now (jobs .entry)) (length (now (counts .entry)))) ⌝ }
-    ensures buffer { λ _. ⌜ now (counts .exit) ≡ runOut (record { frame = frame }) (now (windows .entry)) (now (tasks .entry))
+    ensures buffer { λ _. ⌜ now (counts .exit) ≡ runOutFor (boardOf board) (now (windows .entry)) (now (tasks .entry))
         ticks (now (jobs .entry)) (now (counts .entry)) ⌝ }
 {
-    ran_answer(run(Board { frame }, windows, tasks, ticks, jobs, counts))
+    ran_answer(run(board, windows, tasks, ticks, jobs, counts))
 }

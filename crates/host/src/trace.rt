@@ -7,7 +7,8 @@ use replay::replay::Replayed;
 use replay::replay::replay;
 use tables::board::Board;
 ghost use mathlib.Core.Path.{_≡_};
-ghost use Rattle.scope.specs.Replay.{replayAnswer};
+ghost use Rattle.scope.specs.Shared.{replayFor};
+ghost use Rattle.tables.specs.Told.{boardOf};
 ghost use Rattle.replay.specs.Ending.{toldSeen};
 ghost use Rattle.replay.specs.Told.{toldReplayed};
 ghost use Rattle.host.specs.Told.{difference, cReplay};
@@ -54,15 +55,15 @@ fn replay_answer(r: Replayed) -> Answer
     }
 }
 
-// A board's trace against the tick machine. Refusals 9 1 2 3 4 5 10 11; 9 and 11 are about the trace.
+// A board's trace against the tick machine. Refusals 9, 1 2 3, 1 of an absent owner, 4 5 10 11; 9 and 11 are about the trace.
 #[no_mangle]
 pub extern "C" fn palikudyom_replay(
-    frame: u32,
+    board: Board,
     windows: &[u32],
     tasks: &[u32],
     trace: &[u8],
 ) -> Answer
-    ensures { λ r. ⌜ r ≡ cReplay (replayAnswer (record { frame = frame }) (now (windows .entry)) (now (tasks .entry)) (now (trace .entry))) ⌝ }
+    ensures { λ r. ⌜ r ≡ cReplay (replayFor (boardOf board) (now (windows .entry)) (now (tasks .entry)) (now (trace .entry))) ⌝ }
 {
-    replay_answer(replay(Board { frame }, windows, tasks, trace))
+    replay_answer(replay(board, windows, tasks, trace))
 }

@@ -5,8 +5,8 @@ use checker::verdict::verdict;
 use tables::answer::Verdict;
 use tables::board::Board;
 ghost use mathlib.Core.Path.{_≡_};
-ghost use Rattle.scope.specs.Answers.{verdictAnswer};
-ghost use Rattle.tables.specs.Told.{toldVerdict};
+ghost use Rattle.scope.specs.Shared.{verdictFor};
+ghost use Rattle.tables.specs.Told.{boardOf, toldVerdict};
 ghost use Rattle.host.specs.Told.{cVerdict};
 
 pub(crate) fn verdict_answer(v: Verdict) -> Answer
@@ -30,10 +30,10 @@ pub(crate) fn verdict_answer(v: Verdict) -> Answer
     }
 }
 
-// Refusals 1 2 3 4 5 6.
+// Refusals 1 2 3, 1 of an absent owner, 4 5 6.
 #[no_mangle]
-pub extern "C" fn palikudyom_verdict(frame: u32, windows: &[u32], tasks: &[u32]) -> Answer
-    ensures { λ r. ⌜ r ≡ cVerdict (verdictAnswer (record { frame = frame }) (now (windows .entry)) (now (tasks .entry))) ⌝ }
+pub extern "C" fn palikudyom_verdict(board: Board, windows: &[u32], tasks: &[u32]) -> Answer
+    ensures { λ r. ⌜ r ≡ cVerdict (verdictFor (boardOf board) (now (windows .entry)) (now (tasks .entry))) ⌝ }
 {
-    verdict_answer(verdict(Board { frame }, windows, tasks))
+    verdict_answer(verdict(board, windows, tasks))
 }

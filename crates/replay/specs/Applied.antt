@@ -42,6 +42,7 @@ trace-says : (v : Replayed) → toldReplayed v ≡ replayFor (boardOf board) XSh
     let js = releases rs in
     (completions rs ≡ endedFrom (suppliedBy (boardOf board) X) (edf (tasksOf w7) js) js 0 (ticksOf rs - 1))
     × (outcome (suppliedBy (boardOf board) X) (edf (tasksOf w7) js) (tasksOf w7) js (ticksOf rs - 1) ≡ Runs.met)
+unfolding everything
 trace-says v e = same-says board XShared w7 trace v e (trace-told v e) trace-stamps 14 trace-reads
 
 -- so is the one whose counter goes past its top

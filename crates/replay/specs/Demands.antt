@@ -33,7 +33,7 @@ use Rattle.replay.specs.Told.{toldReplayed}
 use Rattle.replay.specs.Determined.{replayed-determined}
 
 -- the asked owner's windows
-abbrev mine : Board → List ℕ → List ℕ
+abbrev pub mine : Board → List ℕ → List ℕ
 mine b ws = windowsOwn (boardOf b) ws
 
 module _ (b : Board) (ws ts bytes : List ℕ) (v : replayed.Replayed) (promised : toldReplayed v ≡ replayFor (boardOf b) ws ts bytes) where
@@ -79,7 +79,7 @@ module _ (b : Board) (ws ts bytes : List ℕ) (v : replayed.Replayed) (promised 
 -- the machine's own run of a legal job list whose first release is at tick 0, recorded by a counter that shows c at its start
 module _ (b : Board) (ws ts : List ℕ) (table : sharedFault teams (boardOf b) ws ≡ fine) (group : groupFault ts ≡ fine)
     (js : List Job) (n : ℕ) (legal : badJob (tasksOf ts) n js ≡ none) (few : length js ≤ mostJobs) (some : 0 < length js) (start : releaseOf js 0 ≡ 0) where
-  owned : tableFault (boardOf b) (mine b ws) ≡ fine
+  pub owned : tableFault (boardOf b) (mine b ws) ≡ fine
   owned = own-fine teams (boardOf b) ws table
 
   module _ (ticks : ticksOf (own (boardOf b) (mine b ws) ts owned group js n legal few some start) ≤ mostTicks) (c : ℕ) (v : replayed.Replayed)

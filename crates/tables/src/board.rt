@@ -5,6 +5,8 @@ ghost use Rattle.scope.specs.Answers.{frameFault, boardAnswer};
 ghost use Rattle.tables.specs.Told.{boardOf, faultOf, toldBoard};
 
 // What, beside the windows, decides which ticks are supplied: the frame, and the owner that is asked for. Any value may be lent: the entries check it.
+// C lends it too, as it is.
+#[repr(C)]
 pub struct Board {
     pub frame: u32,
     pub owner: u32,
