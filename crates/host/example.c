@@ -1,6 +1,6 @@
 /*
- * Document 01's marked examples, and one refusal of each number, through palikudyom.h: one line an answer. example.query asks the same,
- * line by line, of the second program, and example.stdout is what that one answers.
+ * Document 01's marked examples on a table that two teams share, the other team's answers, and one refusal of each number, through palikudyom.h: one line
+ * an answer. example.query asks the same, line by line, of the second program, and example.stdout is what that one answers.
  */
 #include "palikudyom.h"
 #include <stdio.h>
@@ -9,10 +9,13 @@
 #define LIST(list) (list), LENGTH(list)
 #define NONE X, 0 /* an empty list: its pointer is valid too */
 
-/* the table X: a frame of 8 ticks, supplied in 0, 1, 5 and 6 */
+/* the table X is owner 0's: a frame of 8 ticks, supplied in 0, 1, 5 and 6. The other ticks are owner 1's */
 #define FRAME 8
-static const uint32_t X[] = {0, 2, 5, 7};
-static const uint32_t LAB[] = {3, 5}; /* document 02, request 1 */
+static const struct palikudyom_board FIRST = {FRAME, 0};
+static const struct palikudyom_board SECOND = {FRAME, 1};
+static const uint32_t X[] = {0, 2, 0, 2, 5, 1, 5, 7, 0, 7, 8, 1};
+static const uint32_t LAB[] = {0, 3, 0, 3, 5, 1, 5, 8, 0}; /* document 02, request 1, as owner 1's */
+static const uint32_t PAIRS[] = {0, 2, 5, 7}; /* X as a plan file has it */
 
 static const uint32_t W4[] = {1, 4, 4};
 static const uint32_t W5[] = {1, 4, 3};
@@ -117,26 +120,26 @@ static void line_and_buffer(struct palikudyom_answer x, const uint32_t *buffer, 
 
 static void verdict(const uint32_t *tasks, size_t tasks_len)
 {
-    line("", palikudyom_verdict(FRAME, LIST(X), tasks, tasks_len));
+    line("", palikudyom_verdict(FIRST, LIST(X), tasks, tasks_len));
 }
 
 static void critical(size_t room)
 {
     uint32_t out[] = {7, 7, 7, 7, 7};
-    struct palikudyom_answer x = palikudyom_critical(FRAME, LIST(X), out, room);
+    struct palikudyom_answer x = palikudyom_critical(FIRST, LIST(X), out, room);
     line_and_buffer(x, out, room);
 }
 
 static void run(const uint32_t *tasks, size_t tasks_len, uint32_t ticks, const uint32_t *jobs, size_t jobs_len, size_t room)
 {
     uint32_t counts[] = {7, 7, 7};
-    struct palikudyom_answer x = palikudyom_run(FRAME, LIST(X), tasks, tasks_len, ticks, jobs, jobs_len, counts, room);
+    struct palikudyom_answer x = palikudyom_run(FIRST, LIST(X), tasks, tasks_len, ticks, jobs, jobs_len, counts, room);
     line_and_buffer(x, counts, room);
 }
 
 static void replay(const uint32_t *tasks, size_t tasks_len, const uint8_t *trace, size_t trace_len)
 {
-    line("", palikudyom_replay(FRAME, LIST(X), tasks, tasks_len, trace, trace_len));
+    line("", palikudyom_replay(FIRST, LIST(X), tasks, tasks_len, trace, trace_len));
 }
 
 /* the line of a plan, as text and by its answer */
@@ -152,42 +155,57 @@ static void plan(const uint8_t *bytes, size_t bytes_len)
 static void examples(void)
 {
     for (uint32_t length = 0; length <= 8; length++) /* W1 */
-        line("AMOUNT ", palikudyom_least_supply(FRAME, LIST(X), length));
+        line("AMOUNT ", palikudyom_least_supply(FIRST, LIST(X), length));
     critical(5); /* W2 */
-    line("", palikudyom_delay(FRAME, LIST(X))); /* W3 */
-    line("OUTAGE ", palikudyom_outage(FRAME, LIST(X)));
-    line("OUTAGE ", palikudyom_outage(FRAME, LIST(LAB))); /* over the end of the frame */
+    line("", palikudyom_delay(FIRST, LIST(X))); /* W3 */
+    line("OUTAGE ", palikudyom_outage(FIRST, LIST(X)));
+    line("OUTAGE ", palikudyom_outage(SECOND, LIST(LAB))); /* over the end of the frame */
     verdict(LIST(W4));
     verdict(LIST(W5));
     verdict(LIST(W6));
     line("DEMAND ", palikudyom_demand(LIST(W6), 6));
-    line("", palikudyom_margin(FRAME, LIST(X), LIST(W6), 6));
+    line("", palikudyom_margin(FIRST, LIST(X), LIST(W6), 6));
     verdict(LIST(W7));
-    line("", palikudyom_margin(FRAME, LIST(X), LIST(W7), 8));
+    line("", palikudyom_margin(FIRST, LIST(X), LIST(W7), 8));
     verdict(LIST(W8));
     verdict(LIST(W9));
     verdict(NONE); /* W10 */
-    line("", palikudyom_bound(FRAME, LIST(X), LIST(W11), 0));
-    line("", palikudyom_bound(FRAME, LIST(X), LIST(W11), 1));
-    line("", palikudyom_bound(FRAME, LIST(X), LIST(W5), 0));
+    line("", palikudyom_bound(FIRST, LIST(X), LIST(W11), 0));
+    line("", palikudyom_bound(FIRST, LIST(X), LIST(W11), 1));
+    line("", palikudyom_bound(FIRST, LIST(X), LIST(W5), 0));
     const uint32_t at_2[] = {2, 0, 1, 2, 1, 2};
     run(LIST(W7), 10, LIST(at_2), 3); /* W13 */
     run(LIST(W6), 10, LIST(at_2), 3);
 }
 
+/* the other team, on its own windows of the same table; and an owner that has none */
+static void second_team(void)
+{
+    for (uint32_t length = 0; length <= 8; length++)
+        line("AMOUNT ", palikudyom_least_supply(SECOND, LIST(X), length));
+    line("", palikudyom_verdict(SECOND, LIST(X), LIST(W5)));
+    line("", palikudyom_verdict(SECOND, LIST(X), LIST(W6)));
+    line("", palikudyom_bound(SECOND, LIST(X), LIST(W11), 1));
+    const struct palikudyom_board third = {FRAME, 2};
+    line("OUTAGE ", palikudyom_outage(third, LIST(X)));
+    const uint32_t first_alone[] = {0, 2, 0};
+    line("", palikudyom_verdict(SECOND, LIST(first_alone), NONE));
+}
+
 static void refusals(void)
 {
-    const uint32_t odd[] = {0, 2, 5};
-    line("AMOUNT ", palikudyom_least_supply(FRAME, LIST(odd), 4));
-    line("AMOUNT ", palikudyom_least_supply(0, LIST(X), 4));
-    const uint32_t touching[] = {0, 2, 2, 4};
-    line("", palikudyom_delay(FRAME, LIST(touching)));
+    const uint32_t pairs[] = {0, 2, 5, 7};
+    line("AMOUNT ", palikudyom_least_supply(FIRST, LIST(pairs), 4));
+    const struct palikudyom_board no_frame = {0, 0};
+    line("AMOUNT ", palikudyom_least_supply(no_frame, LIST(X), 4));
+    const uint32_t touching[] = {0, 2, 0, 2, 4, 0};
+    line("", palikudyom_delay(FIRST, LIST(touching)));
     line("DEMAND ", palikudyom_demand(X, 4, 6));
     const uint32_t late[] = {1, 4, 4, 1, 4, 5};
     verdict(LIST(late));
     const uint32_t coprime[] = {1, 999999, 999999};
     verdict(LIST(coprime));
-    line("", palikudyom_bound(FRAME, LIST(X), LIST(W11), 2));
+    line("", palikudyom_bound(FIRST, LIST(X), LIST(W11), 2));
     critical(3);
     run(LIST(W7), 1100001, NONE, 3);
     const uint32_t close[] = {2, 0, 1, 5, 0, 1};
@@ -218,10 +236,10 @@ static void traces(void)
 static void plans(void)
 {
     uint8_t bytes[64];
-    struct palikudyom_answer x = palikudyom_write_plan(FRAME, LIST(X), LIST(W6), LIST(bytes));
+    struct palikudyom_answer x = palikudyom_write_plan(FRAME, LIST(PAIRS), LIST(W6), LIST(bytes));
     if (x.code == PALIKUDYOM_AMOUNT)
         plan(bytes, x.a);
-    x = palikudyom_write_plan(FRAME, LIST(X), NONE, LIST(bytes));
+    x = palikudyom_write_plan(FRAME, LIST(PAIRS), NONE, LIST(bytes));
     if (x.code == PALIKUDYOM_AMOUNT)
         plan(bytes, x.a);
     const uint8_t unfinished[] = {8, 2, 0, 130};
@@ -231,6 +249,7 @@ static void plans(void)
 int main(void)
 {
     examples();
+    second_team();
     refusals();
     traces();
     plans();

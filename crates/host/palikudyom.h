@@ -2,7 +2,7 @@
  * Palikudyom for C: does a group of tasks meet its deadlines on a table of time windows?
  *
  * Every function is total: any numbers at all get an answer, and nothing need be checked first. It keeps no state and asks for no memory.
- * Each answer is proved equal to its definition in document 01; README.md says where.
+ * Each answer is proved equal to its definition in documents 01 and 02; README.md says where.
  *
  * What a caller must keep, for no proof reaches into C:
  * - a pointer is aligned, not null (even where the length is 0), and valid for its length: that many numbers can be read, or written where it
@@ -42,9 +42,10 @@ enum palikudyom_code {
 
 /*
  * Refusals, by number. The place is 0 unless it is named. A refusal writes nothing.
- *   1       the window list is odd, empty or over 64 windows
+ *   1       the window list is not in threes (of a plan: not in pairs), empty or over 64 windows; or, after 3, the asked owner has no window
  *   2       the frame is outside 1 to 65,536
- *   3 at i  window i is empty, leaves the frame, or does not start after the previous end
+ *   3 at i  window i is empty, leaves the frame, starts before the previous end, touches the previous window of the same owner, or is nobody's: its owner
+ *           is neither 0 nor 1
  *   4       the task list is not in threes, or over 32 tasks
  *   5 at i  task i has a number outside 1 to 1,000,000, or a deadline past its period
  *   6       the cycle is over 1,000,000
@@ -63,44 +64,52 @@ struct palikudyom_answer {
     uint64_t d;
 };
 
+/* The frame, and the owner that is asked for: 0 or 1. */
+struct palikudyom_board {
+    uint32_t frame;
+    uint32_t owner;
+};
+
 /*
- * A list is a pointer and how many numbers it has: windows are start and end of each, tasks are work, period and deadline of each, jobs are
- * release tick, task index and work of each. After each function: what it answers beside REFUSED, and its refusals in the order of its checks.
+ * A list is a pointer and how many numbers it has: windows are start, end and owner of each (of a plan start and end, all owner 0's), tasks are work,
+ * period and deadline of each, jobs are release tick, task index and work of each. A table may be shared by two teams: what an owner is answered depends
+ * on the frame and its own windows, and on the other team's only by the refusals 1 2 3. After each function: what it answers beside REFUSED, and its
+ * refusals in the order of its checks; 1* is that of an owner without a window.
  */
 
-/* The least supply of `length` ticks, over all starts. AMOUNT; 1 2 3 7 */
-struct palikudyom_answer palikudyom_least_supply(uint32_t frame, const uint32_t *windows, size_t windows_len, uint32_t length);
+/* The least supply of `length` ticks, over all starts. AMOUNT; 1 2 3 1* 7 */
+struct palikudyom_answer palikudyom_least_supply(struct palikudyom_board board, const uint32_t *windows, size_t windows_len, uint32_t length);
 
-/* The critical partition: how many windows, with start and end of each in `out`, whose rest is kept. AMOUNT; 1 2 3 8 */
-struct palikudyom_answer palikudyom_critical(uint32_t frame, const uint32_t *windows, size_t windows_len, uint32_t *out, size_t out_len);
+/* The critical partition: how many windows, with start and end of each in `out`, whose rest is kept. AMOUNT; 1 2 3 1* 8 */
+struct palikudyom_answer palikudyom_critical(struct palikudyom_board board, const uint32_t *windows, size_t windows_len, uint32_t *out, size_t out_len);
 
-/* DELAY; 1 2 3 */
-struct palikudyom_answer palikudyom_delay(uint32_t frame, const uint32_t *windows, size_t windows_len);
+/* DELAY; 1 2 3 1* */
+struct palikudyom_answer palikudyom_delay(struct palikudyom_board board, const uint32_t *windows, size_t windows_len);
 
-/* The longest outage, over endless frames: the end of one joins the start of the next. AMOUNT; 1 2 3 */
-struct palikudyom_answer palikudyom_outage(uint32_t frame, const uint32_t *windows, size_t windows_len);
+/* The longest outage, over endless frames: the end of one joins the start of the next. AMOUNT; 1 2 3 1* */
+struct palikudyom_answer palikudyom_outage(struct palikudyom_board board, const uint32_t *windows, size_t windows_len);
 
 /* The demand of the group at `length`. AMOUNT; 4 5 7 */
 struct palikudyom_answer palikudyom_demand(const uint32_t *tasks, size_t tasks_len, uint32_t length);
 
-/* Least supply minus demand at `length`. MARGIN, BELOW; 1 2 3 4 5 7 */
-struct palikudyom_answer palikudyom_margin(uint32_t frame, const uint32_t *windows, size_t windows_len, const uint32_t *tasks, size_t tasks_len, uint32_t length);
+/* Least supply minus demand at `length`. MARGIN, BELOW; 1 2 3 1* 4 5 7 */
+struct palikudyom_answer palikudyom_margin(struct palikudyom_board board, const uint32_t *windows, size_t windows_len, const uint32_t *tasks, size_t tasks_len, uint32_t length);
 
-/* Whether the group meets its deadlines under earliest deadline first. MEETS, MISS; 1 2 3 4 5 6 */
-struct palikudyom_answer palikudyom_verdict(uint32_t frame, const uint32_t *windows, size_t windows_len, const uint32_t *tasks, size_t tasks_len);
+/* Whether the group meets its deadlines under earliest deadline first. MEETS, MISS; 1 2 3 1* 4 5 6 */
+struct palikudyom_answer palikudyom_verdict(struct palikudyom_board board, const uint32_t *windows, size_t windows_len, const uint32_t *tasks, size_t tasks_len);
 
-/* The response bound of task `index` under fixed priority, lower index first. BOUND, NO_BOUND; 1 2 3 4 5 7 */
-struct palikudyom_answer palikudyom_bound(uint32_t frame, const uint32_t *windows, size_t windows_len, const uint32_t *tasks, size_t tasks_len, uint32_t index);
+/* The response bound of task `index` under fixed priority, lower index first. BOUND, NO_BOUND; 1 2 3 1* 4 5 7 */
+struct palikudyom_answer palikudyom_bound(struct palikudyom_board board, const uint32_t *windows, size_t windows_len, const uint32_t *tasks, size_t tasks_len, uint32_t index);
 
-/* Runs a job list for `ticks` ticks, earliest deadline first, with a count for each job in `counts`, whose rest is kept. MET, MISSED; 1 2 3 4 5 10 11 8 */
-struct palikudyom_answer palikudyom_run(uint32_t frame, const uint32_t *windows, size_t windows_len, const uint32_t *tasks, size_t tasks_len, uint32_t ticks,
+/* Runs a job list for `ticks` ticks, earliest deadline first, with a count for each job in `counts`, whose rest is kept. MET, MISSED; 1 2 3 1* 4 5 10 11 8 */
+struct palikudyom_answer palikudyom_run(struct palikudyom_board board, const uint32_t *windows, size_t windows_len, const uint32_t *tasks, size_t tasks_len, uint32_t ticks,
                                         const uint32_t *jobs, size_t jobs_len, uint32_t *counts, size_t counts_len);
 
-/* A board's trace against that run of its releases. SAME, DIFFERS, TRACE_ENDED, MACHINE_ENDED, TRACE_MISSED; 9 1 2 3 4 5 10 11 */
-struct palikudyom_answer palikudyom_replay(uint32_t frame, const uint32_t *windows, size_t windows_len, const uint32_t *tasks, size_t tasks_len,
+/* A board's trace against that run of its releases. SAME, DIFFERS, TRACE_ENDED, MACHINE_ENDED, TRACE_MISSED; 9 1 2 3 1* 4 5 10 11 */
+struct palikudyom_answer palikudyom_replay(struct palikudyom_board board, const uint32_t *windows, size_t windows_len, const uint32_t *tasks, size_t tasks_len,
                                            const uint8_t *trace, size_t trace_len);
 
-/* The verdict of a plan file's bytes. MEETS, MISS; 9 (and 1, 4 as soon as a count is read), then as palikudyom_verdict */
+/* The verdict of a plan file's bytes. MEETS, MISS; 9 (and 1, 4 as soon as a count is read), then 2 3 5 6 */
 struct palikudyom_answer palikudyom_plan(const uint8_t *bytes, size_t bytes_len);
 
 /* The line of that verdict, refused plans too, in `out`, whose rest is kept: how many bytes. AMOUNT; 8 */
