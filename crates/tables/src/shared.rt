@@ -136,8 +136,8 @@ fn count_own(board: Board, windows: &[u32]) -> usize
     let mut numbers = 0;
     let mut i = 0;
     while i < count {
-        let here = owned_at(windows, i);
-        if here.owner == owner {
+        let window = owned_at(windows, i);
+        if window.owner == owner {
             numbers += 2;
         }
         i += 1;

@@ -3,6 +3,7 @@
 use mathlib.Core.Path.{_≡_, refl, sym, ap, _∙_, fun-ext}
 use mathlib.Core.Bool.{Bool, true, false, not, cond, _&&_, _||_, and-true, and-false, or-false}
 use mathlib.Core.Option.{Option, none, some}
+use mathlib.Core.Logic.{_⊎_, inl, inr}
 use mathlib.Core.List.{List, [], _∷_, map}
 use Prim.Native.Nat.{ℕ, zero, suc, _+_, _-_, _*_, _/_, _%_, _≤_, _<_}
 use native.Mathlib.Omega.{arith}
@@ -10,8 +11,8 @@ use native.Mathlib.Decide.{ℕ-discrete}
 use lib.Dec.{leb, ltb, eqb}
 use lib.ListN.{length, getD}
 use borrow.Author.Tests.{lt-ltb, eq-eqb, ne-eqb}
-use Rattle.scope.specs.Numbers.{first, firstBy, sooner, pieces, piecesFrom, badCount}
-use Rattle.scope.specs.Limits.{teams, mostWindows}
+use Rattle.scope.specs.Numbers.{first, pieces, piecesFrom, badCount}
+use Rattle.scope.specs.Limits.{teams, mostFrame, mostWindows}
 use Rattle.scope.specs.Windows.{Board, Window, window, windowsOf, windowAt, windowFits, gives, covers, supplied, suppliedBy, windowLegal, badWindow}
 use Rattle.scope.specs.Tasks.{tasksOf}
 use Rattle.scope.specs.Answers.{Fault, Fault.fine, Fault.fault, Answer, Answer.given, Answer.refused, faultIf, faultAt, _orElse_, unless, unlessKept}
@@ -23,8 +24,9 @@ use Rattle.scope.specs.Trace.{Stamped, Record, traceOf, timed}
 use Rattle.scope.specs.Replay.{Replayed, replayFault, recordsAnswer, replayAnswer}
 use Rattle.scope.specs.Shared.{Owned, owned, ownedOf, ownedAt, windowsFor, own, asOwned, follows, ownedLegal, badOwned, ownedListFault, ownedFault}
 use Rattle.scope.specs.Shared.{wholeFault, absentOwnerFault, sharedFault, unlessRefused, askedFor, kept, recordsFor, replayFor}
+use Rattle.theory.specs.Numbers.{first-equal, first-some}
 use Rattle.theory.specs.Shared.{asked-fine, asked-refused, asked-given}
-use Rattle.theory.specs.Answers.{table-legal}
+use Rattle.theory.specs.Answers.{fault-not-fine, table-legal}
 
 -- ---- entries: functions of a board and a list of windows that refuse what is no table, and of the board read no more than the frame
 
@@ -103,12 +105,51 @@ unfolding askedFor sharedFault absentOwnerFault
 alone {R} {refusal} {entry} is owners b c ws vs e f framed same =
     rw (e, f, same) (ap (unlessRefused (faultIf (eqb (length (own c vs)) 0) 1 0) refusal) (is .by-frame b c (own c vs) framed))
 
--- ---- a table with one owner
+-- ---- what may depend on every team: 1 and 2, at place 0, and 3, at a window of the whole list
 
-first-equal : (p q : ℕ → Bool) (n : ℕ) → ((i : ℕ) → i < n → p i ≡ q i) → first p n ≡ first q n
-unfolding firstBy
-first-equal p q zero h = refl
-first-equal p q (suc n) h = rw (h n (omega arith), first-equal p q n (λ i l. h i (omega arith)))
+pub data WholeRefusal (windows : ℕ) : ℕ → ℕ → Type 0 where
+  by-count : WholeRefusal windows 1 0
+  by-frame : WholeRefusal windows 2 0
+  by-window : (i : ℕ) → i < windows → WholeRefusal windows 3 i
+
+pub whole-refusal : (owners : ℕ) (b : Board) (ws : List ℕ) (n p : ℕ) → wholeFault owners b ws ≡ fault n p → WholeRefusal (length (ownedOf ws)) n p
+unfolding wholeFault ownedListFault frameFault ownedFault badOwned
+whole-refusal owners b ws n p = counted (badCount 3 mostWindows ws || eqb (length ws) 0)
+  where
+    R : Type 0
+    R = WholeRefusal (length (ownedOf ws)) n p
+
+    is : {m q : ℕ} → WholeRefusal (length (ownedOf ws)) m q → fault m q ≡ fault n p → R
+    is {m} {q} r e = let x : m ≡ n = cc in let y : q ≡ p = cc in rw (← x, ← y) r
+
+    windowed : (o : Option ℕ) → first (λ i. not (ownedLegal owners b (ownedOf ws) i)) (length (ownedOf ws)) ≡ o → faultAt 3 o ≡ fault n p → R
+    windowed none f e = absurd (fault-not-fine (sym e))
+    windowed (some i) f e = is (by-window i (first-some (λ j. not (ownedLegal owners b (ownedOf ws) j)) (length (ownedOf ws)) i f .0)) e
+
+    framed : (t : Bool) → (faultIf t 2 0 orElse faultAt 3 (first (λ i. not (ownedLegal owners b (ownedOf ws) i)) (length (ownedOf ws)))) ≡ fault n p → R
+    framed true e = is by-frame e
+    framed false e = windowed (first (λ i. not (ownedLegal owners b (ownedOf ws) i)) (length (ownedOf ws))) refl e
+
+    counted : (t : Bool) → (faultIf t 1 0 orElse faultIf (eqb (b .frame) 0 || ltb mostFrame (b .frame)) 2 0
+        orElse faultAt 3 (first (λ i. not (ownedLegal owners b (ownedOf ws) i)) (length (ownedOf ws)))) ≡ fault n p → R
+    counted true e = is by-count e
+    counted false e = framed (eqb (b .frame) 0 || ltb mostFrame (b .frame)) e
+
+-- nothing else does: two tables that an owner is answered differently on, by any entry, have different frames or different windows of the owner, or one
+-- of them gets such a refusal
+pub told-apart : {R : Type 0} {refusal : ℕ → ℕ → R} {entry : Board → List ℕ → R} → Entry refusal entry →
+    (owners : ℕ) (b c : Board) (ws vs : List ℕ) → b .frame ≡ c .frame → own b ws ≡ own c vs →
+    (askedFor owners b ws refusal (entry b) ≡ askedFor owners c vs refusal (entry c) → ⊥) →
+    (n : ℕ) × (p : ℕ) × ((wholeFault owners b ws ≡ fault n p) ⊎ (wholeFault owners c vs ≡ fault n p))
+told-apart is owners b c ws vs framed same differ = go (wholeFault owners b ws) refl (wholeFault owners c vs) refl
+  where
+    go : (f : Fault) → wholeFault owners b ws ≡ f → (g : Fault) → wholeFault owners c vs ≡ g →
+        (n : ℕ) × (p : ℕ) × ((wholeFault owners b ws ≡ fault n p) ⊎ (wholeFault owners c vs ≡ fault n p))
+    go (fault n p) e g h = (n, p, inl e)
+    go fine e (fault n p) h = (n, p, inr h)
+    go fine e fine h = absurd (differ (alone is owners b c ws vs e h framed same))
+
+-- ---- a table with one owner
 
 module _ (o : ℕ) where
   abbrev of : Window → Owned

@@ -2,6 +2,7 @@
 use mathlib.Core.Path.{_≡_, refl, ap, _∙_}
 use mathlib.Core.Bool.{true}
 use mathlib.Core.Option.{some}
+use mathlib.Core.Logic.{_⊎_}
 use mathlib.Core.List.{List, [], _∷_, _++_, map}
 use Prim.Native.Nat.{ℕ, zero, suc, _-_, _*_, _≤_, _<_}
 use native.Mathlib.Omega.{arith}
@@ -15,16 +16,17 @@ use Rattle.scope.specs.Verdict.{Verdict.meets, Verdict.miss}
 use Rattle.scope.specs.Bound.{Bound.bound, asked}
 use Rattle.scope.specs.Jobs.{Job, job, jobsOf, taskOf, deadline}
 use Rattle.scope.specs.Machine.{edf, workLeft}
-use Rattle.scope.specs.Limits.{mostWindows, mostTasks, mostNumber}
+use Rattle.scope.specs.Limits.{teams, mostWindows, mostTasks, mostNumber}
 use Rattle.scope.specs.Plan.{Read.read, Plan, planOf, planAnswer, numberBytesWithin, numberBytes, numbersBytes, planBytes, writeAnswer, writeOut}
 use Rattle.scope.specs.Line.{lineAnswer, lineOut}
 use Rattle.scope.specs.Run.{Outcome.met, outcome, countOf, counts}
-use Rattle.scope.specs.Answers.{Answer.given, Answer.refused, windowListFault, taskListFault, verdictAnswer, boundAnswer, runAnswer, runOut, criticalAnswer}
+use Rattle.scope.specs.Answers.{Fault.fault, Answer.given, Answer.refused, windowListFault, taskListFault, verdictAnswer, boundAnswer, runAnswer, runOut, criticalAnswer}
 use Rattle.scope.specs.Answers.{criticalOf, criticalOut, leastSupplyAnswer, outageAnswer}
 use Rattle.scope.specs.Trace.{Stamped, traceOf, Record, timed, ticksOf, releases, completion, completions, traceBytes, stampedFrom}
 use Rattle.scope.specs.Replay.{endedFrom, recorded, Replayed.same, Replayed.differs, Replayed.missed, replayAnswer}
+use Rattle.scope.specs.Shared.{own, asOwned, wholeFault, sharedFault, verdictFor, runOutFor, replayFor}
 use Rattle.scope.specs.Demands.{Silent, LeastMiss, Way, Served}
-use Rattle.scope.specs.Examples.{Reply.amounts, Reply.windows, Reply.bytesIn, Reply.aVerdict, Reply.bounds, Reply.aRun, X, lab, on, reply, table, examples, row}
+use Rattle.scope.specs.Examples.{Reply.amounts, Reply.windows, Reply.bytesIn, Reply.aVerdict, Reply.bounds, Reply.aRun, X, lab, XShared, on, onFor, reply, table, examples, row}
 use Rattle.scope.specs.Examples.{Reply.aReplay}
 use Rattle.scope.specs.Computing.{everything}
 use Rattle.theory.specs.Numbers.{by-lexically}
@@ -44,6 +46,8 @@ use Rattle.theory.specs.Plan.{mostPlanBytes, first-answer, longest-plan}
 use Rattle.theory.specs.Traces.{shift-answer}
 use Rattle.theory.specs.Replays.{replay-given, same-completions, FirstPair, machineEnded, replayed-differs, meets-no-miss}
 use Rattle.theory.specs.Recorded.{recorded-same, recorded-met, recorded-missed}
+use Rattle.theory.specs.Shared.{one-owner-a-tick, no-such-owner}
+use Rattle.theory.specs.Alone.{verdict-entry, run-out-entry, alone, WholeRefusal, whole-refusal, told-apart, one-owner, replay-alone, replay-one-owner}
 use Rattle.theory.specs.PlanBytes.{Writable, plan-length, round-trip, left-over, only-bytes}
 
 abbrev pub w6 : List ℕ
@@ -449,3 +453,53 @@ early-same : replayAnswer (on 8) X late-tasks
     (traceBytes (stampedFrom 100 (recorded (suppliedBy (on 8) X) (edf (tasksOf late-tasks) full-jobs) (tasksOf late-tasks) full-jobs 10))) ≡ given same
 unfolding everything
 early-same = recorded-same (on 8) X late-tasks refl refl full-jobs 10 refl (omega arith) (omega arith) refl (omega arith) 100 refl
+
+-- ---- a table that teams share
+
+-- W6's group is answered on X with owner 1's windows beside it as on X read as one owner's, which is as on X alone
+x-alone : verdictFor (on 8) XShared w6 ≡ verdictFor (on 8) (asOwned 0 X) w6
+unfolding everything
+x-alone = alone (verdict-entry w6) teams (on 8) (on 8) XShared (asOwned 0 X) refl refl refl refl
+
+x-one-owner : verdictFor (on 8) (asOwned 0 X) w6 ≡ verdictAnswer (on 8) X w6
+unfolding verdictFor
+x-one-owner = one-owner teams (on 8) (omega arith) X (verdict-entry w6)
+
+w6-shared : verdictFor (on 8) XShared w6 ≡ given (miss 6 2 3 2)
+w6-shared = x-alone ∙ x-one-owner ∙ w6-misses
+
+-- as owner 1's they get the same
+x-second : verdictFor (onFor 8 1) (asOwned 1 X) w6 ≡ verdictAnswer (onFor 8 1) X w6
+unfolding verdictFor
+x-second = one-owner teams (onFor 8 1) (omega arith) X (verdict-entry w6)
+
+-- W13's counts, and W7's trace
+w13-alone : runOutFor (on 8) XShared w7 10 w13 (9 ∷ 9 ∷ 9 ∷ []) ≡ runOutFor (on 8) (asOwned 0 X) w7 10 w13 (9 ∷ 9 ∷ 9 ∷ [])
+unfolding everything
+w13-alone = alone (run-out-entry w7 10 w13 (9 ∷ 9 ∷ 9 ∷ [])) teams (on 8) (on 8) XShared (asOwned 0 X) refl refl refl refl
+
+trace-alone : replayFor (on 8) XShared w7 trace ≡ given same
+unfolding everything
+trace-alone =
+    replay-alone (on 8) (on 8) XShared (asOwned 0 X) w7 trace refl refl refl refl ∙ replay-one-owner (on 8) (omega arith) X w7 trace ∙ trace-same
+
+-- tick 2 is owner 1's, so it is not owner 0's
+tick-of-one : suppliedBy (on 8) (own (on 8) XShared) 2 ≡ true → ⊥
+unfolding everything
+tick-of-one e = let z : _≡_ {A = ℕ} 0 1 = one-owner-a-tick teams (on 8) (onFor 8 1) XShared refl refl 2 e refl in omega arith
+
+-- there is no owner 2
+third-refused : sharedFault teams (onFor 8 2) XShared ≡ fault 1 0
+unfolding everything
+third-refused = no-such-owner teams (onFor 8 2) XShared refl (omega arith)
+
+-- a list of the other team's that is not legal is told apart, by 3 at its window
+other-empty : (n : ℕ) × (p : ℕ) × ((wholeFault teams (on 8) (0 ∷ 2 ∷ 0 ∷ []) ≡ fault n p) ⊎ (wholeFault teams (on 8) (0 ∷ 2 ∷ 0 ∷ 4 ∷ 4 ∷ 1 ∷ []) ≡ fault n p))
+unfolding everything
+other-empty =
+    told-apart (verdict-entry []) teams (on 8) (on 8) (0 ∷ 2 ∷ 0 ∷ []) (0 ∷ 2 ∷ 0 ∷ 4 ∷ 4 ∷ 1 ∷ []) refl refl
+    (λ e. let z : _≡_ {A = ℕ} 0 1 = cc in omega arith)
+
+at-its-window : WholeRefusal 2 3 1
+unfolding everything
+at-its-window = whole-refusal teams (on 8) (0 ∷ 2 ∷ 0 ∷ 4 ∷ 4 ∷ 1 ∷ []) 3 1 refl

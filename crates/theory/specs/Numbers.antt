@@ -299,6 +299,12 @@ by-size = record { ahead = λ a b e. omega (arith, ltb-true a b e); behind = λ 
 pub least-is : (p : ℕ → Bool) (n : ℕ) → IsFirst p (λ i. i) n (first p n)
 least-is p n = first-is p ltb (λ i. i) by-size n
 
+-- tests that agree below n have the same first number
+pub first-equal : (p q : ℕ → Bool) (n : ℕ) → ((i : ℕ) → i < n → p i ≡ q i) → first p n ≡ first q n
+unfolding firstBy
+first-equal p q zero h = refl
+first-equal p q (suc n) h = rw (h n (omega arith), first-equal p q n (λ i l. h i (omega arith)))
+
 module _ (p : ℕ → Bool) (n : ℕ) where
   -- none is found exactly where none passes
   pub first-none : first p n ≡ none → (j : ℕ) → j < n → p j ≡ false

@@ -1,4 +1,4 @@
--- How sharp the theorems are: six stronger claims, each refuted by an example
+-- How sharp the theorems are: seven stronger claims, each refuted by an example
 use mathlib.Core.Path.{_≡_, refl}
 use mathlib.Core.Bool.{Bool, true}
 use mathlib.Core.Option.{none, some}
@@ -15,7 +15,8 @@ use Rattle.scope.specs.Verdict.{Verdict.meets, Verdict.miss}
 use Rattle.scope.specs.Jobs.{Job, jobsOf, releaseOf, taskOf, deadline, badJob}
 use Rattle.scope.specs.Machine.{edf}
 use Rattle.scope.specs.Run.{counts}
-use Rattle.scope.specs.Answers.{Answer.given, verdictAnswer}
+use Rattle.scope.specs.Answers.{Answer.given, Answer.refused, verdictAnswer}
+use Rattle.scope.specs.Shared.{own, verdictFor}
 use Rattle.scope.specs.Demands.{Way, givenTo}
 use Rattle.scope.specs.Examples.{X, on}
 use Rattle.scope.specs.Computing.{everything}
@@ -95,3 +96,11 @@ pub not-every-job : ((b : Board) (ws ts : List ℕ) (t s d p : ℕ) → verdictA
     (w : Way) (i m : ℕ) → i < length (tasksOf ts) → (taskAt (tasksOf ts) i) .C ≤ givenTo (suppliedBy b ws) w i m s t → ⊥) → ⊥
 unfolding everything
 not-every-job claim = claim (on 8) X w6 6 2 3 2 w6-misses (λ k. some (record { task = 0; turn = 0 })) 0 0 (omega arith) (omega arith)
+
+-- an owner's answer does depend on the other team where the whole list is not legal: an empty window of owner 1 refuses owner 0 too
+pub not-alone-unchecked : ((b : Board) (ws vs ts : List ℕ) → own b ws ≡ own b vs → verdictFor b ws ts ≡ verdictFor b vs ts) → ⊥
+unfolding everything
+not-alone-unchecked claim =
+    let e : given (meets 8) ≡ refused 3 1 = claim (on 8) (0 ∷ 2 ∷ 0 ∷ []) (0 ∷ 2 ∷ 0 ∷ 4 ∷ 4 ∷ 1 ∷ []) [] refl in
+    let z : _≡_ {A = ℕ} 0 1 = cc in
+    omega arith
