@@ -1,4 +1,5 @@
 // Answers a stream of queries on standard input, a line each: docs/ASK.md.
+use crate::asked::Asked;
 use crate::entries;
 use crate::input;
 use crate::lines;
@@ -18,8 +19,8 @@ fn space() -> [u8; MOST]
     [0; MOST]
 }
 
-// One query: its code, then its arguments.
-fn query(stream: &[u8], from: Cursor) -> Cursor {
+// A query over a table: its code, then its arguments.
+fn over_table(stream: &[u8], from: Cursor, asked: Asked) -> Cursor {
     let code = any(stream, from);
     let after = code.after;
     if !after.good {
@@ -27,23 +28,46 @@ fn query(stream: &[u8], from: Cursor) -> Cursor {
     }
     let entry = code.value;
     match entry {
-        1 => entries::least_supply(stream, after),
-        2 => entries::critical(stream, after),
-        3 => entries::delay(stream, after),
-        4 => entries::outage(stream, after),
-        5 => entries::demand(stream, after, false),
-        6 => entries::margin(stream, after, false),
-        7 => entries::verdict(stream, after, false),
-        8 => entries::bound(stream, after, false),
-        9 => entries::run(stream, after, false),
-        10 => entries::plan(stream, after),
-        11 => entries::demand(stream, after, true),
-        12 => entries::margin(stream, after, true),
-        13 => entries::verdict(stream, after, true),
-        14 => entries::bound(stream, after, true),
-        15 => entries::run(stream, after, true),
-        17 => entries::replay(stream, after),
+        1 => entries::least_supply(stream, after, asked),
+        2 => entries::critical(stream, after, asked),
+        3 => entries::delay(stream, after, asked),
+        4 => entries::outage(stream, after, asked),
+        6 => entries::margin(stream, after, asked, false),
+        7 => entries::verdict(stream, after, asked, false),
+        8 => entries::bound(stream, after, asked, false),
+        9 => entries::run(stream, after, asked, false),
+        12 => entries::margin(stream, after, asked, true),
+        13 => entries::verdict(stream, after, asked, true),
+        14 => entries::bound(stream, after, asked, true),
+        15 => entries::run(stream, after, asked, true),
+        17 => entries::replay(stream, after, asked),
         _ => bad(from.at),
+    }
+}
+
+// After code 16: how many settings, which is one, the owner; then a query over a table.
+fn on_board(stream: &[u8], from: Cursor) -> Cursor {
+    let settings = any(stream, from);
+    let after = settings.after;
+    if after.good && settings.value != 1 {
+        return bad(from.at);
+    }
+    let owner = any(stream, after);
+    over_table(stream, owner.after, Asked::shared(owner.value))
+}
+
+// One query. What is neither without a table nor under code 16 is over a table by itself; so is what has no code, which is refused there.
+fn query(stream: &[u8], from: Cursor) -> Cursor {
+    let code = any(stream, from);
+    let after = code.after;
+    let entry = code.value;
+    let asked = Asked::alone(entry);
+    match entry {
+        5 => entries::demand(stream, after, asked, false),
+        10 => entries::plan(stream, after),
+        11 => entries::demand(stream, after, asked, true),
+        16 => on_board(stream, after),
+        _ => over_table(stream, from, asked),
     }
 }
 

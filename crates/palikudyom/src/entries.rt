@@ -1,15 +1,16 @@
 // One function for each entry: it reads the entry's arguments, calls it and prints its line; where an argument is bad, it prints nothing. The
 // cursor that it answers stands after the query, or at the bad number.
+use crate::asked::Asked;
+use crate::asked::LATER_NUMBERS;
 use crate::lines;
 use crate::stream::BYTES;
 use crate::stream::Cursor;
 use crate::stream::JOBS;
-use crate::stream::LATER_NUMBERS;
 use crate::stream::Listed;
-use crate::stream::NUMBERS;
 use crate::stream::TRACE;
 use crate::stream::any;
 use crate::stream::bytes;
+use crate::stream::front;
 use crate::stream::list;
 use crate::stream::records;
 use crate::stream::room;
@@ -24,15 +25,27 @@ use tables::answer::Bound;
 use tables::answer::Margin;
 use tables::answer::Verdict;
 use tables::board::Board;
+use tables::shared::as_owned;
 ghost use mathlib.Core.Path.{_≡_};
 ghost use Prim.Native.Nat.{_≤_};
 ghost use lib.ListN.{length};
 ghost use Rattle.io.specs.Counts.{Counts};
 
-fn numbers() -> [u32; NUMBERS as usize]
-    ensures { λ r. do ⌜ (← ⟦NUMBERS⟧ .entry) ≡ length r ⌝ }
+// The longest list of pairs has so many numbers in threes.
+const THREES: u32 = LATER_NUMBERS / 2 * 3;
+
+// A list as it is read: tasks, and windows in pairs.
+fn numbers() -> [u32; LATER_NUMBERS as usize]
+    ensures { λ r. do ⌜ (← ⟦LATER_NUMBERS⟧ .entry) ≡ length r ⌝ }
 {
-    [0; NUMBERS as usize]
+    [0; LATER_NUMBERS as usize]
+}
+
+// Windows in threes.
+fn threes() -> [u32; THREES as usize]
+    ensures { λ r. do ⌜ (← ⟦THREES⟧ .entry) ≡ length r ⌝ }
+{
+    [0; THREES as usize]
 }
 
 fn jobs() -> [u32; JOBS as usize]
@@ -54,12 +67,6 @@ fn plan_bytes() -> [u8; BYTES as usize]
     [0; BYTES as usize]
 }
 
-fn later_numbers() -> [u32; LATER_NUMBERS as usize]
-    ensures { λ r. do ⌜ (← ⟦LATER_NUMBERS⟧ .entry) ≡ length r ⌝ }
-{
-    [0; LATER_NUMBERS as usize]
-}
-
 fn trace_bytes() -> [u8; TRACE as usize]
     ensures { λ r. do ⌜ (← ⟦TRACE⟧ .entry) ≡ length r ⌝ }
 {
@@ -69,35 +76,63 @@ fn trace_bytes() -> [u8; TRACE as usize]
 // ---- entries over a table
 
 struct Table {
-    frame: u32,
+    board: Board,
     count: usize,
     after: Cursor,
 }
 
+// Pairs as threes of one owner: how many numbers these have. There is room for the longest list, so that none is refused.
+fn owned_pairs(owner: u32, pairs: &[u32], out: &mut [u32]) -> usize
+    ensures { λ r. ⌜ Counts r (now (out .exit)) ⌝ }
+{
+    match as_owned(owner, pairs, out) {
+        Amount::Of(n) => n as usize,
+        Amount::Refused(_) => 0,
+    }
+}
+
+// The windows, in threes however they are asked.
+fn windows_of(stream: &[u8], from: Cursor, asked: Asked, out: &mut [u32]) -> Listed
+    requires { do ⌜ (← ⟦THREES⟧) ≤ length (now out) ⌝ }
+    ensures { λ r. ⌜ Counts (r .count) (now (out .exit)) ⌝ }
+{
+    if asked.threes {
+        return list(stream, from, asked.most(), out);
+    }
+    let mut pairs = numbers();
+    let read = list(stream, from, asked.most(), &mut pairs);
+    let n = read.count;
+    let count = owned_pairs(asked.owner, &pairs[..n], out);
+    front(out, count, read.after)
+}
+
 // P and the windows.
-fn table_of(stream: &[u8], from: Cursor, out: &mut [u32]) -> Table
-    requires { do ⌜ (← ⟦NUMBERS⟧) ≤ length (now out) ⌝ }
+fn table_of(stream: &[u8], from: Cursor, asked: Asked, out: &mut [u32]) -> Table
+    requires { do ⌜ (← ⟦THREES⟧) ≤ length (now out) ⌝ }
     ensures { λ r. ⌜ Counts (r .count) (now (out .exit)) ⌝ }
 {
     let frame = any(stream, from);
-    let windows = list(stream, frame.after, NUMBERS, out);
-    let frame = frame.value;
+    let windows = windows_of(stream, frame.after, asked, out);
+    let board = Board {
+        frame: frame.value,
+        owner: asked.owner,
+    };
     let count = windows.count;
     let after = windows.after;
     Table {
-        frame,
+        board,
         count,
         after,
     }
 }
 
-pub(crate) fn least_supply(stream: &[u8], from: Cursor) -> Cursor {
-    let mut windows = numbers();
-    let w = table_of(stream, from, &mut windows);
+pub(crate) fn least_supply(stream: &[u8], from: Cursor, asked: Asked) -> Cursor {
+    let mut windows = threes();
+    let w = table_of(stream, from, asked, &mut windows);
     let length = any(stream, w.after);
     let end = length.after;
     if end.good {
-        let board = Board { frame: w.frame };
+        let board = w.board;
         let m = w.count;
         lines::amount(
             b"AMOUNT ",
@@ -107,14 +142,14 @@ pub(crate) fn least_supply(stream: &[u8], from: Cursor) -> Cursor {
     end
 }
 
-pub(crate) fn critical(stream: &[u8], from: Cursor) -> Cursor {
-    let mut windows = numbers();
-    let w = table_of(stream, from, &mut windows);
+pub(crate) fn critical(stream: &[u8], from: Cursor, asked: Asked) -> Cursor {
+    let mut windows = threes();
+    let w = table_of(stream, from, asked, &mut windows);
     let mut out = lent();
     let room = room(stream, w.after, &out);
     let end = room.after;
     if end.good {
-        let board = Board { frame: w.frame };
+        let board = w.board;
         let m = w.count;
         let n = room.count;
         critical_into(board, &windows[..m], &mut out[..n]);
@@ -127,24 +162,24 @@ fn critical_into(board: Board, windows: &[u32], out: &mut [u32]) {
     lines::critical(found, out);
 }
 
-pub(crate) fn delay(stream: &[u8], from: Cursor) -> Cursor {
-    let mut windows = numbers();
-    let w = table_of(stream, from, &mut windows);
+pub(crate) fn delay(stream: &[u8], from: Cursor, asked: Asked) -> Cursor {
+    let mut windows = threes();
+    let w = table_of(stream, from, asked, &mut windows);
     let end = w.after;
     if end.good {
-        let board = Board { frame: w.frame };
+        let board = w.board;
         let m = w.count;
         lines::delay(partition::delay(board, &windows[..m]));
     }
     end
 }
 
-pub(crate) fn outage(stream: &[u8], from: Cursor) -> Cursor {
-    let mut windows = numbers();
-    let w = table_of(stream, from, &mut windows);
+pub(crate) fn outage(stream: &[u8], from: Cursor, asked: Asked) -> Cursor {
+    let mut windows = threes();
+    let w = table_of(stream, from, asked, &mut windows);
     let end = w.after;
     if end.good {
-        let board = Board { frame: w.frame };
+        let board = w.board;
         let m = w.count;
         lines::amount(b"OUTAGE ", partition::outage(board, &windows[..m]));
     }
@@ -153,14 +188,14 @@ pub(crate) fn outage(stream: &[u8], from: Cursor) -> Cursor {
 
 // ---- entries over a group, which is lent as numbers or as task records
 
-fn group(stream: &[u8], from: Cursor, as_records: bool, out: &mut [u32]) -> Listed
-    requires { do ⌜ (← ⟦NUMBERS⟧) ≤ length (now out) ⌝ }
+fn group(stream: &[u8], from: Cursor, asked: Asked, as_records: bool, out: &mut [u32]) -> Listed
+    requires { do ⌜ (← ⟦LATER_NUMBERS⟧) ≤ length (now out) ⌝ }
     ensures { λ r. ⌜ Counts (r .count) (now (out .exit)) ⌝ }
 {
     if as_records {
         records(stream, from, out)
     } else {
-        list(stream, from, NUMBERS, out)
+        list(stream, from, asked.most(), out)
     }
 }
 
@@ -172,9 +207,9 @@ fn demand_of(as_records: bool, tasks: &[u32], length: u32) -> Amount {
     }
 }
 
-pub(crate) fn demand(stream: &[u8], from: Cursor, as_records: bool) -> Cursor {
+pub(crate) fn demand(stream: &[u8], from: Cursor, asked: Asked, as_records: bool) -> Cursor {
     let mut tasks = numbers();
-    let t = group(stream, from, as_records, &mut tasks);
+    let t = group(stream, from, asked, as_records, &mut tasks);
     let length = any(stream, t.after);
     let end = length.after;
     if end.good {
@@ -198,15 +233,15 @@ fn margin_of(
     }
 }
 
-pub(crate) fn margin(stream: &[u8], from: Cursor, as_records: bool) -> Cursor {
-    let mut windows = numbers();
-    let w = table_of(stream, from, &mut windows);
+pub(crate) fn margin(stream: &[u8], from: Cursor, asked: Asked, as_records: bool) -> Cursor {
+    let mut windows = threes();
+    let w = table_of(stream, from, asked, &mut windows);
     let mut tasks = numbers();
-    let t = group(stream, w.after, as_records, &mut tasks);
+    let t = group(stream, w.after, asked, as_records, &mut tasks);
     let length = any(stream, t.after);
     let end = length.after;
     if end.good {
-        let board = Board { frame: w.frame };
+        let board = w.board;
         let m = w.count;
         let n = t.count;
         lines::margin(margin_of(as_records, board, &windows[..m], &tasks[..n], length.value));
@@ -222,14 +257,14 @@ fn verdict_of(as_records: bool, board: Board, windows: &[u32], tasks: &[u32]) ->
     }
 }
 
-pub(crate) fn verdict(stream: &[u8], from: Cursor, as_records: bool) -> Cursor {
-    let mut windows = numbers();
-    let w = table_of(stream, from, &mut windows);
+pub(crate) fn verdict(stream: &[u8], from: Cursor, asked: Asked, as_records: bool) -> Cursor {
+    let mut windows = threes();
+    let w = table_of(stream, from, asked, &mut windows);
     let mut tasks = numbers();
-    let t = group(stream, w.after, as_records, &mut tasks);
+    let t = group(stream, w.after, asked, as_records, &mut tasks);
     let end = t.after;
     if end.good {
-        let board = Board { frame: w.frame };
+        let board = w.board;
         let m = w.count;
         let n = t.count;
         lines::verdict(verdict_of(as_records, board, &windows[..m], &tasks[..n]));
@@ -245,15 +280,15 @@ fn bound_of(as_records: bool, board: Board, windows: &[u32], tasks: &[u32], inde
     }
 }
 
-pub(crate) fn bound(stream: &[u8], from: Cursor, as_records: bool) -> Cursor {
-    let mut windows = numbers();
-    let w = table_of(stream, from, &mut windows);
+pub(crate) fn bound(stream: &[u8], from: Cursor, asked: Asked, as_records: bool) -> Cursor {
+    let mut windows = threes();
+    let w = table_of(stream, from, asked, &mut windows);
     let mut tasks = numbers();
-    let t = group(stream, w.after, as_records, &mut tasks);
+    let t = group(stream, w.after, asked, as_records, &mut tasks);
     let index = any(stream, t.after);
     let end = index.after;
     if end.good {
-        let board = Board { frame: w.frame };
+        let board = w.board;
         let m = w.count;
         let n = t.count;
         lines::bound(bound_of(as_records, board, &windows[..m], &tasks[..n], index.value));
@@ -261,12 +296,12 @@ pub(crate) fn bound(stream: &[u8], from: Cursor, as_records: bool) -> Cursor {
     end
 }
 
-pub(crate) fn run(stream: &[u8], from: Cursor, as_records: bool) -> Cursor {
-    let mut windows = numbers();
-    let w = table_of(stream, from, &mut windows);
+pub(crate) fn run(stream: &[u8], from: Cursor, asked: Asked, as_records: bool) -> Cursor {
+    let mut windows = threes();
+    let w = table_of(stream, from, asked, &mut windows);
     let mut tasks = numbers();
-    let t = group(stream, w.after, as_records, &mut tasks);
-    let board = Board { frame: w.frame };
+    let t = group(stream, w.after, asked, as_records, &mut tasks);
+    let board = w.board;
     let m = w.count;
     let n = t.count;
     run_jobs(
@@ -343,17 +378,16 @@ pub(crate) fn plan(stream: &[u8], from: Cursor) -> Cursor {
 // ---- a trace
 
 // Its bytes are numbers of the stream.
-pub(crate) fn replay(stream: &[u8], from: Cursor) -> Cursor {
-    let frame = any(stream, from);
-    let mut windows = later_numbers();
-    let w = list(stream, frame.after, LATER_NUMBERS, &mut windows);
-    let mut tasks = later_numbers();
-    let t = list(stream, w.after, LATER_NUMBERS, &mut tasks);
+pub(crate) fn replay(stream: &[u8], from: Cursor, asked: Asked) -> Cursor {
+    let mut windows = threes();
+    let w = table_of(stream, from, asked, &mut windows);
+    let mut tasks = numbers();
+    let t = group(stream, w.after, asked, false, &mut tasks);
     let mut trace = trace_bytes();
     let b = bytes(stream, t.after, TRACE, &mut trace);
     let end = b.after;
     if end.good {
-        let board = Board { frame: frame.value };
+        let board = w.board;
         let m = w.count;
         let n = t.count;
         let k = b.count;
@@ -363,18 +397,17 @@ pub(crate) fn replay(stream: &[u8], from: Cursor) -> Cursor {
 }
 
 // Its bytes are those of the stream after the other numbers, to the end: whether these could be read.
-pub(crate) fn replay_rest(stream: &[u8]) -> bool {
-    let frame = any(stream, Cursor { at: 0, good: true });
-    let mut windows = later_numbers();
-    let w = list(stream, frame.after, LATER_NUMBERS, &mut windows);
-    let mut tasks = later_numbers();
-    let t = list(stream, w.after, LATER_NUMBERS, &mut tasks);
+pub(crate) fn replay_rest(stream: &[u8], from: Cursor, asked: Asked) -> bool {
+    let mut windows = threes();
+    let w = table_of(stream, from, asked, &mut windows);
+    let mut tasks = numbers();
+    let t = group(stream, w.after, asked, false, &mut tasks);
     let end = t.after;
     let at = end.at;
     if !end.good || stream.len() < at {
         return false;
     }
-    let board = Board { frame: frame.value };
+    let board = w.board;
     let m = w.count;
     let n = t.count;
     lines::replayed(replay::replay::replay(board, &windows[..m], &tasks[..n], &stream[at..]));

@@ -1,6 +1,7 @@
 // Prints the line of a plan file: the file that the argument names, or standard input where there is none or it is `-`. With `--ask` it answers a
-// stream of queries on standard input: docs/ASK.md. With `--replay` it replays a trace on standard input.
+// stream of queries on standard input: docs/ASK.md. With `--replay` it replays a trace on standard input, with `--replay-for` one team's.
 mod ask;
+mod asked;
 mod entries;
 mod input;
 mod lines;
@@ -35,7 +36,11 @@ fn main() {
         return;
     }
     if check::same(&word[..length], b"--replay") {
-        trace_file::replay();
+        trace_file::replay(false);
+        return;
+    }
+    if check::same(&word[..length], b"--replay-for") {
+        trace_file::replay(true);
         return;
     }
     plan_file::check_named(&word[..length]);

@@ -5,12 +5,6 @@ ghost use Prim.Native.Nat.{_*_, _≤_};
 ghost use lib.ListN.{length};
 ghost use Rattle.io.specs.Counts.{Counts};
 
-// Windows and tasks have at most so many numbers.
-pub(crate) const NUMBERS: u32 = 200;
-
-// In the entries of document 02 they have at most so many.
-pub(crate) const LATER_NUMBERS: u32 = 400;
-
 // Jobs, and what is lent for an entry to write to, have at most so many numbers.
 pub(crate) const JOBS: u32 = 12400;
 
@@ -86,7 +80,7 @@ pub(crate) fn any(stream: &[u8], from: Cursor) -> Read {
 }
 
 // The first numbers of a buffer.
-fn front(out: &[u32], count: usize, after: Cursor) -> Listed
+pub(crate) fn front(out: &[u32], count: usize, after: Cursor) -> Listed
     requires { ⌜ count ≤ length (now out) ⌝ }
     ensures { λ r. ⌜ Counts (r .count) (now (out .entry)) ⌝ }
 {

@@ -1,6 +1,10 @@
-// Replays a trace from standard input: P, windows and tasks as a query has them, and then the trace's bytes to the end.
+// Replays a trace from standard input: P, windows and tasks as a query has them, and then the trace's bytes to the end. On a table that teams share
+// the owner's number stands before them.
+use crate::asked::Asked;
 use crate::entries;
 use crate::input;
+use crate::stream::Cursor;
+use crate::stream::any;
 use libc::STDERR_FILENO;
 use libc::STDIN_FILENO;
 ghost use mathlib.Core.Path.{_≡_};
@@ -15,7 +19,17 @@ fn space() -> [u8; MOST]
     [0; MOST]
 }
 
-pub(crate) fn replay() {
+// Whether the numbers before the trace could be read.
+fn answered(stream: &[u8], shared: bool) -> bool {
+    let start = Cursor { at: 0, good: true };
+    if shared {
+        let owner = any(stream, start);
+        return entries::replay_rest(stream, owner.after, Asked::shared(owner.value));
+    }
+    entries::replay_rest(stream, start, Asked::alone(17))
+}
+
+pub(crate) fn replay(shared: bool) {
     let mut space = space();
     let got = input::read_on(STDIN_FILENO, &mut space);
     if got < 0 {
@@ -30,7 +44,7 @@ pub(crate) fn replay() {
         return;
     }
     let length = io::count(got, &space);
-    if !entries::replay_rest(&space[..length]) {
+    if !answered(&space[..length], shared) {
         io::write_all(
             STDERR_FILENO,
             b"palikudyom: the numbers before the trace are damaged\n",
