@@ -1,16 +1,57 @@
-# After text.awk: a plan as text to the numbers of a plan file.
+# After text.awk: a plan as text to the numbers of a plan file. Where windows or tasks have owners, or the environment's OWNER asks for one, to the lists
+# of a query instead: `table` and the frame and windows in threes, `tasks` and the tasks of the asked owner. A query takes only so many numbers, so the
+# lists are cut where they have one window or task more than is legal: they are refused for that, whatever follows.
+BEGIN {
+    owners = ENVIRON["OWNER"] != ""
+    mostWindows = 65
+    mostTasks = 33
+}
+
+# the numbers of a line that may end in `owner N`; `owner` is then N, else 0
+function owned(count, form,   more) {
+    owner = 0
+    if (NF == count + 3 && $(NF - 1) == "owner") {
+        more = 2
+        owner = number(NF)
+        owners = 1
+    }
+    return numbers(count, form "` or `" form " owner N", more)
+}
+
 $1 == "frame" {
     if (frame != "")
         bad("a second frame")
     frame = numbers(1, "frame TICKS")
     next
 }
-$1 == "window" { windows = windows numbers(2, "window START END"); windowCount++; next }
-$1 == "task" { tasks = tasks numbers(3, "task WORK PERIOD DEADLINE"); taskCount++; next }
+$1 == "window" {
+    pair = owned(2, "window START END")
+    windows = windows pair
+    if (windowCount++ < mostWindows)
+        threes = threes pair " " owner
+    next
+}
+$1 == "task" {
+    task = owned(3, "task WORK PERIOD DEADLINE")
+    if (owner > 1)
+        bad("a task's owner is 0 or 1")
+    tasks = tasks task
+    taskCount++
+    if (owner == ENVIRON["OWNER"] + 0 && ownCount++ < mostTasks)
+        ownTasks = ownTasks task
+    next
+}
 { bad("`" $1 "` is none of frame, window, task") }
+
+function least(a, b) {
+    return a < b ? a : b
+}
 
 END {
     if (frame == "")
         bad("no frame: write `frame TICKS`")
-    print frame " " (windowCount + 0) windows " " (taskCount + 0) tasks
+    if (owners)
+        print "table" frame " " 3 * least(windowCount + 0, mostWindows) threes " tasks " 3 * least(ownCount + 0, mostTasks) ownTasks
+    else
+        print frame " " (windowCount + 0) windows " " (taskCount + 0) tasks
 }

@@ -7,18 +7,22 @@ function bad(message) {
     exit 1
 }
 
-# the words after the first, as numbers
-function numbers(count, form,   i, text) {
-    if (NF != count + 1)
+# a word as a number
+function number(i) {
+    if ($i !~ /^[0-9]+$/)
+        bad("`" $i "` is not a whole number")
+    sub(/^0+/, "", $i)
+    if (length($i) > 10 || $i + 0 > 4294967295)
+        bad("`" $i "` is over 4294967295")
+    return $i == "" ? 0 : $i
+}
+
+# the words after the first, as numbers; so many more are no part of them
+function numbers(count, form, more,   i, text) {
+    if (NF != count + 1 + more)
         bad("write `" form "`")
-    for (i = 2; i <= NF; i++) {
-        if ($i !~ /^[0-9]+$/)
-            bad("`" $i "` is not a whole number")
-        sub(/^0+/, "", $i)
-        if (length($i) > 10 || $i + 0 > 4294967295)
-            bad("`" $i "` is over 4294967295")
-        text = text " " ($i == "" ? 0 : $i)
-    }
+    for (i = 2; i <= count + 1; i++)
+        text = text " " number(i)
     return text
 }
 
