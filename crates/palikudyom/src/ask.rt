@@ -56,7 +56,7 @@ fn on_board(stream: &[u8], from: Cursor) -> Cursor {
     over_table(stream, owner.after, Asked::shared(owner.value))
 }
 
-// One query. What is neither without a table nor under code 16 is over a table by itself; so is what has no code, which is refused there.
+// One query: without a table, under code 16, or over a table by itself, where an unknown code ends too, and one that can't be read, which is 0 here.
 fn query(stream: &[u8], from: Cursor) -> Cursor {
     let code = any(stream, from);
     let after = code.after;
