@@ -30,61 +30,61 @@ use Rattle.machine.specs.Told.{toldRan}
 use Rattle.machine.specs.Demands.{verdict-meets, verdict-miss, meets-runs, meets-every, miss-starves}
 
 -- the board of a plan, and its windows as the entries take them: its pairs are owner 0's
-abbrev pub planBoard : Plan → Board
-planBoard p = record { frame = p .frame; owner = 0 }
+abbrev pub askedBoard : Plan → Board
+askedBoard p = record { frame = p .frame; owner = 0 }
 
-abbrev pub planWindows : Plan → List ℕ
-planWindows p = asOwned 0 (p .windows)
+abbrev pub askedWindows : Plan → List ℕ
+askedWindows p = asOwned 0 (p .windows)
 
 module _ (bytes : List ℕ) (p : Plan) (read : planOf bytes ≡ given p) (v : Verdict) (promised : toldVerdict v ≡ planAnswer bytes) where
   -- a plan that was read is answered as its numbers are
-  pub plan-verdict : toldVerdict v ≡ verdictAnswer (boardOf (planBoard p)) (p .windows) (p .tasks)
+  pub plan-verdict : toldVerdict v ≡ verdictAnswer (boardOf (askedBoard p)) (p .windows) (p .tasks)
   unfolding planAnswer
   plan-verdict = promised ∙ rw read
 
   -- which is as `verdict` answers owner 0 on them
-  plan-asked : toldVerdict v ≡ verdictFor (boardOf (planBoard p)) (planWindows p) (p .tasks)
+  pub plan-asked : toldVerdict v ≡ verdictFor (boardOf (askedBoard p)) (askedWindows p) (p .tasks)
   unfolding verdictFor
-  plan-asked = plan-verdict ∙ sym (one-owner teams (boardOf (planBoard p)) (omega arith) (p .windows) (verdict-entry (p .tasks)))
+  plan-asked = plan-verdict ∙ sym (one-owner teams (boardOf (askedBoard p)) (omega arith) (p .windows) (verdict-entry (p .tasks)))
 
   -- and owner 0's windows are the plan's
-  plan-own : (w : Verdicts.Verdict) → toldVerdict v ≡ given w → own (boardOf (planBoard p)) (planWindows p) ≡ p .windows
+  plan-own : (w : Verdicts.Verdict) → toldVerdict v ≡ given w → own (boardOf (askedBoard p)) (askedWindows p) ≡ p .windows
   plan-own w e =
-      own-pairs teams (boardOf (planBoard p)) (omega arith) (p .windows)
-      (judged (boardOf (planBoard p)) (p .windows) (p .tasks) w (sym plan-verdict ∙ e) .table .even)
+      own-pairs teams (boardOf (askedBoard p)) (omega arith) (p .windows)
+      (judged (boardOf (askedBoard p)) (p .windows) (p .tasks) w (sym plan-verdict ∙ e) .table .even)
 
   -- (a)
   pub plan-meets : (w : Verdicts.Verdict) → toldVerdict v ≡ given w → (h : ℕ) →
       (v ≡ Meets h) ↔ ((h ≡ cycle (p .frame) (tasksOf (p .tasks)))
-      × ((t : ℕ) → demand (tasksOf (p .tasks)) t ≤ leastSupply (suppliedBy (boardOf (planBoard p)) (p .windows)) (p .frame) t))
-  plan-meets w e = rw (plan-own w e) at (verdict-meets (planBoard p) (planWindows p) (p .tasks) v plan-asked w e)
+      × ((t : ℕ) → demand (tasksOf (p .tasks)) t ≤ leastSupply (suppliedBy (boardOf (askedBoard p)) (p .windows)) (p .frame) t))
+  plan-meets w e = rw (plan-own w e) at (verdict-meets (askedBoard p) (askedWindows p) (p .tasks) v plan-asked w e)
 
   -- (b)
   pub plan-miss : (w : Verdicts.Verdict) → toldVerdict v ≡ given w → (t s d u : ℕ) →
-      (v ≡ Miss t s d u) ↔ LeastMiss (suppliedBy (boardOf (planBoard p)) (p .windows)) (p .frame) (tasksOf (p .tasks)) t s d u
-  plan-miss w e = rw (plan-own w e) at (verdict-miss (planBoard p) (planWindows p) (p .tasks) v plan-asked w e)
+      (v ≡ Miss t s d u) ↔ LeastMiss (suppliedBy (boardOf (askedBoard p)) (p .windows)) (p .frame) (tasksOf (p .tasks)) t s d u
+  plan-miss w e = rw (plan-own w e) at (verdict-miss (askedBoard p) (askedWindows p) (p .tasks) v plan-asked w e)
 
   -- (c)
   pub plan-runs : (h : ℕ) → v ≡ Meets h →
       (n : ℕ) (js out left : List ℕ) (r : Ran) →
-      toldRan r ≡ runFor (boardOf (planBoard p)) (planWindows p) (p .tasks) n js (length out) →
-      left ≡ runOutFor (boardOf (planBoard p)) (planWindows p) (p .tasks) n js out →
+      toldRan r ≡ runFor (boardOf (askedBoard p)) (askedWindows p) (p .tasks) n js (length out) →
+      left ≡ runOutFor (boardOf (askedBoard p)) (askedWindows p) (p .tasks) n js out →
       (jobListFault n js orElse jobFault (tasksOf (p .tasks)) n (jobsOf js) orElse roomFault (length (jobsOf js)) (length out)) ≡ fine →
       ((backlog : ℕ) × (r ≡ Met backlog))
       × ((j : ℕ) → j < length (jobsOf js) → deadline (tasksOf (p .tasks)) (jobsOf js) j ≤ n →
       (1 ≤ getD left j 0) × (getD left j 0 ≤ (taskAt (tasksOf (p .tasks)) (taskOf (jobsOf js) j)) .D))
-  plan-runs = meets-runs (planBoard p) (planWindows p) (p .tasks) v plan-asked
+  plan-runs = meets-runs (askedBoard p) (askedWindows p) (p .tasks) v plan-asked
 
   pub plan-every : (h : ℕ) → v ≡ Meets h →
       (n : ℕ) (js : List Job) → badJob (tasksOf (p .tasks)) n js ≡ none →
-      (left : ℕ → List ℕ) → Under (suppliedBy (boardOf (planBoard p)) (p .windows)) js (deadline (tasksOf (p .tasks)) js) left →
+      (left : ℕ → List ℕ) → Under (suppliedBy (boardOf (askedBoard p)) (p .windows)) js (deadline (tasksOf (p .tasks)) js) left →
       (j : ℕ) → j < length js → deadline (tasksOf (p .tasks)) js j ≤ n →
       (getD (left (deadline (tasksOf (p .tasks)) js j)) j 0 ≡ 0)
       × (1 ≤ countOf left js n j) × (countOf left js n j ≤ (taskAt (tasksOf (p .tasks)) (taskOf js j)) .D)
-  plan-every h m = rw (plan-own (Verdicts.meets h) (ap toldVerdict m)) at (meets-every (planBoard p) (planWindows p) (p .tasks) v plan-asked h m)
+  plan-every h m = rw (plan-own (Verdicts.meets h) (ap toldVerdict m)) at (meets-every (askedBoard p) (askedWindows p) (p .tasks) v plan-asked h m)
 
   -- (d)
   pub plan-starves : (t s d u : ℕ) → v ≡ Miss t s d u →
-      (w : Way) → Served (suppliedBy (boardOf (planBoard p)) (p .windows)) (tasksOf (p .tasks)) w s t → ⊥
+      (w : Way) → Served (suppliedBy (boardOf (askedBoard p)) (p .windows)) (tasksOf (p .tasks)) w s t → ⊥
   plan-starves t s d u m =
-      rw (plan-own (Verdicts.miss t s d u) (ap toldVerdict m)) at (miss-starves (planBoard p) (planWindows p) (p .tasks) v plan-asked t s d u m)
+      rw (plan-own (Verdicts.miss t s d u) (ap toldVerdict m)) at (miss-starves (askedBoard p) (askedWindows p) (p .tasks) v plan-asked t s d u m)

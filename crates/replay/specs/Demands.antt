@@ -79,31 +79,31 @@ module _ (b : Board) (ws ts bytes : List ℕ) (v : replayed.Replayed) (promised 
 -- the machine's own run of a legal job list whose first release is at tick 0, recorded by a counter that shows c at its start
 module _ (b : Board) (ws ts : List ℕ) (table : sharedFault teams (boardOf b) ws ≡ fine) (group : groupFault ts ≡ fine)
     (js : List Job) (n : ℕ) (legal : badJob (tasksOf ts) n js ≡ none) (few : length js ≤ mostJobs) (some : 0 < length js) (start : releaseOf js 0 ≡ 0) where
-  pub owned : tableFault (boardOf b) (mine b ws) ≡ fine
-  owned = own-fine teams (boardOf b) ws table
+  pub mine-fine : tableFault (boardOf b) (mine b ws) ≡ fine
+  mine-fine = own-fine teams (boardOf b) ws table
 
-  module _ (ticks : ticksOf (own (boardOf b) (mine b ws) ts owned group js n legal few some start) ≤ mostTicks) (c : ℕ) (v : replayed.Replayed)
+  module _ (ticks : ticksOf (own (boardOf b) (mine b ws) ts mine-fine group js n legal few some start) ≤ mostTicks) (c : ℕ) (v : replayed.Replayed)
       (promised : toldReplayed v ≡
-      replayFor (boardOf b) ws ts (traceBytes (stampedFrom c (own (boardOf b) (mine b ws) ts owned group js n legal few some start)))) where
+      replayFor (boardOf b) ws ts (traceBytes (stampedFrom c (own (boardOf b) (mine b ws) ts mine-fine group js n legal few some start)))) where
     -- the machine up to the last record's instant
     abbrev pub ranTo : Runs.Outcome
     ranTo =
-        outcome (suppliedBy (boardOf b) (mine b ws)) (edf (tasksOf ts) js) (tasksOf ts) js (ticksOf (own (boardOf b) (mine b ws) ts owned group js n legal few some start) - 1)
+        outcome (suppliedBy (boardOf b) (mine b ws)) (edf (tasksOf ts) js) (tasksOf ts) js (ticksOf (own (boardOf b) (mine b ws) ts mine-fine group js n legal few some start) - 1)
 
     -- is the same where nothing is missed up to its last record's instant
     pub own-same : ranTo ≡ Runs.met → v ≡ replayed.the-variants.Same
     own-same e =
         replayed-determined v replayed.the-variants.Same
-        (promised ∙ replay-own (boardOf b) ws ts _ table ∙ recorded-same (boardOf b) (mine b ws) ts owned group js n legal few some start ticks c e)
+        (promised ∙ replay-own (boardOf b) ws ts _ table ∙ recorded-same (boardOf b) (mine b ws) ts mine-fine group js n legal few some start ticks c e)
 
     -- so where the run is met
     pub own-met : outcome (suppliedBy (boardOf b) (mine b ws)) (edf (tasksOf ts) js) (tasksOf ts) js n ≡ Runs.met → v ≡ replayed.the-variants.Same
     own-met e =
         replayed-determined v replayed.the-variants.Same
-        (promised ∙ replay-own (boardOf b) ws ts _ table ∙ recorded-met (boardOf b) (mine b ws) ts owned group js n legal few some start ticks c e)
+        (promised ∙ replay-own (boardOf b) ws ts _ table ∙ recorded-met (boardOf b) (mine b ws) ts mine-fine group js n legal few some start ticks c e)
 
     -- and answers the miss up to its last record's instant
     pub own-missed : (k j : ℕ) → ranTo ≡ Runs.missed k j → v ≡ replayed.the-variants.Missed k j
     own-missed k j e =
         replayed-determined v (replayed.the-variants.Missed k j)
-        (promised ∙ replay-own (boardOf b) ws ts _ table ∙ recorded-missed (boardOf b) (mine b ws) ts owned group js n legal few some start ticks c k j e)
+        (promised ∙ replay-own (boardOf b) ws ts _ table ∙ recorded-missed (boardOf b) (mine b ws) ts mine-fine group js n legal few some start ticks c k j e)

@@ -1,6 +1,6 @@
 -- Document 01, "Marked examples": W1 to W13, and after them document 02's examples and what 01 says of limits, refusals and errors; one table under one
 -- statement, by computation.
-use Prim.Native.Nat.{ℕ, suc}
+use Prim.Native.Nat.{ℕ, zero, suc}
 use Prim.Native.Char.{code}
 use Prim.Native.String.{String, [] as ε, _∷_ as _◂_}
 use mathlib.Core.Path.{_≡_, refl}
@@ -25,7 +25,7 @@ use Rattle.scope.specs.Replay as Replays
 use Rattle.scope.specs.Replay.{Replayed, extentFault, replayAnswer}
 use Rattle.scope.specs.Limits.{teams}
 use Rattle.scope.specs.Shared.{Owned, owned, ownedListFault, ownedAnswer, ownAnswer, ownOut, asOwnedAnswer, asOwnedOut}
-use Rattle.scope.specs.Shared.{leastSupplyFor, criticalFor, criticalOutFor, delayFor, outageFor, marginFor, verdictFor, boundFor}
+use Rattle.scope.specs.Shared.{suppliedFor, leastSupplyFor, criticalFor, criticalOutFor, delayFor, outageFor, marginFor, verdictFor, boundFor}
 use Rattle.scope.specs.Shared.{runFor, runOutFor, replayFor}
 use Rattle.scope.specs.Computing.{everything}
 
@@ -62,6 +62,7 @@ pub data Question : Type 0 where
   runOfFor : (frame owner : ℕ) (windows tasks : List ℕ) (n : ℕ) (jobs buffer : List ℕ) → Question
   outageOfFor : (frame owner : ℕ) (windows : List ℕ) → Question
   replayOfFor : (frame owner : ℕ) (windows tasks trace : List ℕ) → Question
+  suppliedOfFor : (frame owner : ℕ) (windows ticks : List ℕ) → Question
   sharedLists : (sizes : List ℕ) → Question
   ownedAlone : (frame start end owner : ℕ) → Question
   ownOf : (frame owner : ℕ) (windows buffer : List ℕ) → Question
@@ -83,6 +84,7 @@ pub data Reply : Type 0 where
   faults : List Fault → Reply
   aReplay : Answer Replayed → Reply
   anOwned : Answer Owned → Reply
+  ticks : List (Answer Bool) → Reply
 
 -- a release at tick 0
 abbrev release : Record
@@ -129,6 +131,7 @@ reply (marginOfFor P o ws ts t) = aMargin (marginFor (onFor P o) ws ts t)
 reply (boundsOfFor P o ws ts is) = bounds (map (boundFor (onFor P o) ws ts) is)
 reply (runOfFor P o ws ts n js out) = aRun (runFor (onFor P o) ws ts n js (length out)) (runOutFor (onFor P o) ws ts n js out)
 reply (outageOfFor P o ws) = amounts (outageFor (onFor P o) ws ∷ [])
+reply (suppliedOfFor P o ws ks) = ticks (map (suppliedFor (onFor P o) ws) ks)
 reply (replayOfFor P o ws ts trace) = aReplay (replayFor (onFor P o) ws ts trace)
 reply (ownedAlone P s e o) = anOwned (ownedAnswer teams (on P) (owned s e o))
 reply (ownOf P o ws out) = windows (ownAnswer teams (onFor P o) ws (length out)) (ownOut teams (onFor P o) ws out)
@@ -161,6 +164,14 @@ XShared = 0 ∷ 2 ∷ 0 ∷ 2 ∷ 5 ∷ 1 ∷ 5 ∷ 7 ∷ 0 ∷ 7 ∷ 8 ∷ 1 �
 -- the lab's window as owner 1's, and the rest of its frame as owner 0's
 abbrev pub labShared : List ℕ
 labShared = 0 ∷ 3 ∷ 0 ∷ 3 ∷ 5 ∷ 1 ∷ 5 ∷ 8 ∷ 0 ∷ []
+
+-- n windows of owner 1, one tick each, every third tick from tick k on
+abbrev othersFrom : ℕ → ℕ → List ℕ
+othersFrom k zero = []
+othersFrom k (suc n) = k ∷ suc k ∷ 1 ∷ othersFrom (suc (suc (suc k))) n
+
+abbrev others : ℕ → List ℕ
+others = othersFrom 2
 
 unfoldable pub table : List Example
 table =
@@ -269,6 +280,8 @@ table =
     gives amounts (map given (0 ∷ 0 ∷ 0 ∷ 0 ∷ 1 ∷ 2 ∷ 2 ∷ 3 ∷ 4 ∷ [])))
     ∷ ("owner 1's least supply" asks leastSuppliesFor 8 1 XShared (1 ∷ 2 ∷ 3 ∷ 4 ∷ 5 ∷ 6 ∷ 7 ∷ 8 ∷ [])
     gives amounts (map given (0 ∷ 0 ∷ 1 ∷ 1 ∷ 1 ∷ 2 ∷ 3 ∷ 4 ∷ [])))
+    ∷ ("ticks of both owners" asks suppliedOfFor 8 0 XShared (1 ∷ 2 ∷ 8 ∷ []) gives ticks (given true ∷ given false ∷ given true ∷ []))
+    ∷ ("the same for owner 1" asks suppliedOfFor 8 1 XShared (1 ∷ 2 ∷ 8 ∷ []) gives ticks (given false ∷ given true ∷ given false ∷ []))
     ∷ ("W2, shared" asks criticalWindowsFor 8 0 XShared (9 ∷ 9 ∷ 9 ∷ 9 ∷ 9 ∷ []) gives windows (given 2) (3 ∷ 5 ∷ 6 ∷ 8 ∷ 9 ∷ []))
     ∷ ("W3, shared" asks delayOfFor 8 0 XShared gives aDelay (given (record { delay = 12; A = 4 })))
     ∷ ("W6, shared" asks verdictOfFor 8 0 XShared (1 ∷ 4 ∷ 4 ∷ 2 ∷ 8 ∷ 6 ∷ []) gives aVerdict (given (miss 6 2 3 2)))
@@ -294,6 +307,10 @@ table =
     ∷ ("owners that overlap" asks verdictOfFor 8 0 (0 ∷ 3 ∷ 0 ∷ 2 ∷ 4 ∷ 1 ∷ []) [] gives aVerdict (refused 3 1))
     ∷ ("another team's empty window" asks verdictOfFor 8 0 (0 ∷ 2 ∷ 0 ∷ 4 ∷ 4 ∷ 1 ∷ []) [] gives aVerdict (refused 3 1))
     ∷ ("no such owner in the list" asks verdictOfFor 8 0 (0 ∷ 2 ∷ 0 ∷ 4 ∷ 5 ∷ 2 ∷ []) [] gives aVerdict (refused 3 1))
+    -- the whole list is counted: another team's numbers that are not in threes, or its 64 windows beside one
+    ∷ ("another team's number left over" asks verdictOfFor 8 0 (0 ∷ 2 ∷ 0 ∷ 4 ∷ []) [] gives aVerdict (refused 1 0))
+    ∷ ("64 windows, 63 of another team" asks suppliedOfFor 200 0 (0 ∷ 1 ∷ 0 ∷ others 63) (0 ∷ []) gives ticks (given true ∷ []))
+    ∷ ("65 windows, 64 of another team" asks suppliedOfFor 200 0 (0 ∷ 1 ∷ 0 ∷ others 64) (0 ∷ []) gives ticks (refused 1 0 ∷ []))
     -- an owner with no window, or no such owner, just after 3; before 4, and 9 before it
     ∷ ("an absent owner" asks verdictOfFor 8 1 (0 ∷ 2 ∷ 0 ∷ []) [] gives aVerdict (refused 1 0))
     ∷ ("no such owner asked for" asks outageOfFor 8 2 XShared gives amounts (refused 1 0 ∷ []))
@@ -392,7 +409,7 @@ Hold (e ∷ rows) = (reply (e .question) ≡ e .expected) × Hold rows
 pub examples : Hold table
 unfolding everything reply table
 examples =
-    (refl, (refl, (refl, (refl, (refl, (refl, (refl, (refl, (refl, (refl, (refl, (refl, (refl, (refl, (refl, (refl, (refl, (refl, (refl, (refl, (refl, (refl, (refl, (refl, (refl, (refl, (refl, (refl, (refl, (refl, (refl, (refl, (refl, (refl, (refl, (refl, (refl, (refl, (refl, (refl, (refl, (refl, (refl, (refl, (refl, (refl, (refl, (refl, (refl, (refl, (refl, (refl, (refl, (refl, (refl, (refl, (refl, (refl, (refl, (refl, (refl, (refl, (refl, (refl, (refl, (refl, (refl, (refl, (refl, (refl, (refl, (refl, (refl, (refl, (refl, (refl, (refl, (refl, (refl, (refl, (refl, (refl, (refl, (refl, (refl, (refl, (refl, (refl, (refl, (refl, (refl, (refl, (refl, (refl, (refl, (refl, (refl, (refl, (refl, (refl, (refl, (refl, (refl, (refl, (refl, (refl, (refl, (refl, (refl, (refl, (refl, (refl, (refl, (refl, (refl, (refl, (refl, (refl, (refl, (refl, (refl, (refl, (refl, (refl, (refl, (refl, (refl, (refl, (refl, (refl, (refl, (refl, (refl, (refl, (refl, (refl, (refl, (refl, (refl, (refl, (refl, (refl, (refl, (refl, (refl, (refl, (refl, tt)))))))))))))))))))))))))))))))))))))))))))))))))))))))))))))))))))))))))))))))))))))))))))))))))))))))))))))))))))))))))))))))))))))))))))))))))))
+    (refl, (refl, (refl, (refl, (refl, (refl, (refl, (refl, (refl, (refl, (refl, (refl, (refl, (refl, (refl, (refl, (refl, (refl, (refl, (refl, (refl, (refl, (refl, (refl, (refl, (refl, (refl, (refl, (refl, (refl, (refl, (refl, (refl, (refl, (refl, (refl, (refl, (refl, (refl, (refl, (refl, (refl, (refl, (refl, (refl, (refl, (refl, (refl, (refl, (refl, (refl, (refl, (refl, (refl, (refl, (refl, (refl, (refl, (refl, (refl, (refl, (refl, (refl, (refl, (refl, (refl, (refl, (refl, (refl, (refl, (refl, (refl, (refl, (refl, (refl, (refl, (refl, (refl, (refl, (refl, (refl, (refl, (refl, (refl, (refl, (refl, (refl, (refl, (refl, (refl, (refl, (refl, (refl, (refl, (refl, (refl, (refl, (refl, (refl, (refl, (refl, (refl, (refl, (refl, (refl, (refl, (refl, (refl, (refl, (refl, (refl, (refl, (refl, (refl, (refl, (refl, (refl, (refl, (refl, (refl, (refl, (refl, (refl, (refl, (refl, (refl, (refl, (refl, (refl, (refl, (refl, (refl, (refl, (refl, (refl, (refl, (refl, (refl, (refl, (refl, (refl, (refl, (refl, (refl, (refl, (refl, (refl, (refl, (refl, (refl, (refl, (refl, tt))))))))))))))))))))))))))))))))))))))))))))))))))))))))))))))))))))))))))))))))))))))))))))))))))))))))))))))))))))))))))))))))))))))))))))))))))))))))
 
 -- ---- a row by its name
 

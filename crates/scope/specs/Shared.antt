@@ -125,16 +125,16 @@ abbrev pub kept : List ℕ → ℕ → ℕ → List ℕ
 kept out number place = out
 
 unfoldable pub suppliedFor : Board → List ℕ → ℕ → Answer Bool
-suppliedFor b ws k = askedFor teams b ws refused (λ own. suppliedAnswer b own k)
+suppliedFor b ws k = askedFor teams b ws refused (λ mine. suppliedAnswer b mine k)
 
 unfoldable pub leastSupplyFor : Board → List ℕ → ℕ → Answer ℕ
-leastSupplyFor b ws t = askedFor teams b ws refused (λ own. leastSupplyAnswer b own t)
+leastSupplyFor b ws t = askedFor teams b ws refused (λ mine. leastSupplyAnswer b mine t)
 
 unfoldable pub criticalFor : Board → List ℕ → ℕ → Answer ℕ
-criticalFor b ws room = askedFor teams b ws refused (λ own. criticalAnswer b own room)
+criticalFor b ws room = askedFor teams b ws refused (λ mine. criticalAnswer b mine room)
 
 unfoldable pub criticalOutFor : Board → List ℕ → List ℕ → List ℕ
-criticalOutFor b ws out = askedFor teams b ws (kept out) (λ own. criticalOut b own out)
+criticalOutFor b ws out = askedFor teams b ws (kept out) (λ mine. criticalOut b mine out)
 
 unfoldable pub delayFor : Board → List ℕ → Answer Delay
 delayFor b ws = askedFor teams b ws refused (delayAnswer b)
@@ -143,22 +143,22 @@ unfoldable pub outageFor : Board → List ℕ → Answer ℕ
 outageFor b ws = askedFor teams b ws refused (outageAnswer b)
 
 unfoldable pub marginFor : Board → List ℕ → List ℕ → ℕ → Answer ℤ
-marginFor b ws ts t = askedFor teams b ws refused (λ own. marginAnswer b own ts t)
+marginFor b ws ts t = askedFor teams b ws refused (λ mine. marginAnswer b mine ts t)
 
 unfoldable pub verdictFor : Board → List ℕ → List ℕ → Answer Verdict
-verdictFor b ws ts = askedFor teams b ws refused (λ own. verdictAnswer b own ts)
+verdictFor b ws ts = askedFor teams b ws refused (λ mine. verdictAnswer b mine ts)
 
 unfoldable pub boundFor : Board → List ℕ → List ℕ → ℕ → Answer Bound
-boundFor b ws ts i = askedFor teams b ws refused (λ own. boundAnswer b own ts i)
+boundFor b ws ts i = askedFor teams b ws refused (λ mine. boundAnswer b mine ts i)
 
 unfoldable pub runFor : Board → List ℕ → List ℕ → ℕ → List ℕ → ℕ → Answer Ran
-runFor b ws ts n js room = askedFor teams b ws refused (λ own. runAnswer b own ts n js room)
+runFor b ws ts n js room = askedFor teams b ws refused (λ mine. runAnswer b mine ts n js room)
 
 unfoldable pub runOutFor : Board → List ℕ → List ℕ → ℕ → List ℕ → List ℕ → List ℕ
-runOutFor b ws ts n js out = askedFor teams b ws (kept out) (λ own. runOut b own ts n js out)
+runOutFor b ws ts n js out = askedFor teams b ws (kept out) (λ mine. runOut b mine ts n js out)
 
 unfoldable pub recordsFor : Board → List ℕ → List ℕ → List Record → Answer Replayed
-recordsFor b ws ts rs = askedFor teams b ws refused (λ own. recordsAnswer b own ts rs)
+recordsFor b ws ts rs = askedFor teams b ws refused (λ mine. recordsAnswer b mine ts rs)
 
 -- 9 before all others
 unfoldable pub replayFor : Board → List ℕ → List ℕ → List ℕ → Answer Replayed

@@ -3,3 +3,4 @@ pub mod Marks
 pub mod Refused
 pub mod Outage
 pub mod Applied
+pub mod Owners

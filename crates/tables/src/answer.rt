@@ -83,7 +83,7 @@ pub enum Supplied {
     Refused(Refusal),
 }
 
-// A least supply, an outage, a demand, a number of windows or of bytes.
+// A least supply, an outage, a demand, a number of windows, of bytes or of numbers.
 pub enum Amount {
     Of(u64),
     Refused(Refusal),

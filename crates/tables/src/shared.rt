@@ -61,7 +61,7 @@ impl Owned {
 }
 
 // Window i of a list of threes; past the last one the window 0 0 of owner 0.
-pub fn owned_at(windows: &[u32], i: usize) -> Owned
+pub(crate) fn owned_at(windows: &[u32], i: usize) -> Owned
     ensures { λ r. ⌜ ownedBy r ≡ ownedAt (ownedOf (now (windows .entry))) i ⌝ }
 {
     if i < windows.len() / 3 {
@@ -145,7 +145,7 @@ fn count_own(board: Board, windows: &[u32]) -> usize
     numbers
 }
 
-// Refusal 1 of an owner that has no window. One that does not exist has none.
+// Refusal 1 of an owner that has no window. One that does not exist has none in a list that keeps rule 3.
 fn check_owner(board: Board, windows: &[u32]) -> Checked
     ensures { λ r. ⌜ faultOf r ≡ absentOwnerFault (boardOf board) (now (windows .entry)) ⌝ }
 {
@@ -156,7 +156,7 @@ fn check_owner(board: Board, windows: &[u32]) -> Checked
 }
 
 // Refusals 1, 2 and 3 of the whole list, then 1 of an absent owner.
-pub fn check_shared(owners: u32, board: Board, windows: &[u32]) -> Checked
+pub(crate) fn check_shared(owners: u32, board: Board, windows: &[u32]) -> Checked
     ensures { λ r. ⌜ faultOf r ≡ sharedFault owners (boardOf board) (now (windows .entry)) ⌝ }
 {
     let whole = check_whole(owners, board, windows);

@@ -23,7 +23,7 @@ use Rattle.scope.specs.Plan.{Read, Read.read, Read.bad, orNine}
 use Rattle.scope.specs.Trace.{Stamped, Record, traceOf, timed}
 use Rattle.scope.specs.Replay.{Replayed, replayFault, recordsAnswer, replayAnswer}
 use Rattle.scope.specs.Shared.{Owned, owned, ownedOf, ownedAt, windowsFor, own, asOwned, follows, ownedLegal, badOwned, ownedListFault, ownedFault}
-use Rattle.scope.specs.Shared.{wholeFault, absentOwnerFault, sharedFault, unlessRefused, askedFor, kept, recordsFor, replayFor}
+use Rattle.scope.specs.Shared.{wholeFault, absentOwnerFault, sharedFault, ownFault, ownAnswer, ownOut, unlessRefused, askedFor, kept, recordsFor, replayFor}
 use Rattle.theory.specs.Numbers.{first-equal, first-some}
 use Rattle.theory.specs.Shared.{asked-fine, asked-refused, asked-given}
 use Rattle.theory.specs.Answers.{fault-not-fine, table-legal}
@@ -135,19 +135,41 @@ whole-refusal owners b ws n p = counted (badCount 3 mostWindows ws || eqb (lengt
     counted true e = is by-count e
     counted false e = framed (eqb (b .frame) 0 || ltb mostFrame (b .frame)) e
 
--- nothing else does: two tables that an owner is answered differently on, by any entry, have different frames or different windows of the owner, or one
--- of them gets such a refusal
+-- what is refused so, by an entry
+pub record Told {R : Type 0} (owners : ℕ) (b : Board) (ws : List ℕ) (answer : R) (refusal : ℕ → ℕ → R) : Type 0 where
+  pub number : ℕ
+  pub place : ℕ
+  pub is : WholeRefusal (length (ownedOf ws)) number place
+  pub answered : answer ≡ refusal number place
+
+whole-told : {R : Type 0} (owners : ℕ) (b : Board) (ws : List ℕ) (refusal : ℕ → ℕ → R) (entry : List ℕ → R) (n p : ℕ) →
+    wholeFault owners b ws ≡ fault n p → Told owners b ws (askedFor owners b ws refusal entry) refusal
+unfolding sharedFault
+whole-told owners b ws refusal entry n p e = record {
+  number = n;
+  place = p;
+  is = whole-refusal owners b ws n p e;
+  answered = asked-refused owners b ws refusal entry (rw e);
+}
+
+-- nothing else does: of two tables with equal frames and equal windows of the owner, on which it is answered differently by any entry, one is refused so
 pub told-apart : {R : Type 0} {refusal : ℕ → ℕ → R} {entry : Board → List ℕ → R} → Entry refusal entry →
     (owners : ℕ) (b c : Board) (ws vs : List ℕ) → b .frame ≡ c .frame → own b ws ≡ own c vs →
     (askedFor owners b ws refusal (entry b) ≡ askedFor owners c vs refusal (entry c) → ⊥) →
-    (n : ℕ) × (p : ℕ) × ((wholeFault owners b ws ≡ fault n p) ⊎ (wholeFault owners c vs ≡ fault n p))
-told-apart is owners b c ws vs framed same differ = go (wholeFault owners b ws) refl (wholeFault owners c vs) refl
+    Told owners b ws (askedFor owners b ws refusal (entry b)) refusal ⊎ Told owners c vs (askedFor owners c vs refusal (entry c)) refusal
+told-apart {R} {refusal} {entry} is owners b c ws vs framed same differ = go (wholeFault owners b ws) refl (wholeFault owners c vs) refl
   where
     go : (f : Fault) → wholeFault owners b ws ≡ f → (g : Fault) → wholeFault owners c vs ≡ g →
-        (n : ℕ) × (p : ℕ) × ((wholeFault owners b ws ≡ fault n p) ⊎ (wholeFault owners c vs ≡ fault n p))
-    go (fault n p) e g h = (n, p, inl e)
-    go fine e (fault n p) h = (n, p, inr h)
+        Told owners b ws (askedFor owners b ws refusal (entry b)) refusal ⊎ Told owners c vs (askedFor owners c vs refusal (entry c)) refusal
+    go (fault n p) e g h = inl (whole-told owners b ws refusal (entry b) n p e)
+    go fine e (fault n p) h = inr (whole-told owners c vs refusal (entry c) n p h)
     go fine e fine h = absurd (differ (alone is owners b c ws vs e h framed same))
+
+-- an owner's windows by themselves depend on nothing else either
+pub own-alone : (owners : ℕ) (b c : Board) (ws vs : List ℕ) → wholeFault owners b ws ≡ fine → wholeFault owners c vs ≡ fine → own b ws ≡ own c vs →
+    (room : ℕ) (out : List ℕ) → (ownAnswer owners b ws room ≡ ownAnswer owners c vs room) × (ownOut owners b ws out ≡ ownOut owners c vs out)
+unfolding ownAnswer ownOut ownFault sharedFault absentOwnerFault
+own-alone owners b c ws vs e f same room out = (rw (e, f, same), rw (e, f, same))
 
 -- ---- a table with one owner
 
@@ -251,6 +273,20 @@ pub replay-alone : (b c : Board) (ws vs ts bytes : List ℕ) → wholeFault team
 unfolding replayFor recordsFor
 replay-alone b c ws vs ts bytes e f framed same =
     or-nine (traceOf bytes) _ _ (λ rs next. alone (records-entry ts (timed rs)) teams b c ws vs e f framed same)
+
+pub replay-told-apart : (b c : Board) (ws vs ts bytes : List ℕ) → b .frame ≡ c .frame → own b ws ≡ own c vs →
+    (replayFor b ws ts bytes ≡ replayFor c vs ts bytes → ⊥) →
+    Told teams b ws (replayFor b ws ts bytes) refused ⊎ Told teams c vs (replayFor c vs ts bytes) refused
+unfolding replayFor recordsFor
+replay-told-apart b c ws vs ts bytes framed same = go (traceOf bytes)
+  where
+    on : Board → List ℕ → List Stamped → ℕ → Answer Replayed
+    on d us rs next = askedFor teams d us refused (λ l. recordsAnswer d l ts (timed rs))
+
+    go : (r : Read (List Stamped)) → (orNine r (on b ws) ≡ orNine r (on c vs) → ⊥) →
+        Told teams b ws (orNine r (on b ws)) refused ⊎ Told teams c vs (orNine r (on c vs)) refused
+    go (bad o) differ = absurd (differ refl)
+    go (read rs next) differ = told-apart (records-entry ts (timed rs)) teams b c ws vs framed same differ
 
 pub replay-one-owner : (b : Board) → b .owner < teams → (ws ts bytes : List ℕ) → replayFor b (asOwned (b .owner) ws) ts bytes ≡ replayAnswer b ws ts bytes
 unfolding replayFor recordsFor replayAnswer

@@ -24,7 +24,7 @@ use Rattle.scope.specs.Answers.{Fault.fault, Answer.given, Answer.refused, wind
 use Rattle.scope.specs.Answers.{criticalOf, criticalOut, leastSupplyAnswer, outageAnswer}
 use Rattle.scope.specs.Trace.{Stamped, traceOf, Record, timed, ticksOf, releases, completion, completions, traceBytes, stampedFrom}
 use Rattle.scope.specs.Replay.{endedFrom, recorded, Replayed.same, Replayed.differs, Replayed.missed, replayAnswer}
-use Rattle.scope.specs.Shared.{own, asOwned, wholeFault, sharedFault, verdictFor, runOutFor, replayFor}
+use Rattle.scope.specs.Shared.{own, asOwned, sharedFault, ownAnswer, verdictFor, runOutFor, replayFor}
 use Rattle.scope.specs.Demands.{Silent, LeastMiss, Way, Served}
 use Rattle.scope.specs.Examples.{Reply.amounts, Reply.windows, Reply.bytesIn, Reply.aVerdict, Reply.bounds, Reply.aRun, X, lab, XShared, on, onFor, reply, table, examples, row}
 use Rattle.scope.specs.Examples.{Reply.aReplay}
@@ -47,7 +47,7 @@ use Rattle.theory.specs.Traces.{shift-answer}
 use Rattle.theory.specs.Replays.{replay-given, same-completions, FirstPair, machineEnded, replayed-differs, meets-no-miss}
 use Rattle.theory.specs.Recorded.{recorded-same, recorded-met, recorded-missed}
 use Rattle.theory.specs.Shared.{one-owner-a-tick, no-such-owner}
-use Rattle.theory.specs.Alone.{verdict-entry, run-out-entry, alone, WholeRefusal, whole-refusal, told-apart, one-owner, replay-alone, replay-one-owner}
+use Rattle.theory.specs.Alone.{verdict-entry, run-out-entry, alone, WholeRefusal, whole-refusal, Told, told-apart, own-alone, one-owner, replay-alone, replay-one-owner}
 use Rattle.theory.specs.PlanBytes.{Writable, plan-length, round-trip, left-over, only-bytes}
 
 abbrev pub w6 : List ℕ
@@ -493,8 +493,9 @@ third-refused : sharedFault teams (onFor 8 2) XShared ≡ fault 1 0
 unfolding everything
 third-refused = no-such-owner teams (onFor 8 2) XShared refl (omega arith)
 
--- a list of the other team's that is not legal is told apart, by 3 at its window
-other-empty : (n : ℕ) × (p : ℕ) × ((wholeFault teams (on 8) (0 ∷ 2 ∷ 0 ∷ []) ≡ fault n p) ⊎ (wholeFault teams (on 8) (0 ∷ 2 ∷ 0 ∷ 4 ∷ 4 ∷ 1 ∷ []) ≡ fault n p))
+-- a list in which the other team's window is empty is told apart, by 3 at that window
+other-empty : Told teams (on 8) (0 ∷ 2 ∷ 0 ∷ []) (verdictFor (on 8) (0 ∷ 2 ∷ 0 ∷ []) []) refused
+    ⊎ Told teams (on 8) (0 ∷ 2 ∷ 0 ∷ 4 ∷ 4 ∷ 1 ∷ []) (verdictFor (on 8) (0 ∷ 2 ∷ 0 ∷ 4 ∷ 4 ∷ 1 ∷ []) []) refused
 unfolding everything
 other-empty =
     told-apart (verdict-entry []) teams (on 8) (on 8) (0 ∷ 2 ∷ 0 ∷ []) (0 ∷ 2 ∷ 0 ∷ 4 ∷ 4 ∷ 1 ∷ []) refl refl
@@ -503,3 +504,8 @@ other-empty =
 at-its-window : WholeRefusal 2 3 1
 unfolding everything
 at-its-window = whole-refusal teams (on 8) (0 ∷ 2 ∷ 0 ∷ 4 ∷ 4 ∷ 1 ∷ []) 3 1 refl
+
+-- owner 0's windows by themselves are X's, too
+x-own-alone : ownAnswer teams (on 8) XShared 4 ≡ ownAnswer teams (on 8) (asOwned 0 X) 4
+unfolding everything
+x-own-alone = own-alone teams (on 8) (on 8) XShared (asOwned 0 X) refl refl refl 4 [] .0

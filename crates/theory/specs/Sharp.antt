@@ -1,4 +1,4 @@
--- How sharp the theorems are: seven stronger claims, each refuted by an example
+-- How sharp the theorems are: eight stronger claims, each refuted by an example
 use mathlib.Core.Path.{_≡_, refl}
 use mathlib.Core.Bool.{Bool, true}
 use mathlib.Core.Option.{none, some}
@@ -15,8 +15,9 @@ use Rattle.scope.specs.Verdict.{Verdict.meets, Verdict.miss}
 use Rattle.scope.specs.Jobs.{Job, jobsOf, releaseOf, taskOf, deadline, badJob}
 use Rattle.scope.specs.Machine.{edf}
 use Rattle.scope.specs.Run.{counts}
-use Rattle.scope.specs.Answers.{Answer.given, Answer.refused, verdictAnswer}
-use Rattle.scope.specs.Shared.{own, verdictFor}
+use Rattle.scope.specs.Limits.{teams}
+use Rattle.scope.specs.Answers.{Fault.fine, Answer.given, Answer.refused, verdictAnswer}
+use Rattle.scope.specs.Shared.{ownedOf, own, ownedFault, verdictFor}
 use Rattle.scope.specs.Demands.{Way, givenTo}
 use Rattle.scope.specs.Examples.{X, on}
 use Rattle.scope.specs.Computing.{everything}
@@ -102,5 +103,14 @@ pub not-alone-unchecked : ((b : Board) (ws vs ts : List ℕ) → own b ws ≡ ow
 unfolding everything
 not-alone-unchecked claim =
     let e : given (meets 8) ≡ refused 3 1 = claim (on 8) (0 ∷ 2 ∷ 0 ∷ []) (0 ∷ 2 ∷ 0 ∷ 4 ∷ 4 ∷ 1 ∷ []) [] refl in
+    let z : _≡_ {A = ℕ} 0 1 = cc in
+    omega arith
+
+-- and where it is not counted whole: a number that owner 1 leaves over refuses owner 0 too
+pub not-alone-uncounted : ((b : Board) (ws vs ts : List ℕ) → ownedFault teams b (ownedOf ws) ≡ fine → ownedFault teams b (ownedOf vs) ≡ fine →
+    own b ws ≡ own b vs → verdictFor b ws ts ≡ verdictFor b vs ts) → ⊥
+unfolding everything
+not-alone-uncounted claim =
+    let e : given (meets 8) ≡ refused 1 0 = claim (on 8) (0 ∷ 2 ∷ 0 ∷ []) (0 ∷ 2 ∷ 0 ∷ 4 ∷ []) [] refl refl refl in
     let z : _≡_ {A = ℕ} 0 1 = cc in
     omega arith
