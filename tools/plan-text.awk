@@ -3,8 +3,8 @@
 # lists are cut where they have one window or task more than is legal: they are refused for that, whatever follows.
 BEGIN {
     owners = ENVIRON["OWNER"] != ""
-    mostWindows = 65
-    mostTasks = 33
+    keptWindows = 65
+    keptTasks = 33
 }
 
 # the numbers of a line that may end in `owner N`; `owner` is then N, else 0
@@ -27,7 +27,7 @@ $1 == "frame" {
 $1 == "window" {
     pair = owned(2, "window START END")
     windows = windows pair
-    if (windowCount++ < mostWindows)
+    if (windowCount++ < keptWindows)
         threes = threes pair " " owner
     next
 }
@@ -37,7 +37,7 @@ $1 == "task" {
         bad("a task's owner is 0 or 1")
     tasks = tasks task
     taskCount++
-    if (owner == ENVIRON["OWNER"] + 0 && ownCount++ < mostTasks)
+    if (owner == ENVIRON["OWNER"] + 0 && ownCount++ < keptTasks)
         ownTasks = ownTasks task
     next
 }
@@ -51,7 +51,7 @@ END {
     if (frame == "")
         bad("no frame: write `frame TICKS`")
     if (owners)
-        print "table" frame " " 3 * least(windowCount + 0, mostWindows) threes " tasks " 3 * least(ownCount + 0, mostTasks) ownTasks
+        print "table" frame " " 3 * least(windowCount + 0, keptWindows) threes " tasks " 3 * least(ownCount + 0, keptTasks) ownTasks
     else
         print frame " " (windowCount + 0) windows " " (taskCount + 0) tasks
 }
