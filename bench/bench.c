@@ -31,8 +31,8 @@ static const double LEAST_GAIN = 10000;   /* of the least supply's worst input *
 static const double HIGHEST_RATIO = 1.10; /* to plain C */
 
 struct input {
-    uint32_t frame;
-    uint32_t windows[128];
+    struct palikudyom_board board;
+    uint32_t windows[192];
     size_t windows_len;
     uint32_t tasks[96];
     size_t tasks_len;
@@ -52,46 +52,46 @@ typedef struct palikudyom_answer ask(const struct input *x, uint32_t *buffer);
     static struct palikudyom_answer side##_asked_for_least_supply(const struct input *x, uint32_t *buffer)             \
     {                                                                                                                   \
         (void)buffer;                                                                                                   \
-        return side##_least_supply(x->frame, x->windows, x->windows_len, x->asked);                                     \
+        return side##_least_supply(x->board, x->windows, x->windows_len, x->asked);                                     \
     }                                                                                                                   \
     static struct palikudyom_answer side##_asked_for_critical(const struct input *x, uint32_t *buffer)                 \
     {                                                                                                                   \
-        return side##_critical(x->frame, x->windows, x->windows_len, buffer, ROOM);                                     \
+        return side##_critical(x->board, x->windows, x->windows_len, buffer, ROOM);                                     \
     }                                                                                                                   \
     static struct palikudyom_answer side##_asked_for_delay(const struct input *x, uint32_t *buffer)                    \
     {                                                                                                                   \
         (void)buffer;                                                                                                   \
-        return side##_delay(x->frame, x->windows, x->windows_len);                                                      \
+        return side##_delay(x->board, x->windows, x->windows_len);                                                      \
     }                                                                                                                   \
     static struct palikudyom_answer side##_asked_for_outage(const struct input *x, uint32_t *buffer)                   \
     {                                                                                                                   \
         (void)buffer;                                                                                                   \
-        return side##_outage(x->frame, x->windows, x->windows_len);                                                     \
+        return side##_outage(x->board, x->windows, x->windows_len);                                                     \
     }                                                                                                                   \
     static struct palikudyom_answer side##_asked_for_margin(const struct input *x, uint32_t *buffer)                   \
     {                                                                                                                   \
         (void)buffer;                                                                                                   \
-        return side##_margin(x->frame, x->windows, x->windows_len, x->tasks, x->tasks_len, x->asked);                   \
+        return side##_margin(x->board, x->windows, x->windows_len, x->tasks, x->tasks_len, x->asked);                   \
     }                                                                                                                   \
     static struct palikudyom_answer side##_asked_for_verdict(const struct input *x, uint32_t *buffer)                  \
     {                                                                                                                   \
         (void)buffer;                                                                                                   \
-        return side##_verdict(x->frame, x->windows, x->windows_len, x->tasks, x->tasks_len);                            \
+        return side##_verdict(x->board, x->windows, x->windows_len, x->tasks, x->tasks_len);                            \
     }                                                                                                                   \
     static struct palikudyom_answer side##_asked_for_bound(const struct input *x, uint32_t *buffer)                    \
     {                                                                                                                   \
         (void)buffer;                                                                                                   \
-        return side##_bound(x->frame, x->windows, x->windows_len, x->tasks, x->tasks_len, x->asked);                    \
+        return side##_bound(x->board, x->windows, x->windows_len, x->tasks, x->tasks_len, x->asked);                    \
     }                                                                                                                   \
     static struct palikudyom_answer side##_asked_for_run(const struct input *x, uint32_t *buffer)                      \
     {                                                                                                                   \
-        return side##_run(x->frame, x->windows, x->windows_len, x->tasks, x->tasks_len, x->asked, x->jobs, x->jobs_len, \
+        return side##_run(x->board, x->windows, x->windows_len, x->tasks, x->tasks_len, x->asked, x->jobs, x->jobs_len, \
                           buffer, ROOM);                                                                                \
     }                                                                                                                   \
     static struct palikudyom_answer side##_asked_for_replay(const struct input *x, uint32_t *buffer)                   \
     {                                                                                                                   \
         (void)buffer;                                                                                                   \
-        return side##_replay(x->frame, x->windows, x->windows_len, x->tasks, x->tasks_len, x->trace, x->trace_len);     \
+        return side##_replay(x->board, x->windows, x->windows_len, x->tasks, x->tasks_len, x->trace, x->trace_len);     \
     }
 
 SIDE(palikudyom)
@@ -100,12 +100,12 @@ SIDE(plain)
 static struct palikudyom_answer plain_asked_for_least_supply_by_ticks(const struct input *x, uint32_t *buffer)
 {
     (void)buffer;
-    return plain_least_supply_by_ticks(x->frame, x->windows, x->windows_len, x->asked);
+    return plain_least_supply_by_ticks(x->board, x->windows, x->windows_len, x->asked);
 }
 
 static struct palikudyom_answer plain_asked_for_run_every_tick(const struct input *x, uint32_t *buffer)
 {
-    return plain_run_every_tick(x->frame, x->windows, x->windows_len, x->tasks, x->tasks_len, x->asked, x->jobs, x->jobs_len, buffer, ROOM);
+    return plain_run_every_tick(x->board, x->windows, x->windows_len, x->tasks, x->tasks_len, x->asked, x->jobs, x->jobs_len, buffer, ROOM);
 }
 
 struct entry {
@@ -226,49 +226,66 @@ static double measure_proved(const struct entry *entry, const struct input *x)
     return a.best;
 }
 
-/* Making inputs */
+/* Making inputs: all windows are owner 0's, who is asked for, but where two teams are told of */
+
+static void add_owned(struct input *x, uint32_t start, uint32_t end, uint32_t owner)
+{
+    x->windows[x->windows_len++] = start;
+    x->windows[x->windows_len++] = end;
+    x->windows[x->windows_len++] = owner;
+}
+
+static void add_window(struct input *x, uint32_t start, uint32_t end)
+{
+    add_owned(x, start, end, 0);
+}
+
+/* the last window ends elsewhere */
+static void end_last(struct input *x, uint32_t end)
+{
+    x->windows[x->windows_len - 2] = end;
+}
 
 /* windows at even distances that supply half of the frame; frame at least 4 times count */
 static void spread_windows(struct input *x, uint32_t frame, uint32_t count)
 {
-    x->frame = frame;
-    x->windows_len = 2 * count;
-    for (uint32_t i = 0; i < count; i++) {
-        x->windows[2 * i] = i * (frame / count);
-        x->windows[2 * i + 1] = i * (frame / count) + frame / count / 2;
-    }
+    x->board.frame = frame;
+    for (uint32_t i = 0; i < count; i++)
+        add_window(x, i * (frame / count), i * (frame / count) + frame / count / 2);
 }
 
 /* windows at even distances that supply 15 of 16 ticks; the distance a multiple of 16 */
 static void dense_windows(struct input *x, uint32_t frame, uint32_t count)
 {
-    x->frame = frame;
-    x->windows_len = 2 * count;
-    for (uint32_t i = 0; i < count; i++) {
-        x->windows[2 * i] = i * (frame / count);
-        x->windows[2 * i + 1] = i * (frame / count) + frame / count / 16 * 15;
-    }
+    x->board.frame = frame;
+    for (uint32_t i = 0; i < count; i++)
+        add_window(x, i * (frame / count), i * (frame / count) + frame / count / 16 * 15);
 }
 
 /* windows of one tick at even distances: the least supply of a length is how often the distance goes into it */
 static void rare_windows(struct input *x, uint32_t frame, uint32_t count)
 {
-    x->frame = frame;
-    x->windows_len = 2 * count;
-    for (uint32_t i = 0; i < count; i++) {
-        x->windows[2 * i] = (i + 1) * (frame / count) - 1;
-        x->windows[2 * i + 1] = (i + 1) * (frame / count);
-    }
+    x->board.frame = frame;
+    for (uint32_t i = 0; i < count; i++)
+        add_window(x, (i + 1) * (frame / count) - 1, (i + 1) * (frame / count));
 }
 
 /* windows of one tick at 0, 2, 4 and on */
 static void early_windows(struct input *x, uint32_t frame, uint32_t count)
 {
-    x->frame = frame;
-    x->windows_len = 2 * count;
+    x->board.frame = frame;
+    for (uint32_t i = 0; i < count; i++)
+        add_window(x, 2 * i, 2 * i + 1);
+}
+
+/* two teams by turns, so many windows each, that leave no tick free: owner 1's of `ticks` ticks, who is asked for, end at even distances */
+static void shared_windows(struct input *x, uint32_t frame, uint32_t count, uint32_t ticks)
+{
+    x->board = (struct palikudyom_board){frame, 1};
     for (uint32_t i = 0; i < count; i++) {
-        x->windows[2 * i] = 2 * i;
-        x->windows[2 * i + 1] = 2 * i + 1;
+        uint32_t end = (i + 1) * (frame / count);
+        add_owned(x, i * (frame / count), end - ticks, 0);
+        add_owned(x, end - ticks, end, 1);
     }
 }
 
@@ -369,9 +386,9 @@ static void eight_tasks(struct input *x)
 
 static void small_table(struct input *x)
 {
-    x->frame = 8;
-    x->windows_len = 4;
-    memcpy(x->windows, (uint32_t[]){0, 2, 5, 7}, 4 * sizeof(uint32_t));
+    x->board.frame = 8;
+    add_window(x, 0, 2);
+    add_window(x, 5, 7);
 }
 
 static void small_least_supply(struct input *x)
@@ -464,35 +481,38 @@ static void worst_least_supply(struct input *x)
 static void worst_table(struct input *x)
 {
     early_table(x);
-    x->windows[127] = 65536;
+    end_last(x, 65536);
 }
 
 /* one tick in 1,024 is not supplied: the least supply of t ticks is t − 1 − (t − 1) / 1,024 */
 static void gapped_table(struct input *x)
 {
-    x->frame = 65536;
-    x->windows_len = 128;
-    for (uint32_t i = 0; i < 64; i++) {
-        x->windows[2 * i] = 1024 * i;
-        x->windows[2 * i + 1] = 1024 * i + 1023;
-    }
+    x->board.frame = 65536;
+    for (uint32_t i = 0; i < 64; i++)
+        add_window(x, 1024 * i, 1024 * i + 1023);
 }
 
 /*
- * Every length but 1, 1,025, 2,049 and on is the deadline of one job: the demand rises at 982,080 lengths, each time to the least supply, so that what
- * is known of that never suffices. Periods of 48 and 80 make 15 frames of the cycle.
+ * Every length but the first of each `distance`, a power of 2, is the deadline of one job. Periods of 48 and 80 make 15 frames of the cycle, and the
+ * deadlines from `twice` to 14 in 16 have two tasks each: 32 tasks in all.
  */
-static void worst_verdict(struct input *x)
+static void add_every_deadline(struct input *x, uint32_t distance, uint32_t twice)
 {
-    gapped_table(x);
-    for (uint32_t step = 32; step <= 1024; step *= 2)
+    for (uint32_t step = 32; step <= distance; step *= 2)
         add_deadlines(x, step / 2 + 1, step, 1);
-    for (uint32_t first = 2; first < 10; first++)
+    for (uint32_t first = 2; first < twice; first++)
         add_deadlines(x, first, 16, 1);
-    for (uint32_t first = 10; first < 15; first++)
+    for (uint32_t first = twice; first < 15; first++)
         add_deadlines(x, first, 16, 2);
     add_deadlines(x, 15, 16, 3);
     add_deadlines(x, 16, 16, 5);
+}
+
+/* the demand rises at 982,080 lengths, each time to the least supply, so that what is known of that never suffices */
+static void worst_verdict(struct input *x)
+{
+    gapped_table(x);
+    add_every_deadline(x, 1024, 10);
 }
 
 /* the same lengths, by other tasks: one of them has its only deadline at the cycle, where it asks for one tick too many */
@@ -514,13 +534,10 @@ static void latest_miss(struct input *x)
 /* one tick in 1,000 is not supplied, but the last window is longer: a length has all 64 of them where it leaves out the first 1,001 ticks of that */
 static void latest_start(struct input *x)
 {
-    x->frame = 65536;
-    x->windows_len = 128;
-    for (uint32_t i = 0; i < 64; i++) {
-        x->windows[2 * i] = 1000 * i;
-        x->windows[2 * i + 1] = 1000 * i + 999;
-    }
-    x->windows[127] = 65535;
+    x->board.frame = 65536;
+    for (uint32_t i = 0; i < 64; i++)
+        add_window(x, 1000 * i, 1000 * i + 999);
+    end_last(x, 65535);
     add_task(x, 64472, 65536, 64535);
 }
 
@@ -577,6 +594,93 @@ static void worst_replay(struct input *x)
     worst_run(x);
     x->jobs[x->jobs_len - 3] = LONGEST_RUN - 1 - x->jobs[x->jobs_len - 1];
     record_run(x);
+}
+
+/*
+ * Inputs of the table of two teams. Typical: owner 0, who is asked for, has the windows of the typical inputs above, and gets their answers. Worst: 32
+ * windows of each owner, by turns and touching; owner 1 is asked for.
+ */
+
+static void typical_shared_table(struct input *x)
+{
+    x->board.frame = 1000;
+    for (uint32_t i = 0; i < 8; i++) {
+        add_owned(x, 125 * i, 125 * i + 62, 0);
+        add_owned(x, 125 * i + 62, 125 * i + 125, 1);
+    }
+}
+
+static void typical_shared_least_supply(struct input *x)
+{
+    typical_shared_table(x);
+    x->asked = 2500;
+}
+
+static void typical_shared_verdict(struct input *x)
+{
+    typical_shared_table(x);
+    eight_tasks(x);
+}
+
+static void typical_shared_bound(struct input *x)
+{
+    typical_shared_verdict(x);
+    x->asked = 7;
+}
+
+static void typical_shared_run(struct input *x)
+{
+    typical_shared_verdict(x);
+    release_all(x, 10000);
+}
+
+/* windows of one tick from 0 on; as `early_table` for owner 1 */
+static void early_shared_table(struct input *x)
+{
+    x->board = (struct palikudyom_board){65536, 1};
+    for (uint32_t i = 0; i < 64; i++)
+        add_owned(x, i, i + 1, i % 2);
+}
+
+/* as `worst_table` for owner 1 */
+static void worst_shared_table(struct input *x)
+{
+    early_shared_table(x);
+    end_last(x, 65536);
+}
+
+static void worst_shared_least_supply(struct input *x)
+{
+    early_shared_table(x);
+    x->asked = 983039;
+}
+
+/* one tick in 2,048 is owner 0's: as `worst_verdict`, with 982,560 asks */
+static void worst_shared_verdict(struct input *x)
+{
+    shared_windows(x, 65536, 32, 2047);
+    add_every_deadline(x, 2048, 11);
+}
+
+static void worst_shared_margin(struct input *x)
+{
+    worst_shared_verdict(x);
+    x->asked = 983039;
+}
+
+/* one tick in 2,048 is owner 1's, and above the asked task one that takes a tick in 2,052: as `worst_bound` */
+static void worst_shared_bound(struct input *x)
+{
+    shared_windows(x, 65536, 32, 1);
+    add_task(x, 1, 2052, 2052);
+    add_task(x, 1, 1000000, 1000000);
+    x->asked = 1;
+}
+
+static void worst_shared_run(struct input *x)
+{
+    worst_shared_table(x);
+    many_jobs(x, 260);
 }
 
 /* Inputs of the growth table: a size to an input */
@@ -668,6 +772,17 @@ static void verdict_by_asks(struct input *x, uint32_t lengths)
     tight_tasks(x, lengths);
 }
 
+/* owner 0's windows stay, those of owner 1 come one by one from the frame's middle on */
+static void least_supply_by_others(struct input *x, uint32_t count)
+{
+    x->board.frame = 65536;
+    for (uint32_t i = 0; i < 8; i++)
+        add_window(x, 4096 * i, 4096 * i + 2048);
+    for (uint32_t i = 0; i < count; i++)
+        add_owned(x, 32768 + 512 * i, 32768 + 512 * i + 256, 1);
+    x->asked = 65535;
+}
+
 /* half of what is supplied is asked for: what is known suffices for nearly as long again */
 static void verdict_by_rises(struct input *x, uint32_t lengths)
 {
@@ -751,6 +866,24 @@ static const struct one_case CASES[] = {
     {&REPLAY, "worst", "P 65,536, 64 windows, 32 tasks, 8,192 records, 1,100,000 ticks", PALIKUDYOM_SAME, 0, worst_replay, 0},
 };
 
+static const struct one_case SHARED[] = {
+    {&LEAST_SUPPLY, "typical", "P 1,000, 8 windows of each, length 2,500", PALIKUDYOM_AMOUNT, 0, typical_shared_least_supply, 0},
+    {&LEAST_SUPPLY, "worst", "P 65,536, 32 windows of each, length 983,039", PALIKUDYOM_AMOUNT, 0, worst_shared_least_supply, 0},
+    {&CRITICAL, "typical", "P 1,000, 8 windows of each", PALIKUDYOM_AMOUNT, 0, typical_shared_table, 0},
+    {&CRITICAL, "worst", "P 65,536, 32 windows of each", PALIKUDYOM_AMOUNT, 0, worst_shared_table, 0},
+    {&DELAY, "typical", "P 1,000, 8 windows of each", PALIKUDYOM_DELAY, 0, typical_shared_table, 0},
+    {&DELAY, "worst", "P 65,536, 32 windows of each", PALIKUDYOM_DELAY, 0, worst_shared_table, 0},
+    {&OUTAGE, "typical", "P 1,000, 8 windows of each", PALIKUDYOM_AMOUNT, 63, typical_shared_table, 0},
+    {&OUTAGE, "worst", "P 65,536, 32 windows of each", PALIKUDYOM_AMOUNT, 65473, early_shared_table, 0},
+    {&MARGIN, "worst", "P 65,536, 32 windows of each, 32 tasks, length 983,039", PALIKUDYOM_MARGIN, 0, worst_shared_margin, 0},
+    {&VERDICT, "typical", "P 1,000, 8 windows of each, 8 tasks, meets, H 10,000", PALIKUDYOM_MEETS, 10000, typical_shared_verdict, 0},
+    {&VERDICT, "worst", "P 65,536, 32 windows of each, 32 tasks, meets, H 983,040, 982,560 asks", PALIKUDYOM_MEETS, 983040, worst_shared_verdict, 0},
+    {&BOUND, "typical", "P 1,000, 8 windows of each, the lowest of 8 tasks", PALIKUDYOM_BOUND, 0, typical_shared_bound, 0},
+    {&BOUND, "worst", "P 65,536, 32 windows of each, 2 tasks, D 1,000,000, no bound, 737,944 asks", PALIKUDYOM_NO_BOUND, 0, worst_shared_bound, 0},
+    {&RUN, "typical", "P 1,000, 8 windows of each, 8 tasks, 36 jobs, 10,000 ticks", PALIKUDYOM_MET, 0, typical_shared_run, 0},
+    {&RUN, "worst", "P 65,536, 32 windows of each, 32 tasks, 4,096 jobs, 1,100,000 ticks", PALIKUDYOM_MET, 0, worst_shared_run, 0},
+};
+
 static const struct one_case BEFORE[] = {
     {&LEAST_SUPPLY_BY_TICKS, "small", "", PALIKUDYOM_AMOUNT, 0, small_least_supply, 0},
     {&LEAST_SUPPLY_BY_TICKS, "typical", "", PALIKUDYOM_AMOUNT, 0, typical_least_supply, 0},
@@ -787,6 +920,7 @@ static const struct growth GROWTHS[] = {
     {&BOUND, "P", "64 windows, 2 tasks, D 100,000, 50,000 asks", PALIKUDYOM_NO_BOUND, bound_by_frame, {1024, 8192, 65536}},
     {&RUN, "P", "8 windows, 1 task, 50,000 ticks", PALIKUDYOM_MET, run_by_frame, {1024, 8192, 65536}},
     {&LEAST_SUPPLY, "windows", "P 65,536, length 65,535", PALIKUDYOM_AMOUNT, least_supply_by_windows, {1, 8, 64}},
+    {&LEAST_SUPPLY, "the other team's windows", "P 65,536, 8 windows, length 65,535", PALIKUDYOM_AMOUNT, least_supply_by_others, {1, 8, 56}},
     {&CRITICAL, "windows", "P 4,096", PALIKUDYOM_AMOUNT, table_by_windows, {1, 8, 64}},
     {&DELAY, "windows", "P 4,096", PALIKUDYOM_DELAY, table_by_windows, {1, 8, 64}},
     {&OUTAGE, "windows", "P 4,096", PALIKUDYOM_AMOUNT, table_by_windows, {1, 8, 64}},
@@ -955,6 +1089,10 @@ int main(void)
     struct pair times[LENGTH(CASES)];
     for (size_t i = 0; i < LENGTH(CASES); i++)
         times[i] = print_case(&CASES[i]);
+    printf("\nA table that two teams share, asked for one of them:\n\n");
+    printf("| entry | input | proved | plain C | ratio |\n|---|---|---:|---:|---:|\n");
+    for (size_t i = 0; i < LENGTH(SHARED); i++)
+        print_case(&SHARED[i]);
     printf("\nThe least supply beside that of before, tick by tick in plain C:\n\n");
     printf("| entry | input | before | proved | times as fast |\n|---|---|---:|---:|---:|\n");
     double gained = 0;

@@ -14,6 +14,7 @@
 enum {
     LONGEST_FRAME = 65536,
     MOST_WINDOWS = 64,
+    TEAMS = 2,
     MOST_TASKS = 32,
     LARGEST = 1000000,
     LONGEST_CYCLE = 1000000,
@@ -72,7 +73,7 @@ static struct palikudyom_answer refused(struct checked c)
     return two(PALIKUDYOM_REFUSED, c.number, c.place);
 }
 
-/* Tables: window.rt, board.rt */
+/* Tables: window.rt, board.rt. Windows are in pairs: start and end */
 
 static uint32_t start_of(struct list windows, size_t i)
 {
@@ -103,9 +104,10 @@ static bool window_legal(uint32_t frame, struct list windows, size_t i)
     return end_of(windows, i - 1) < start_of(windows, i);
 }
 
-static struct checked check_window_list(struct list windows)
+/* of windows with `each` numbers */
+static struct checked check_window_list(struct list windows, size_t each)
 {
-    if (windows.len % 2 != 0 || windows.len == 0 || 2 * MOST_WINDOWS < windows.len)
+    if (windows.len % each != 0 || windows.len == 0 || each * MOST_WINDOWS < windows.len)
         return bad(1, 0);
     return FINE;
 }
@@ -126,10 +128,115 @@ static struct checked check_windows(uint32_t frame, struct list windows)
 
 static struct checked check_table(uint32_t frame, struct list windows)
 {
-    struct checked list = check_window_list(windows);
+    struct checked list = check_window_list(windows, 2);
     struct checked board = check_frame(frame);
     struct checked each = check_windows(frame, windows);
     return or_else(list, or_else(board, each));
+}
+
+/* Tables: shared.rt. A table is in threes: start, end and owner */
+
+static uint32_t owned_start_of(struct list table, size_t i)
+{
+    return table.at[3 * i];
+}
+
+static uint32_t owned_end_of(struct list table, size_t i)
+{
+    return table.at[3 * i + 1];
+}
+
+static uint32_t owner_of(struct list table, size_t i)
+{
+    return table.at[3 * i + 2];
+}
+
+/* the window starts after the previous end, or there, and is another owner's */
+static bool follows(struct list table, size_t i)
+{
+    if (owned_end_of(table, i - 1) == owned_start_of(table, i))
+        return owner_of(table, i - 1) != owner_of(table, i);
+    return owned_end_of(table, i - 1) < owned_start_of(table, i);
+}
+
+static bool owned_legal(uint32_t frame, struct list table, size_t i)
+{
+    if (owned_end_of(table, i) <= owned_start_of(table, i) || frame < owned_end_of(table, i))
+        return false;
+    if (TEAMS <= owner_of(table, i))
+        return false;
+    if (i == 0)
+        return true;
+    return follows(table, i);
+}
+
+static struct checked check_owned(uint32_t frame, struct list table)
+{
+    size_t count = table.len / 3;
+    for (size_t i = 0; i < count; i++)
+        if (!owned_legal(frame, table, i))
+            return bad(3, i);
+    return FINE;
+}
+
+static struct checked check_whole(uint32_t frame, struct list table)
+{
+    struct checked list = check_window_list(table, 3);
+    struct checked board = check_frame(frame);
+    struct checked each = check_owned(frame, table);
+    return or_else(list, or_else(board, each));
+}
+
+/* how many numbers the owner's windows have, in pairs */
+static size_t count_own(uint32_t owner, struct list table)
+{
+    size_t count = table.len / 3;
+    size_t numbers = 0;
+    for (size_t i = 0; i < count; i++)
+        if (owner_of(table, i) == owner)
+            numbers += 2;
+    return numbers;
+}
+
+static struct checked check_owner(uint32_t owner, struct list table)
+{
+    return count_own(owner, table) == 0 ? bad(1, 0) : FINE;
+}
+
+static struct checked check_shared(struct palikudyom_board board, struct list table)
+{
+    struct checked whole = check_whole(board.frame, table);
+    struct checked owner = check_owner(board.owner, table);
+    return or_else(whole, owner);
+}
+
+static void gather(uint32_t owner, struct list table, uint32_t *out)
+{
+    size_t count = table.len / 3;
+    size_t at = 0;
+    for (size_t i = 0; i < count; i++)
+        if (owner_of(table, i) == owner) {
+            out[at] = owned_start_of(table, i);
+            out[at + 1] = owned_end_of(table, i);
+            at += 2;
+        }
+}
+
+/* the asked owner's windows, in pairs; or the refusal */
+struct own {
+    struct checked table;
+    struct list windows;
+};
+
+/* every entry's first step; `room` is for MOST_WINDOWS pairs and is cleared before it is filled, as that of the proved code */
+static struct own own_windows(struct palikudyom_board board, struct list table, uint32_t *room)
+{
+    struct checked shared = check_shared(board, table);
+    if (is_bad(shared))
+        return (struct own){shared, {room, 0}};
+    size_t numbers = count_own(board.owner, table);
+    gather(board.owner, table, room);
+    return (struct own){FINE, {room, numbers}};
 }
 
 /* Tables: cursor.rt */
@@ -203,10 +310,10 @@ static struct checked check_tasks(struct list tasks)
     return or_else(list, each);
 }
 
-static struct checked check_group(uint32_t frame, struct list windows, struct list tasks)
+static struct checked check_group(struct palikudyom_board board, struct list table, struct list tasks)
 {
-    struct checked table = check_table(frame, windows);
-    return or_else(table, check_tasks(tasks));
+    struct checked shared = check_shared(board, table);
+    return or_else(shared, check_tasks(tasks));
 }
 
 static struct checked check_length(uint32_t length)
@@ -288,20 +395,30 @@ static uint32_t least_of(uint32_t frame, struct list windows, uint32_t length)
     return length / frame * rest.whole + rest.supply;
 }
 
-static struct palikudyom_answer least_supply(uint32_t frame, struct list windows, uint32_t length)
+static struct palikudyom_answer least_on(uint32_t frame, struct list windows, uint32_t length)
 {
-    struct checked table = check_table(frame, windows);
-    if (is_bad(table))
-        return refused(table);
     struct checked asked = check_length(length);
     if (is_bad(asked))
         return refused(asked);
     return one(PALIKUDYOM_AMOUNT, least_of(frame, windows, length));
 }
 
-struct palikudyom_answer plain_least_supply(uint32_t frame, const uint32_t *at, size_t len, uint32_t length)
+/* of pairs, as one owner has them */
+static struct palikudyom_answer least_in(uint32_t frame, struct list windows, uint32_t length)
 {
-    return least_supply(frame, (struct list){at, len}, length);
+    struct checked table = check_table(frame, windows);
+    if (is_bad(table))
+        return refused(table);
+    return least_on(frame, windows, length);
+}
+
+struct palikudyom_answer plain_least_supply(struct palikudyom_board board, const uint32_t *at, size_t len, uint32_t length)
+{
+    uint32_t room[2 * MOST_WINDOWS] = {0};
+    struct own own = own_windows(board, (struct list){at, len}, room);
+    if (is_bad(own.table))
+        return refused(own.table);
+    return least_on(board.frame, own.windows, length);
 }
 
 /* The least supply as it was before request 3: a tick is looked for in all windows, and every start of a frame is tried */
@@ -348,14 +465,16 @@ static uint32_t least_over_starts(uint32_t frame, struct list windows, uint32_t 
     return least;
 }
 
-struct palikudyom_answer plain_least_supply_by_ticks(uint32_t frame, const uint32_t *at, size_t len, uint32_t length)
+struct palikudyom_answer plain_least_supply_by_ticks(struct palikudyom_board board, const uint32_t *at, size_t len, uint32_t length)
 {
-    struct list windows = {at, len};
-    struct checked c = or_else(check_table(frame, windows), check_length(length));
+    uint32_t frame = board.frame;
+    uint32_t room[2 * MOST_WINDOWS] = {0};
+    struct own own = own_windows(board, (struct list){at, len}, room);
+    struct checked c = or_else(own.table, check_length(length));
     if (is_bad(c))
         return refused(c);
-    uint32_t whole = supply_from(frame, windows, 0, frame);
-    uint32_t rest = least_over_starts(frame, windows, length % frame);
+    uint32_t whole = supply_from(frame, own.windows, 0, frame);
+    uint32_t rest = least_over_starts(frame, own.windows, length % frame);
     return one(PALIKUDYOM_AMOUNT, length / frame * whole + rest);
 }
 
@@ -405,14 +524,15 @@ static void write_edges(uint32_t frame, const uint8_t *marks, uint32_t *out)
 }
 
 /* the marks are cleared before they are set, as those of the proved code */
-struct palikudyom_answer plain_critical(uint32_t frame, const uint32_t *at, size_t len, uint32_t *out, size_t out_len)
+struct palikudyom_answer plain_critical(struct palikudyom_board board, const uint32_t *at, size_t len, uint32_t *out, size_t out_len)
 {
-    struct list windows = {at, len};
-    struct checked table = check_table(frame, windows);
-    if (is_bad(table))
-        return refused(table);
+    uint32_t frame = board.frame;
+    uint32_t room[2 * MOST_WINDOWS] = {0};
+    struct own own = own_windows(board, (struct list){at, len}, room);
+    if (is_bad(own.table))
+        return refused(own.table);
     uint8_t marks[LONGEST_FRAME] = {0};
-    mark_rises(frame, windows, marks);
+    mark_rises(frame, own.windows, marks);
     uint64_t numbers = count_edges(frame, marks);
     if (out_len < numbers)
         return refused(bad(8, numbers));
@@ -437,14 +557,14 @@ static uint64_t delay_of(uint32_t frame, struct list windows, uint32_t whole)
     return most;
 }
 
-struct palikudyom_answer plain_delay(uint32_t frame, const uint32_t *at, size_t len)
+struct palikudyom_answer plain_delay(struct palikudyom_board board, const uint32_t *at, size_t len)
 {
-    struct list windows = {at, len};
-    struct checked table = check_table(frame, windows);
-    if (is_bad(table))
-        return refused(table);
-    uint32_t per_frame = least_at_ends(frame, windows, 0).whole;
-    return two(PALIKUDYOM_DELAY, delay_of(frame, windows, per_frame), per_frame);
+    uint32_t room[2 * MOST_WINDOWS] = {0};
+    struct own own = own_windows(board, (struct list){at, len}, room);
+    if (is_bad(own.table))
+        return refused(own.table);
+    uint32_t per_frame = least_at_ends(board.frame, own.windows, 0).whole;
+    return two(PALIKUDYOM_DELAY, delay_of(board.frame, own.windows, per_frame), per_frame);
 }
 
 static uint32_t larger(uint32_t a, uint32_t b)
@@ -460,20 +580,20 @@ static uint32_t outage_of(uint32_t frame, struct list windows)
     return larger(most, frame - windows.at[windows.len - 1] + windows.at[0]);
 }
 
-struct palikudyom_answer plain_outage(uint32_t frame, const uint32_t *at, size_t len)
+struct palikudyom_answer plain_outage(struct palikudyom_board board, const uint32_t *at, size_t len)
 {
-    struct list windows = {at, len};
-    struct checked table = check_table(frame, windows);
-    if (is_bad(table))
-        return refused(table);
-    return one(PALIKUDYOM_AMOUNT, outage_of(frame, windows));
+    uint32_t room[2 * MOST_WINDOWS] = {0};
+    struct own own = own_windows(board, (struct list){at, len}, room);
+    if (is_bad(own.table))
+        return refused(own.table);
+    return one(PALIKUDYOM_AMOUNT, outage_of(board.frame, own.windows));
 }
 
-/* The checker's least supply: least.rt. The entry is asked, so the table is checked at each ask. */
+/* The checker's least supply: least.rt. It is asked of the owner's windows, which are gathered once and checked at each ask. */
 
 static uint32_t least_asked(uint32_t frame, struct list windows, uint32_t length)
 {
-    struct palikudyom_answer least = least_supply(frame, windows, length);
+    struct palikudyom_answer least = least_in(frame, windows, length);
     return least.code == PALIKUDYOM_AMOUNT ? least.a : 0;
 }
 
@@ -496,14 +616,18 @@ static uint64_t demand_of(struct list tasks, uint32_t length)
     return sum;
 }
 
-struct palikudyom_answer plain_margin(uint32_t frame, const uint32_t *at, size_t len, const uint32_t *tasks_at, size_t tasks_len, uint32_t length)
+struct palikudyom_answer plain_margin(struct palikudyom_board board, const uint32_t *at, size_t len, const uint32_t *tasks_at, size_t tasks_len,
+                                      uint32_t length)
 {
-    struct list windows = {at, len};
     struct list tasks = {tasks_at, tasks_len};
-    struct checked c = or_else(check_group(frame, windows, tasks), check_length(length));
+    uint32_t room[2 * MOST_WINDOWS] = {0};
+    struct own own = own_windows(board, (struct list){at, len}, room);
+    if (is_bad(own.table))
+        return refused(own.table);
+    struct checked c = or_else(check_tasks(tasks), check_length(length));
     if (is_bad(c))
         return refused(c);
-    uint64_t supply = least_asked(frame, windows, length);
+    uint64_t supply = least_asked(board.frame, own.windows, length);
     uint64_t demand = demand_of(tasks, length);
     return supply < demand ? one(PALIKUDYOM_BELOW, demand - supply) : one(PALIKUDYOM_MARGIN, supply - demand);
 }
@@ -636,17 +760,20 @@ static struct palikudyom_answer search(uint32_t frame, struct list windows, stru
     return one(PALIKUDYOM_MEETS, cycle);
 }
 
-struct palikudyom_answer plain_verdict(uint32_t frame, const uint32_t *at, size_t len, const uint32_t *tasks_at, size_t tasks_len)
+struct palikudyom_answer plain_verdict(struct palikudyom_board board, const uint32_t *at, size_t len, const uint32_t *tasks_at, size_t tasks_len)
 {
-    struct list windows = {at, len};
     struct list tasks = {tasks_at, tasks_len};
-    struct checked group = check_group(frame, windows, tasks);
+    uint32_t room[2 * MOST_WINDOWS] = {0};
+    struct own own = own_windows(board, (struct list){at, len}, room);
+    if (is_bad(own.table))
+        return refused(own.table);
+    struct checked group = check_tasks(tasks);
     if (is_bad(group))
         return refused(group);
-    uint32_t cycle = cycle_of(frame, tasks);
+    uint32_t cycle = cycle_of(board.frame, tasks);
     if (cycle == 0)
         return refused(bad(6, 0));
-    return search(frame, windows, tasks, cycle);
+    return search(board.frame, own.windows, tasks, cycle);
 }
 
 /* The response bound: bound.rt */
@@ -679,16 +806,20 @@ static struct palikudyom_answer response_of(uint32_t frame, struct list windows,
     return one(PALIKUDYOM_NO_BOUND, 0);
 }
 
-struct palikudyom_answer plain_bound(uint32_t frame, const uint32_t *at, size_t len, const uint32_t *tasks_at, size_t tasks_len, uint32_t index)
+struct palikudyom_answer plain_bound(struct palikudyom_board board, const uint32_t *at, size_t len, const uint32_t *tasks_at, size_t tasks_len,
+                                     uint32_t index)
 {
-    struct list windows = {at, len};
     struct list tasks = {tasks_at, tasks_len};
-    struct checked group = check_group(frame, windows, tasks);
+    uint32_t room[2 * MOST_WINDOWS] = {0};
+    struct own own = own_windows(board, (struct list){at, len}, room);
+    if (is_bad(own.table))
+        return refused(own.table);
+    struct checked group = check_tasks(tasks);
     if (is_bad(group))
         return refused(group);
     if (tasks.len / 3 <= index)
         return refused(bad(7, 0));
-    return response_of(frame, windows, tasks, index);
+    return response_of(board.frame, own.windows, tasks, index);
 }
 
 /* The tick machine: job.rt, check.rt */
@@ -768,11 +899,9 @@ static struct checked check_jobs(struct list tasks, uint32_t ticks, struct list 
     return check_each_job(tasks, ticks, jobs);
 }
 
-static struct checked check_run(uint32_t frame, struct list windows, struct list tasks, uint32_t ticks, struct list jobs, size_t room)
+/* what comes after the table's checks */
+static struct checked check_run(struct list tasks, uint32_t ticks, struct list jobs, size_t room)
 {
-    struct checked table = check_table(frame, windows);
-    if (is_bad(table))
-        return table;
     struct checked list = check_jobs(tasks, ticks, jobs);
     if (is_bad(list))
         return list;
@@ -917,24 +1046,30 @@ __attribute__((always_inline)) static inline struct palikudyom_answer run_legal(
     return one(PALIKUDYOM_MET, s.backlog);
 }
 
-struct palikudyom_answer plain_run(uint32_t frame, const uint32_t *at, size_t len, const uint32_t *tasks_at, size_t tasks_len, uint32_t ticks,
+struct palikudyom_answer plain_run(struct palikudyom_board board, const uint32_t *at, size_t len, const uint32_t *tasks_at, size_t tasks_len, uint32_t ticks,
                                    const uint32_t *jobs_at, size_t jobs_len, uint32_t *counts, size_t counts_len)
 {
-    struct list windows = {at, len};
     struct list tasks = {tasks_at, tasks_len};
     struct list jobs = {jobs_at, jobs_len};
-    struct checked c = check_run(frame, windows, tasks, ticks, jobs, counts_len);
-    return is_bad(c) ? refused(c) : run_legal(false, frame, windows, tasks, ticks, jobs, counts);
+    uint32_t room[2 * MOST_WINDOWS] = {0};
+    struct own own = own_windows(board, (struct list){at, len}, room);
+    if (is_bad(own.table))
+        return refused(own.table);
+    struct checked c = check_run(tasks, ticks, jobs, counts_len);
+    return is_bad(c) ? refused(c) : run_legal(false, board.frame, own.windows, tasks, ticks, jobs, counts);
 }
 
-struct palikudyom_answer plain_run_every_tick(uint32_t frame, const uint32_t *at, size_t len, const uint32_t *tasks_at, size_t tasks_len,
+struct palikudyom_answer plain_run_every_tick(struct palikudyom_board board, const uint32_t *at, size_t len, const uint32_t *tasks_at, size_t tasks_len,
                                               uint32_t ticks, const uint32_t *jobs_at, size_t jobs_len, uint32_t *counts, size_t counts_len)
 {
-    struct list windows = {at, len};
     struct list tasks = {tasks_at, tasks_len};
     struct list jobs = {jobs_at, jobs_len};
-    struct checked c = check_run(frame, windows, tasks, ticks, jobs, counts_len);
-    return is_bad(c) ? refused(c) : run_legal(true, frame, windows, tasks, ticks, jobs, counts);
+    uint32_t room[2 * MOST_WINDOWS] = {0};
+    struct own own = own_windows(board, (struct list){at, len}, room);
+    if (is_bad(own.table))
+        return refused(own.table);
+    struct checked c = check_run(tasks, ticks, jobs, counts_len);
+    return is_bad(c) ? refused(c) : run_legal(true, board.frame, own.windows, tasks, ticks, jobs, counts);
 }
 
 /* Traces: number.rt, read.rt */
@@ -1241,16 +1376,15 @@ static struct palikudyom_answer named(struct palikudyom_answer ran, uint32_t las
     return by_difference(c);
 }
 
-struct palikudyom_answer plain_replay(uint32_t frame, const uint32_t *at, size_t len, const uint32_t *tasks_at, size_t tasks_len,
+struct palikudyom_answer plain_replay(struct palikudyom_board board, const uint32_t *at, size_t len, const uint32_t *tasks_at, size_t tasks_len,
                                       const uint8_t *trace_at, size_t trace_len)
 {
-    struct list windows = {at, len};
     struct list tasks = {tasks_at, tasks_len};
     struct bytes trace = {trace_at, trace_len};
     struct extent extent = survey(trace);
     if (extent.bad)
         return refused(bad(9, extent.offset));
-    struct checked c = or_else(check_group(frame, windows, tasks), check_extent(extent.ticks, extent.releases));
+    struct checked c = or_else(check_group(board, (struct list){at, len}, tasks), check_extent(extent.ticks, extent.releases));
     if (is_bad(c))
         return refused(c);
     uint32_t numbers[3 * MOST_JOBS] = {0};
@@ -1260,7 +1394,7 @@ struct palikudyom_answer plain_replay(uint32_t frame, const uint32_t *at, size_t
     if (is_bad(c))
         return refused(c);
     uint32_t counts[MOST_JOBS] = {0};
-    struct palikudyom_answer ran = plain_run(frame, at, len, tasks_at, tasks_len, extent.ticks, jobs.at, jobs.len, counts, MOST_JOBS);
+    struct palikudyom_answer ran = plain_run(board, at, len, tasks_at, tasks_len, extent.ticks, jobs.at, jobs.len, counts, MOST_JOBS);
     uint32_t last = extent.ticks == 0 ? 0 : extent.ticks - 1;
     return named(ran, last, compare(trace, jobs, counts, last));
 }

@@ -4,31 +4,33 @@
 
 #include "palikudyom.h"
 
-struct palikudyom_answer plain_least_supply(uint32_t frame, const uint32_t *windows, size_t windows_len, uint32_t length);
+struct palikudyom_answer plain_least_supply(struct palikudyom_board board, const uint32_t *windows, size_t windows_len, uint32_t length);
 
-struct palikudyom_answer plain_critical(uint32_t frame, const uint32_t *windows, size_t windows_len, uint32_t *out, size_t out_len);
+struct palikudyom_answer plain_critical(struct palikudyom_board board, const uint32_t *windows, size_t windows_len, uint32_t *out, size_t out_len);
 
-struct palikudyom_answer plain_delay(uint32_t frame, const uint32_t *windows, size_t windows_len);
-struct palikudyom_answer plain_outage(uint32_t frame, const uint32_t *windows, size_t windows_len);
+struct palikudyom_answer plain_delay(struct palikudyom_board board, const uint32_t *windows, size_t windows_len);
+struct palikudyom_answer plain_outage(struct palikudyom_board board, const uint32_t *windows, size_t windows_len);
 
-struct palikudyom_answer plain_margin(uint32_t frame, const uint32_t *windows, size_t windows_len, const uint32_t *tasks, size_t tasks_len, uint32_t length);
+struct palikudyom_answer plain_margin(struct palikudyom_board board, const uint32_t *windows, size_t windows_len, const uint32_t *tasks, size_t tasks_len,
+                                      uint32_t length);
 
-struct palikudyom_answer plain_verdict(uint32_t frame, const uint32_t *windows, size_t windows_len, const uint32_t *tasks, size_t tasks_len);
+struct palikudyom_answer plain_verdict(struct palikudyom_board board, const uint32_t *windows, size_t windows_len, const uint32_t *tasks, size_t tasks_len);
 
-struct palikudyom_answer plain_bound(uint32_t frame, const uint32_t *windows, size_t windows_len, const uint32_t *tasks, size_t tasks_len, uint32_t index);
+struct palikudyom_answer plain_bound(struct palikudyom_board board, const uint32_t *windows, size_t windows_len, const uint32_t *tasks, size_t tasks_len,
+                                     uint32_t index);
 
-struct palikudyom_answer plain_run(uint32_t frame, const uint32_t *windows, size_t windows_len, const uint32_t *tasks, size_t tasks_len, uint32_t ticks,
-                                   const uint32_t *jobs, size_t jobs_len, uint32_t *counts, size_t counts_len);
+struct palikudyom_answer plain_run(struct palikudyom_board board, const uint32_t *windows, size_t windows_len, const uint32_t *tasks, size_t tasks_len,
+                                   uint32_t ticks, const uint32_t *jobs, size_t jobs_len, uint32_t *counts, size_t counts_len);
 
-struct palikudyom_answer plain_replay(uint32_t frame, const uint32_t *windows, size_t windows_len, const uint32_t *tasks, size_t tasks_len,
+struct palikudyom_answer plain_replay(struct palikudyom_board board, const uint32_t *windows, size_t windows_len, const uint32_t *tasks, size_t tasks_len,
                                       const uint8_t *trace, size_t trace_len);
 
 /* The least supply as it was before request 3: every start of a frame is tried, and each tick is looked for in all windows. */
-struct palikudyom_answer plain_least_supply_by_ticks(uint32_t frame, const uint32_t *windows, size_t windows_len, uint32_t length);
+struct palikudyom_answer plain_least_supply_by_ticks(struct palikudyom_board board, const uint32_t *windows, size_t windows_len, uint32_t length);
 
 /* The same run, but late jobs are looked for in all 32 places at every tick. */
-struct palikudyom_answer plain_run_every_tick(uint32_t frame, const uint32_t *windows, size_t windows_len, const uint32_t *tasks, size_t tasks_len,
-                                                uint32_t ticks, const uint32_t *jobs, size_t jobs_len, uint32_t *counts, size_t counts_len);
+struct palikudyom_answer plain_run_every_tick(struct palikudyom_board board, const uint32_t *windows, size_t windows_len, const uint32_t *tasks,
+                                              size_t tasks_len, uint32_t ticks, const uint32_t *jobs, size_t jobs_len, uint32_t *counts, size_t counts_len);
 
 /*
  * The last bytes of a file's code, in a line of 64 of their own. The linker goes on with the next file, after bench.c with plain.c and after that with
