@@ -7,14 +7,16 @@ use lib.ListN.{getD}
 use Rattle.scope.specs.Numbers.{piecesFrom, pieces}
 use Rattle.scope.specs.Limits.{teams}
 use Rattle.scope.specs.Windows.{suppliedBy}
-use Rattle.scope.specs.Tasks.{tasksOf}
+use Rattle.scope.specs.Ticks.{leastSupply}
+use Rattle.scope.specs.Tasks.{tasksOf, demand}
+use Rattle.scope.specs.Verdict as Verdicts
 use Rattle.scope.specs.Jobs.{jobsOf, deadline}
 use Rattle.scope.specs.Run.{countOf}
-use Rattle.scope.specs.Answers.{Fault.fine, Answer.refused, _orElse_, tableFault, groupFault, jobListFault, jobFault, roomFault, verdictAnswer, runFault}
+use Rattle.scope.specs.Answers.{Fault.fine, Answer.given, Answer.refused, _orElse_, tableFault, groupFault, jobListFault, jobFault, roomFault, verdictAnswer, runFault}
 use Rattle.scope.specs.Answers.{runAnswer}
 use Rattle.scope.specs.Shared.{windowsFor, sharedFault, askedFor, verdictFor, runFor, runOutFor}
 use Rattle.scope.specs.Demands.{Under, Way, Served}
-use Rattle.scope.specs.Examples.{X, XShared}
+use Rattle.scope.specs.Examples.{Reply.aVerdict, X, XShared, reply, table, examples, row}
 use Rattle.scope.specs.Computing.{everything}
 use Rattle.theory.specs.Answers.{orElse-fine, unless-given, run-given}
 use Rattle.theory.specs.Shared.{asked-fine}
@@ -27,7 +29,7 @@ use Rattle.tables.specs.Determined.{verdict-determined}
 use Rattle.machine.specs.declared.run.Ran.{Ran}
 use Rattle.machine.specs.declared.run.Ran.the-variants.{Met}
 use Rattle.machine.specs.Told.{toldRan}
-use Rattle.machine.specs.Demands.{meets-runs, meets-every, miss-starves}
+use Rattle.machine.specs.Demands.{verdict-meets, meets-runs, meets-every, miss-starves}
 
 -- the owner whose windows are X, and beside it another, who has the rest of the frame
 abbrev board : Board
@@ -75,3 +77,34 @@ unfolding verdictFor windowsFor piecesFrom pieces
 turned-away v p =
     let missed = p ∙ as-x refused (λ windows. verdictAnswer (boardOf board) windows w6) ∙ w6-misses in
     miss-starves board XShared w6 v p 6 2 3 2 (verdict-determined v (Miss 6 2 3 2) missed)
+
+-- ---- the other owner, whose windows are (2,5) and (7,8)
+
+abbrev second : Board
+second = record { frame = 8; owner = 1 }
+
+abbrev w5 : List ℕ
+w5 = 1 ∷ 4 ∷ 3 ∷ []
+
+second-meets : verdictFor (boardOf second) XShared w5 ≡ given (Verdicts.meets 8)
+unfolding reply table
+second-meets =
+    let e : aVerdict (verdictFor (boardOf second) XShared w5) ≡ aVerdict (given (Verdicts.meets 8)) = row table examples "W5's task as owner 1's" in cc
+
+second-misses : verdictFor (boardOf second) XShared w6 ≡ given (Verdicts.miss 6 4 3 2)
+unfolding reply table
+second-misses =
+    let e : aVerdict (verdictFor (boardOf second) XShared w6) ≡ aVerdict (given (Verdicts.miss 6 4 3 2)) = row table examples "W6's tasks as owner 1's" in cc
+
+-- W5's task, which misses on X, is let in, and its demand is carried at every length
+second-carried : (v : Verdict) → toldVerdict v ≡ verdictFor (boardOf second) XShared w5 →
+    (t : ℕ) → demand (tasksOf w5) t ≤ leastSupply (suppliedBy (boardOf second) (2 ∷ 5 ∷ 7 ∷ 8 ∷ [])) 8 t
+unfolding windowsFor piecesFrom pieces
+second-carried v p =
+    verdict-meets second XShared w5 v p (Verdicts.meets 8) (p ∙ second-meets) 8 .0 (verdict-determined v (Meets 8) (p ∙ second-meets)) .1
+
+-- W6's are turned away at a start of its own, and no way serves their full jobs from there
+second-starves : (v : Verdict) → toldVerdict v ≡ verdictFor (boardOf second) XShared w6 → (w : Way) →
+    Served (suppliedBy (boardOf second) (2 ∷ 5 ∷ 7 ∷ 8 ∷ [])) (tasksOf w6) w 4 6 → ⊥
+unfolding windowsFor piecesFrom pieces
+second-starves v p = miss-starves second XShared w6 v p 6 4 3 2 (verdict-determined v (Miss 6 4 3 2) (p ∙ second-misses))
