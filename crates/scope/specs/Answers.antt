@@ -7,7 +7,7 @@ use lib.Dec.{leb, ltb, eqb}
 use lib.IntN.{ℤ}
 use lib.ListN.{length}
 use Rattle.scope.specs.Numbers.{badCount, written}
-use Rattle.scope.specs.Limits.{mostFrame, mostWindows, mostTasks, mostCycle, mostLength, mostTicks, mostJobs}
+use Rattle.scope.specs.Limits.{mostFrame, mostShortest, mostWindows, mostTasks, mostCycle, mostLength, mostTicks, mostJobs}
 use Rattle.scope.specs.Ticks.{perFrame, leastSupply}
 use Rattle.scope.specs.Windows.{Board, Window, windowsOf, suppliedBy, badWindow}
 use Rattle.scope.specs.Partition.{critical, delay, outage}
@@ -104,6 +104,10 @@ jobListFault n js = faultIf (badCount 3 mostJobs js || ltb mostTicks n) 10 0
 unfoldable pub jobFault : List Task → ℕ → List Job → Fault
 jobFault ts n js = faultAt 11 (badJob ts n js)
 
+-- document 02, 12: the shortest allowed window outside 1 to 65,536, at a place that no window has
+unfoldable pub shortestFault : Board → Fault
+shortestFault b = faultIf (eqb (b .shortest) 0 || ltb mostShortest (b .shortest)) 12 64
+
 -- the checks of a table, 1 2 3, and of a group, 4 5, as lists of numbers
 unfoldable pub tableFault : Board → List ℕ → Fault
 tableFault b ws = windowListFault ws orElse frameFault b orElse windowFault b (windowsOf ws)
@@ -115,7 +119,7 @@ groupFault ts = taskListFault ts orElse taskFault (tasksOf ts)
 
 -- which owners there are is judged with the windows
 unfoldable pub boardAnswer : Board → Answer Board
-boardAnswer b = unless (frameFault b) b
+boardAnswer b = unless (frameFault b orElse shortestFault b) b
 
 unfoldable pub windowAnswer : Board → Window → Answer Window
 windowAnswer b w = unless (windowFault b (w ∷ [])) w

@@ -11,21 +11,22 @@ use Rattle.scope.specs.Jobs.{jobLegal, badJob}
 use Rattle.scope.specs.Machine.{pending, tick, workLeft}
 use Rattle.scope.specs.Run.{late, outcome, backlogIn, backlog, countOf, ran, counts}
 use Rattle.scope.specs.Answers.{windowListFault, frameFault, windowFault, tableFault, lengthFault, roomFault, criticalFault, taskListFault, taskFault}
-use Rattle.scope.specs.Answers.{groupFault, cycleFault, absentFault, jobListFault, jobFault, runFault, boardAnswer, windowAnswer, taskAnswer}
+use Rattle.scope.specs.Answers.{groupFault, cycleFault, absentFault, jobListFault, jobFault, runFault, shortestFault, boardAnswer, windowAnswer, taskAnswer}
 use Rattle.scope.specs.Answers.{suppliedAnswer, lengthAnswer, runTicksAnswer, leastSupplyAnswer, criticalAnswer, criticalOut, delayAnswer, outageAnswer}
 use Rattle.scope.specs.Answers.{demandAnswer}
 use Rattle.scope.specs.Answers.{marginAnswer, verdictAnswer, boundAnswer, runAnswer, runOut}
-use Rattle.scope.specs.Plan.{groups, wellFormed, readNumber, readNumbers, restFault, countedFrom, listsFrom, planFrom, planOf, planAnswer}
+use Rattle.scope.specs.Plan.{groups, wellFormed, readNumber, readNumbers, restFault, countedFrom, listsFrom, planFrom, planOf}
 use Rattle.scope.specs.Plan.{numberBytesWithin, numberBytes, numbersBytes, planBytes, writeFault, writeAnswer, writeOut}
 use Rattle.scope.specs.Line.{decimalWithin, decimal, line, lineAnswer, lineOut}
 use Rattle.scope.specs.Trace.{readRecord, recordsWithin, traceOf, elapsed, timedFrom, lastInstant, releases, completions, recordLegal, badRecord}
 use Rattle.scope.specs.Trace.{recordBytes, traceBytes}
 use Rattle.scope.specs.Replay.{ends, endedIn, endedFrom, releasedAt, recordedTo, firstDifference, replayed, extentFault, recordFault, replayFault}
 use Rattle.scope.specs.Replay.{recordsAnswer, replayAnswer}
-use Rattle.scope.specs.Shared.{windowsFor, asOwned, follows, ownedLegal, badOwned, ownedListFault, ownedFault, wholeFault, absentOwnerFault, sharedFault}
+use Rattle.scope.specs.Shared.{windowsFor, asOwned, follows, ownedLegal, badOwned, ownedListFault, ownedFault, wholeFault, absentOwnerFault}
+use Rattle.scope.specs.Shared.{sliver, firstSliver, sliverFault, sharedFault}
 use Rattle.scope.specs.Shared.{ownedAnswer, ownFault, ownAnswer, ownOut, asOwnedAnswer, asOwnedOut}
 use Rattle.scope.specs.Shared.{askedFor, suppliedFor, leastSupplyFor, criticalFor, criticalOutFor, delayFor, outageFor, marginFor, verdictFor, boundFor}
-use Rattle.scope.specs.Shared.{runFor, runOutFor, recordsFor, replayFor}
+use Rattle.scope.specs.Shared.{runFor, runOutFor, recordsFor, replayFor, planAnswer}
 use Rattle.scope.specs.Demands.{dueWithin, fullJobsIn, fullJobs, givenTo}
 
 unfoldable pub numbers·compute : Unit {0}
@@ -57,7 +58,7 @@ unfolding taskListFault taskFault groupFault cycleFault absentFault jobListFault
 groupFaults·compute = tt
 
 unfoldable pub constructors·compute : Unit {0}
-unfolding boardAnswer windowAnswer taskAnswer lengthAnswer runTicksAnswer
+unfolding shortestFault boardAnswer windowAnswer taskAnswer lengthAnswer runTicksAnswer
 constructors·compute = tt
 
 unfoldable pub tableAnswers·compute : Unit {0}
@@ -69,7 +70,7 @@ unfolding demandAnswer marginAnswer verdictAnswer boundAnswer runAnswer runOut
 groupAnswers·compute = tt
 
 unfoldable pub reading·compute : Unit {0}
-unfolding groups wellFormed readNumber readNumbers restFault countedFrom listsFrom planFrom planOf planAnswer
+unfolding groups wellFormed readNumber readNumbers restFault countedFrom listsFrom planFrom planOf
 reading·compute = tt
 
 unfoldable pub writing·compute : Unit {0}
@@ -85,11 +86,11 @@ unfolding ends endedIn endedFrom releasedAt recordedTo firstDifference replayed 
 replays·compute = tt
 
 unfoldable pub sharedFaults·compute : Unit {0}
-unfolding windowsFor asOwned follows ownedLegal badOwned ownedListFault ownedFault wholeFault absentOwnerFault sharedFault ownedAnswer ownFault ownAnswer ownOut asOwnedAnswer asOwnedOut askedFor
+unfolding windowsFor asOwned follows ownedLegal badOwned ownedListFault ownedFault wholeFault absentOwnerFault sliver firstSliver sliverFault sharedFault ownedAnswer ownFault ownAnswer ownOut asOwnedAnswer asOwnedOut askedFor
 sharedFaults·compute = tt
 
 unfoldable pub sharedAnswers·compute : Unit {0}
-unfolding suppliedFor leastSupplyFor criticalFor criticalOutFor delayFor outageFor marginFor verdictFor boundFor runFor runOutFor recordsFor replayFor
+unfolding suppliedFor leastSupplyFor criticalFor criticalOutFor delayFor outageFor marginFor verdictFor boundFor runFor runOutFor recordsFor replayFor planAnswer
 sharedAnswers·compute = tt
 
 unfoldable pub demands·compute : Unit {0}

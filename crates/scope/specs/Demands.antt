@@ -16,9 +16,9 @@ use Rattle.scope.specs.Machine.{pending, worked}
 
 -- ---- 001's definitions
 
--- each tick cut into q: the frame and the edges times q
+-- each tick cut into q: the frame, the edges and the shortest window times q
 abbrev pub finerBoard : ℕ → Board → Board
-finerBoard q b = record { frame = q * b .frame; owner = b .owner }
+finerBoard q b = record { frame = q * b .frame; owner = b .owner; shortest = q * b .shortest }
 
 abbrev pub finerWindows : ℕ → List Window → List Window
 finerWindows q ws = map (λ w. window (q * w .start) (q * w .end)) ws

@@ -18,15 +18,15 @@ use Rattle.scope.specs.Run.{Outcome.met, Outcome.missed, Ran}
 use Rattle.scope.specs.Answers.{Fault, Fault.fine, Fault.fault, Answer, Answer.given, Answer.refused, Delay, boardAnswer, windowAnswer, taskAnswer}
 use Rattle.scope.specs.Answers.{lengthAnswer, runTicksAnswer, windowListFault, taskListFault, cycleFault, jobListFault, leastSupplyAnswer, criticalAnswer}
 use Rattle.scope.specs.Answers.{criticalOut, delayAnswer, outageAnswer, demandAnswer, marginAnswer, verdictAnswer, boundAnswer, runAnswer, runOut}
-use Rattle.scope.specs.Plan.{planAnswer, Plan, writeAnswer, writeOut}
+use Rattle.scope.specs.Plan.{Plan, writeAnswer, writeOut}
 use Rattle.scope.specs.Line.{bytes, line, lineAnswer, lineOut}
 use Rattle.scope.specs.Trace.{Record, completion}
 use Rattle.scope.specs.Replay as Replays
 use Rattle.scope.specs.Replay.{Replayed, extentFault, replayAnswer}
 use Rattle.scope.specs.Limits.{teams}
-use Rattle.scope.specs.Shared.{Owned, owned, ownedListFault, ownedAnswer, ownAnswer, ownOut, asOwnedAnswer, asOwnedOut}
+use Rattle.scope.specs.Shared.{Owned, owned, asOwned, ownedListFault, ownedAnswer, ownAnswer, ownOut, asOwnedAnswer, asOwnedOut}
 use Rattle.scope.specs.Shared.{suppliedFor, leastSupplyFor, criticalFor, criticalOutFor, delayFor, outageFor, marginFor, verdictFor, boundFor}
-use Rattle.scope.specs.Shared.{runFor, runOutFor, replayFor}
+use Rattle.scope.specs.Shared.{runFor, runOutFor, replayFor, planAnswer}
 use Rattle.scope.specs.Computing.{everything}
 
 -- ---- what is asked of an entry, and what it answers; of a lent buffer, what it holds before and after
@@ -39,12 +39,13 @@ pub data Question : Type 0 where
   marginOf : (frame : ℕ) (windows tasks : List ℕ) (length : ℕ) → Question
   boundsOf : (frame : ℕ) (windows tasks indices : List ℕ) → Question
   runOf : (frame : ℕ) (windows tasks : List ℕ) (n : ℕ) (jobs buffer : List ℕ) → Question
-  lineOf : (plan : List ℕ) → Question
+  lineOf : (settings : ℕ) (plan : List ℕ) → Question
   outageOf : (frame : ℕ) (windows : List ℕ) → Question
   demandsOf : (tasks lengths : List ℕ) → Question
   writtenPlan : (plan : Plan) (buffer : List ℕ) → Question
-  lineInto : (plan buffer : List ℕ) → Question
+  lineInto : (settings : ℕ) (plan buffer : List ℕ) → Question
   frames : (frames : List ℕ) → Question
+  shortests : (shortests : List ℕ) → Question
   askedLengths : (lengths : List ℕ) → Question
   runTicks : (ticks : List ℕ) → Question
   windowAlone : (frame start end : ℕ) → Question
@@ -53,19 +54,19 @@ pub data Question : Type 0 where
   cycleOf : (frame : ℕ) (tasks : List ℕ) → Question
   replayOf : (frame : ℕ) (windows tasks trace : List ℕ) → Question
   releasesOf : (releases : ℕ) → Question
-  leastSuppliesFor : (frame owner : ℕ) (windows lengths : List ℕ) → Question
-  criticalWindowsFor : (frame owner : ℕ) (windows buffer : List ℕ) → Question
-  delayOfFor : (frame owner : ℕ) (windows : List ℕ) → Question
-  verdictOfFor : (frame owner : ℕ) (windows tasks : List ℕ) → Question
-  marginOfFor : (frame owner : ℕ) (windows tasks : List ℕ) (length : ℕ) → Question
-  boundsOfFor : (frame owner : ℕ) (windows tasks indices : List ℕ) → Question
-  runOfFor : (frame owner : ℕ) (windows tasks : List ℕ) (n : ℕ) (jobs buffer : List ℕ) → Question
-  outageOfFor : (frame owner : ℕ) (windows : List ℕ) → Question
-  replayOfFor : (frame owner : ℕ) (windows tasks trace : List ℕ) → Question
-  suppliedOfFor : (frame owner : ℕ) (windows ticks : List ℕ) → Question
+  leastSuppliesFor : (board : Board) (windows lengths : List ℕ) → Question
+  criticalWindowsFor : (board : Board) (windows buffer : List ℕ) → Question
+  delayOfFor : (board : Board) (windows : List ℕ) → Question
+  verdictOfFor : (board : Board) (windows tasks : List ℕ) → Question
+  marginOfFor : (board : Board) (windows tasks : List ℕ) (length : ℕ) → Question
+  boundsOfFor : (board : Board) (windows tasks indices : List ℕ) → Question
+  runOfFor : (board : Board) (windows tasks : List ℕ) (n : ℕ) (jobs buffer : List ℕ) → Question
+  outageOfFor : (board : Board) (windows : List ℕ) → Question
+  replayOfFor : (board : Board) (windows tasks trace : List ℕ) → Question
+  suppliedOfFor : (board : Board) (windows ticks : List ℕ) → Question
   sharedLists : (sizes : List ℕ) → Question
   ownedAlone : (frame start end owner : ℕ) → Question
-  ownOf : (frame owner : ℕ) (windows buffer : List ℕ) → Question
+  ownOf : (board : Board) (windows buffer : List ℕ) → Question
   ownedPairs : (owner : ℕ) (windows buffer : List ℕ) → Question
 
 pub data Reply : Type 0 where
@@ -90,13 +91,17 @@ pub data Reply : Type 0 where
 abbrev release : Record
 release = record { instant = 0; kind = 0; task = 0; work = 1 }
 
--- a board with frame P
-abbrev pub on : ℕ → Board
-on P = record { frame = P; owner = 0 }
+-- a board with frame P that asks for owner o and allows no window shorter than m
+abbrev pub onAtLeast : ℕ → ℕ → ℕ → Board
+onAtLeast P o m = record { frame = P; owner = o; shortest = m }
 
--- a board with frame P that asks for owner o
+-- one that allows every window
 abbrev pub onFor : ℕ → ℕ → Board
-onFor P o = record { frame = P; owner = o }
+onFor P o = onAtLeast P o 1
+
+-- and asks for owner 0
+abbrev pub on : ℕ → Board
+on P = onFor P 0
 
 unfoldable pub reply : Question → Reply
 reply (leastSupplies P ws ts) = amounts (map (leastSupplyAnswer (on P) ws) ts)
@@ -106,12 +111,13 @@ reply (verdictOf P ws ts) = aVerdict (verdictAnswer (on P) ws ts)
 reply (marginOf P ws ts t) = aMargin (marginAnswer (on P) ws ts t)
 reply (boundsOf P ws ts is) = bounds (map (boundAnswer (on P) ws ts) is)
 reply (runOf P ws ts n js out) = aRun (runAnswer (on P) ws ts n js (length out)) (runOut (on P) ws ts n js out)
-reply (lineOf plan) = text (line (planAnswer plan))
+reply (lineOf k plan) = text (line (planAnswer k plan))
 reply (outageOf P ws) = amounts (outageAnswer (on P) ws ∷ [])
 reply (demandsOf ts lengths) = amounts (map (demandAnswer ts) lengths)
 reply (writtenPlan plan out) = bytesIn (writeAnswer plan (length out)) (writeOut plan out)
-reply (lineInto plan out) = bytesIn (lineAnswer (planAnswer plan) (length out)) (lineOut (planAnswer plan) out)
+reply (lineInto k plan out) = bytesIn (lineAnswer (planAnswer k plan) (length out)) (lineOut (planAnswer k plan) out)
 reply (frames l) = boards (map (λ P. boardAnswer (on P)) l)
+reply (shortests l) = boards (map (λ m. boardAnswer (onAtLeast 8 0 m)) l)
 reply (askedLengths l) = amounts (map lengthAnswer l)
 reply (runTicks l) = amounts (map runTicksAnswer l)
 reply (windowAlone P s e) = aWindow (windowAnswer (on P) (window s e))
@@ -123,18 +129,18 @@ reply (replayOf P ws ts trace) = aReplay (replayAnswer (on P) ws ts trace)
 -- so many releases, whatever they are, and one more
 reply (releasesOf m) = faults (extentFault (replicate m release) ∷ extentFault (replicate (suc m) release) ∷ [])
 -- on a table that teams share, in threes, for one of them
-reply (leastSuppliesFor P o ws ts) = amounts (map (leastSupplyFor (onFor P o) ws) ts)
-reply (criticalWindowsFor P o ws out) = windows (criticalFor (onFor P o) ws (length out)) (criticalOutFor (onFor P o) ws out)
-reply (delayOfFor P o ws) = aDelay (delayFor (onFor P o) ws)
-reply (verdictOfFor P o ws ts) = aVerdict (verdictFor (onFor P o) ws ts)
-reply (marginOfFor P o ws ts t) = aMargin (marginFor (onFor P o) ws ts t)
-reply (boundsOfFor P o ws ts is) = bounds (map (boundFor (onFor P o) ws ts) is)
-reply (runOfFor P o ws ts n js out) = aRun (runFor (onFor P o) ws ts n js (length out)) (runOutFor (onFor P o) ws ts n js out)
-reply (outageOfFor P o ws) = amounts (outageFor (onFor P o) ws ∷ [])
-reply (suppliedOfFor P o ws ks) = ticks (map (suppliedFor (onFor P o) ws) ks)
-reply (replayOfFor P o ws ts trace) = aReplay (replayFor (onFor P o) ws ts trace)
+reply (leastSuppliesFor b ws ts) = amounts (map (leastSupplyFor b ws) ts)
+reply (criticalWindowsFor b ws out) = windows (criticalFor b ws (length out)) (criticalOutFor b ws out)
+reply (delayOfFor b ws) = aDelay (delayFor b ws)
+reply (verdictOfFor b ws ts) = aVerdict (verdictFor b ws ts)
+reply (marginOfFor b ws ts t) = aMargin (marginFor b ws ts t)
+reply (boundsOfFor b ws ts is) = bounds (map (boundFor b ws ts) is)
+reply (runOfFor b ws ts n js out) = aRun (runFor b ws ts n js (length out)) (runOutFor b ws ts n js out)
+reply (outageOfFor b ws) = amounts (outageFor b ws ∷ [])
+reply (suppliedOfFor b ws ks) = ticks (map (suppliedFor b ws) ks)
+reply (replayOfFor b ws ts trace) = aReplay (replayFor b ws ts trace)
 reply (ownedAlone P s e o) = anOwned (ownedAnswer teams (on P) (owned s e o))
-reply (ownOf P o ws out) = windows (ownAnswer teams (onFor P o) ws (length out)) (ownOut teams (onFor P o) ws out)
+reply (ownOf b ws out) = windows (ownAnswer teams b ws (length out)) (ownOut teams b ws out)
 reply (ownedPairs o ws out) = windows (asOwnedAnswer o ws (length out)) (asOwnedOut o ws out)
 reply (sharedLists l) = faults (map (λ n. ownedListFault (replicate n 0)) l)
 
@@ -184,7 +190,7 @@ table =
     ∷ ("W5" asks verdictOf 8 X (1 ∷ 4 ∷ 3 ∷ []) gives aVerdict (given (miss 3 2 1 0)))
     -- W6, as an answer, as the printed line of the plan file, and with its margin; negsuc 0 is −1
     ∷ ("W6" asks verdictOf 8 X (1 ∷ 4 ∷ 4 ∷ 2 ∷ 8 ∷ 6 ∷ []) gives aVerdict (given (miss 6 2 3 2)))
-    ∷ ("W6, its line" asks lineOf (8 ∷ 2 ∷ 0 ∷ 2 ∷ 5 ∷ 7 ∷ 2 ∷ 1 ∷ 4 ∷ 4 ∷ 2 ∷ 8 ∷ 6 ∷ [])
+    ∷ ("W6, its line" asks lineOf 0 (8 ∷ 2 ∷ 0 ∷ 2 ∷ 5 ∷ 7 ∷ 2 ∷ 1 ∷ 4 ∷ 4 ∷ 2 ∷ 8 ∷ 6 ∷ [])
     gives text (bytes "MISS length 6 start 2 demand 3 supply 2\n"))
     ∷ ("W6, its margin" asks marginOf 8 X (1 ∷ 4 ∷ 4 ∷ 2 ∷ 8 ∷ 6 ∷ []) 6 gives aMargin (given (negsuc 0)))
     ∷ ("W7" asks verdictOf 8 X (1 ∷ 4 ∷ 4 ∷ 2 ∷ 8 ∷ 7 ∷ []) gives aVerdict (given (meets 8)))
@@ -276,62 +282,101 @@ table =
     ∷ ("a release of no task" asks replayOf 8 X (1 ∷ 4 ∷ 4 ∷ 2 ∷ 8 ∷ 7 ∷ []) (0 ∷ 2 ∷ 1 ∷ 100 ∷ [])
     gives aReplay (refused 11 0))
     -- request 4: whatever owner 1 does, X is X to owner 0; owner 1's windows are (2,5) and (7,8), which touch owner 0's
-    ∷ ("W1, shared" asks leastSuppliesFor 8 0 XShared (0 ∷ 1 ∷ 2 ∷ 3 ∷ 4 ∷ 5 ∷ 6 ∷ 7 ∷ 8 ∷ [])
+    ∷ ("W1, shared" asks leastSuppliesFor (onFor 8 0) XShared (0 ∷ 1 ∷ 2 ∷ 3 ∷ 4 ∷ 5 ∷ 6 ∷ 7 ∷ 8 ∷ [])
     gives amounts (map given (0 ∷ 0 ∷ 0 ∷ 0 ∷ 1 ∷ 2 ∷ 2 ∷ 3 ∷ 4 ∷ [])))
-    ∷ ("owner 1's least supply" asks leastSuppliesFor 8 1 XShared (1 ∷ 2 ∷ 3 ∷ 4 ∷ 5 ∷ 6 ∷ 7 ∷ 8 ∷ [])
+    ∷ ("owner 1's least supply" asks leastSuppliesFor (onFor 8 1) XShared (1 ∷ 2 ∷ 3 ∷ 4 ∷ 5 ∷ 6 ∷ 7 ∷ 8 ∷ [])
     gives amounts (map given (0 ∷ 0 ∷ 1 ∷ 1 ∷ 1 ∷ 2 ∷ 3 ∷ 4 ∷ [])))
-    ∷ ("ticks of both owners" asks suppliedOfFor 8 0 XShared (1 ∷ 2 ∷ 8 ∷ []) gives ticks (given true ∷ given false ∷ given true ∷ []))
-    ∷ ("the same for owner 1" asks suppliedOfFor 8 1 XShared (1 ∷ 2 ∷ 8 ∷ []) gives ticks (given false ∷ given true ∷ given false ∷ []))
-    ∷ ("W2, shared" asks criticalWindowsFor 8 0 XShared (9 ∷ 9 ∷ 9 ∷ 9 ∷ 9 ∷ []) gives windows (given 2) (3 ∷ 5 ∷ 6 ∷ 8 ∷ 9 ∷ []))
-    ∷ ("W3, shared" asks delayOfFor 8 0 XShared gives aDelay (given (record { delay = 12; A = 4 })))
-    ∷ ("W6, shared" asks verdictOfFor 8 0 XShared (1 ∷ 4 ∷ 4 ∷ 2 ∷ 8 ∷ 6 ∷ []) gives aVerdict (given (miss 6 2 3 2)))
-    ∷ ("W6's tasks as owner 1's" asks verdictOfFor 8 1 XShared (1 ∷ 4 ∷ 4 ∷ 2 ∷ 8 ∷ 6 ∷ []) gives aVerdict (given (miss 6 4 3 2)))
-    ∷ ("W5, shared" asks verdictOfFor 8 0 XShared (1 ∷ 4 ∷ 3 ∷ []) gives aVerdict (given (miss 3 2 1 0)))
-    ∷ ("W5's task as owner 1's" asks verdictOfFor 8 1 XShared (1 ∷ 4 ∷ 3 ∷ []) gives aVerdict (given (meets 8)))
-    ∷ ("W6, its margin, shared" asks marginOfFor 8 0 XShared (1 ∷ 4 ∷ 4 ∷ 2 ∷ 8 ∷ 6 ∷ []) 6 gives aMargin (given (negsuc 0)))
-    ∷ ("W11, shared" asks boundsOfFor 8 0 XShared (1 ∷ 4 ∷ 4 ∷ 1 ∷ 8 ∷ 8 ∷ []) (0 ∷ 1 ∷ []) gives bounds (map (λ t. given (bound t)) (4 ∷ 7 ∷ [])))
-    ∷ ("W13, shared" asks runOfFor 8 0 XShared (1 ∷ 4 ∷ 4 ∷ 2 ∷ 8 ∷ 7 ∷ []) 10 (2 ∷ 0 ∷ 1 ∷ 2 ∷ 1 ∷ 2 ∷ []) (9 ∷ 9 ∷ 9 ∷ [])
+    ∷ ("ticks of both owners" asks suppliedOfFor (onFor 8 0) XShared (1 ∷ 2 ∷ 8 ∷ []) gives ticks (given true ∷ given false ∷ given true ∷ []))
+    ∷ ("the same for owner 1" asks suppliedOfFor (onFor 8 1) XShared (1 ∷ 2 ∷ 8 ∷ []) gives ticks (given false ∷ given true ∷ given false ∷ []))
+    ∷ ("W2, shared" asks criticalWindowsFor (onFor 8 0) XShared (9 ∷ 9 ∷ 9 ∷ 9 ∷ 9 ∷ []) gives windows (given 2) (3 ∷ 5 ∷ 6 ∷ 8 ∷ 9 ∷ []))
+    ∷ ("W3, shared" asks delayOfFor (onFor 8 0) XShared gives aDelay (given (record { delay = 12; A = 4 })))
+    ∷ ("W6, shared" asks verdictOfFor (onFor 8 0) XShared (1 ∷ 4 ∷ 4 ∷ 2 ∷ 8 ∷ 6 ∷ []) gives aVerdict (given (miss 6 2 3 2)))
+    ∷ ("W6's tasks as owner 1's" asks verdictOfFor (onFor 8 1) XShared (1 ∷ 4 ∷ 4 ∷ 2 ∷ 8 ∷ 6 ∷ []) gives aVerdict (given (miss 6 4 3 2)))
+    ∷ ("W5, shared" asks verdictOfFor (onFor 8 0) XShared (1 ∷ 4 ∷ 3 ∷ []) gives aVerdict (given (miss 3 2 1 0)))
+    ∷ ("W5's task as owner 1's" asks verdictOfFor (onFor 8 1) XShared (1 ∷ 4 ∷ 3 ∷ []) gives aVerdict (given (meets 8)))
+    ∷ ("W6, its margin, shared" asks marginOfFor (onFor 8 0) XShared (1 ∷ 4 ∷ 4 ∷ 2 ∷ 8 ∷ 6 ∷ []) 6 gives aMargin (given (negsuc 0)))
+    ∷ ("W11, shared" asks boundsOfFor (onFor 8 0) XShared (1 ∷ 4 ∷ 4 ∷ 1 ∷ 8 ∷ 8 ∷ []) (0 ∷ 1 ∷ []) gives bounds (map (λ t. given (bound t)) (4 ∷ 7 ∷ [])))
+    ∷ ("W13, shared" asks runOfFor (onFor 8 0) XShared (1 ∷ 4 ∷ 4 ∷ 2 ∷ 8 ∷ 7 ∷ []) 10 (2 ∷ 0 ∷ 1 ∷ 2 ∷ 1 ∷ 2 ∷ []) (9 ∷ 9 ∷ 9 ∷ [])
     gives aRun (given (record { outcome = met; backlog = 2 })) (4 ∷ 7 ∷ 9 ∷ []))
-    ∷ ("W13's jobs as owner 1's" asks runOfFor 8 1 XShared (1 ∷ 4 ∷ 4 ∷ 2 ∷ 8 ∷ 7 ∷ []) 10 (2 ∷ 0 ∷ 1 ∷ 2 ∷ 1 ∷ 2 ∷ []) (9 ∷ 9 ∷ 9 ∷ [])
+    ∷ ("W13's jobs as owner 1's" asks runOfFor (onFor 8 1) XShared (1 ∷ 4 ∷ 4 ∷ 2 ∷ 8 ∷ 7 ∷ []) 10 (2 ∷ 0 ∷ 1 ∷ 2 ∷ 1 ∷ 2 ∷ []) (9 ∷ 9 ∷ 9 ∷ [])
     gives aRun (given (record { outcome = met; backlog = 2 })) (1 ∷ 3 ∷ 9 ∷ []))
-    ∷ ("owner 1's outage" asks outageOfFor 8 1 XShared gives amounts (given 2 ∷ []))
-    ∷ ("outage of X, shared" asks outageOfFor 8 0 XShared gives amounts (given 3 ∷ []))
-    ∷ ("outage over midnight, shared" asks outageOfFor 8 1 labShared gives amounts (given 6 ∷ []))
-    ∷ ("W7, shared" asks verdictOfFor 8 0 XShared (1 ∷ 4 ∷ 4 ∷ 2 ∷ 8 ∷ 7 ∷ []) gives aVerdict (given (meets 8)))
-    ∷ ("a trace, shared" asks replayOfFor 8 0 XShared (1 ∷ 4 ∷ 4 ∷ 2 ∷ 8 ∷ 7 ∷ []) (0 ∷ 0 ∷ 1 ∷ 100 ∷ 0 ∷ 1 ∷ 2 ∷ 100 ∷ 1 ∷ 0 ∷ 101 ∷ 1 ∷ 1 ∷ 106 ∷ [])
+    ∷ ("owner 1's outage" asks outageOfFor (onFor 8 1) XShared gives amounts (given 2 ∷ []))
+    ∷ ("outage of X, shared" asks outageOfFor (onFor 8 0) XShared gives amounts (given 3 ∷ []))
+    ∷ ("outage over midnight, shared" asks outageOfFor (onFor 8 1) labShared gives amounts (given 6 ∷ []))
+    ∷ ("W7, shared" asks verdictOfFor (onFor 8 0) XShared (1 ∷ 4 ∷ 4 ∷ 2 ∷ 8 ∷ 7 ∷ []) gives aVerdict (given (meets 8)))
+    ∷ ("a trace, shared" asks replayOfFor (onFor 8 0) XShared (1 ∷ 4 ∷ 4 ∷ 2 ∷ 8 ∷ 7 ∷ []) (0 ∷ 0 ∷ 1 ∷ 100 ∷ 0 ∷ 1 ∷ 2 ∷ 100 ∷ 1 ∷ 0 ∷ 101 ∷ 1 ∷ 1 ∷ 106 ∷ [])
     gives aReplay (given Replays.same))
     -- windows of different owners may touch, of one owner not; none may start before the previous end; an owner but 0 or 1 breaks the rule
-    ∷ ("owners that touch" asks verdictOfFor 8 1 (0 ∷ 2 ∷ 0 ∷ 2 ∷ 4 ∷ 1 ∷ []) [] gives aVerdict (given (meets 8)))
-    ∷ ("one owner that touches" asks verdictOfFor 8 1 (0 ∷ 2 ∷ 1 ∷ 2 ∷ 4 ∷ 1 ∷ []) [] gives aVerdict (refused 3 1))
-    ∷ ("another team that touches itself" asks verdictOfFor 8 0 (0 ∷ 2 ∷ 0 ∷ 4 ∷ 5 ∷ 1 ∷ 5 ∷ 6 ∷ 1 ∷ []) [] gives aVerdict (refused 3 2))
-    ∷ ("owners that overlap" asks verdictOfFor 8 0 (0 ∷ 3 ∷ 0 ∷ 2 ∷ 4 ∷ 1 ∷ []) [] gives aVerdict (refused 3 1))
-    ∷ ("another team's empty window" asks verdictOfFor 8 0 (0 ∷ 2 ∷ 0 ∷ 4 ∷ 4 ∷ 1 ∷ []) [] gives aVerdict (refused 3 1))
-    ∷ ("no such owner in the list" asks verdictOfFor 8 0 (0 ∷ 2 ∷ 0 ∷ 4 ∷ 5 ∷ 2 ∷ []) [] gives aVerdict (refused 3 1))
+    ∷ ("owners that touch" asks verdictOfFor (onFor 8 1) (0 ∷ 2 ∷ 0 ∷ 2 ∷ 4 ∷ 1 ∷ []) [] gives aVerdict (given (meets 8)))
+    ∷ ("one owner that touches" asks verdictOfFor (onFor 8 1) (0 ∷ 2 ∷ 1 ∷ 2 ∷ 4 ∷ 1 ∷ []) [] gives aVerdict (refused 3 1))
+    ∷ ("another team that touches itself" asks verdictOfFor (onFor 8 0) (0 ∷ 2 ∷ 0 ∷ 4 ∷ 5 ∷ 1 ∷ 5 ∷ 6 ∷ 1 ∷ []) [] gives aVerdict (refused 3 2))
+    ∷ ("owners that overlap" asks verdictOfFor (onFor 8 0) (0 ∷ 3 ∷ 0 ∷ 2 ∷ 4 ∷ 1 ∷ []) [] gives aVerdict (refused 3 1))
+    ∷ ("another team's empty window" asks verdictOfFor (onFor 8 0) (0 ∷ 2 ∷ 0 ∷ 4 ∷ 4 ∷ 1 ∷ []) [] gives aVerdict (refused 3 1))
+    ∷ ("no such owner in the list" asks verdictOfFor (onFor 8 0) (0 ∷ 2 ∷ 0 ∷ 4 ∷ 5 ∷ 2 ∷ []) [] gives aVerdict (refused 3 1))
     -- the whole list is counted: another team's numbers that are not in threes, or its 64 windows beside one
-    ∷ ("another team's number left over" asks verdictOfFor 8 0 (0 ∷ 2 ∷ 0 ∷ 4 ∷ []) [] gives aVerdict (refused 1 0))
-    ∷ ("64 windows, 63 of another team" asks suppliedOfFor 200 0 (0 ∷ 1 ∷ 0 ∷ others 63) (0 ∷ []) gives ticks (given true ∷ []))
-    ∷ ("65 windows, 64 of another team" asks suppliedOfFor 200 0 (0 ∷ 1 ∷ 0 ∷ others 64) (0 ∷ []) gives ticks (refused 1 0 ∷ []))
+    ∷ ("another team's number left over" asks verdictOfFor (onFor 8 0) (0 ∷ 2 ∷ 0 ∷ 4 ∷ []) [] gives aVerdict (refused 1 0))
+    ∷ ("64 windows, 63 of another team" asks suppliedOfFor (onFor 200 0) (0 ∷ 1 ∷ 0 ∷ others 63) (0 ∷ []) gives ticks (given true ∷ []))
+    ∷ ("65 windows, 64 of another team" asks suppliedOfFor (onFor 200 0) (0 ∷ 1 ∷ 0 ∷ others 64) (0 ∷ []) gives ticks (refused 1 0 ∷ []))
     -- an owner with no window, or no such owner, just after 3; before 4, and 9 before it
-    ∷ ("an absent owner" asks verdictOfFor 8 1 (0 ∷ 2 ∷ 0 ∷ []) [] gives aVerdict (refused 1 0))
-    ∷ ("no such owner asked for" asks outageOfFor 8 2 XShared gives amounts (refused 1 0 ∷ []))
-    ∷ ("3 before an absent owner" asks verdictOfFor 8 1 (0 ∷ 2 ∷ 0 ∷ 2 ∷ 3 ∷ 0 ∷ []) [] gives aVerdict (refused 3 1))
-    ∷ ("an absent owner before 4" asks verdictOfFor 8 1 (0 ∷ 2 ∷ 0 ∷ []) (1 ∷ []) gives aVerdict (refused 1 0))
-    ∷ ("9 before an absent owner" asks replayOfFor 8 1 (0 ∷ 2 ∷ 0 ∷ []) [] (2 ∷ []) gives aReplay (refused 9 0))
-    ∷ ("an absent owner's buffer" asks criticalWindowsFor 8 1 (0 ∷ 2 ∷ 0 ∷ []) (9 ∷ 9 ∷ []) gives windows (refused 1 0) (9 ∷ 9 ∷ []))
+    ∷ ("an absent owner" asks verdictOfFor (onFor 8 1) (0 ∷ 2 ∷ 0 ∷ []) [] gives aVerdict (refused 1 0))
+    ∷ ("no such owner asked for" asks outageOfFor (onFor 8 2) XShared gives amounts (refused 1 0 ∷ []))
+    ∷ ("3 before an absent owner" asks verdictOfFor (onFor 8 1) (0 ∷ 2 ∷ 0 ∷ 2 ∷ 3 ∷ 0 ∷ []) [] gives aVerdict (refused 3 1))
+    ∷ ("an absent owner before 4" asks verdictOfFor (onFor 8 1) (0 ∷ 2 ∷ 0 ∷ []) (1 ∷ []) gives aVerdict (refused 1 0))
+    ∷ ("9 before an absent owner" asks replayOfFor (onFor 8 1) (0 ∷ 2 ∷ 0 ∷ []) [] (2 ∷ []) gives aReplay (refused 9 0))
+    ∷ ("an absent owner's buffer" asks criticalWindowsFor (onFor 8 1) (0 ∷ 2 ∷ 0 ∷ []) (9 ∷ 9 ∷ []) gives windows (refused 1 0) (9 ∷ 9 ∷ []))
     -- a window alone with its owner, and an owner's windows in lent memory
     ∷ ("window of the last owner" asks ownedAlone 8 7 8 1 gives anOwned (given (owned 7 8 1)))
     ∷ ("window of no owner" asks ownedAlone 8 7 8 2 gives anOwned (refused 3 0))
-    ∷ ("owner 1's windows" asks ownOf 8 1 XShared (9 ∷ 9 ∷ 9 ∷ 9 ∷ 9 ∷ []) gives windows (given 4) (2 ∷ 5 ∷ 7 ∷ 8 ∷ 9 ∷ []))
-    ∷ ("owner 1's windows without room" asks ownOf 8 1 XShared (9 ∷ 9 ∷ 9 ∷ []) gives windows (refused 8 4) (9 ∷ 9 ∷ 9 ∷ []))
-    ∷ ("an absent owner before 8" asks ownOf 8 2 XShared [] gives windows (refused 1 0) [])
+    ∷ ("owner 1's windows" asks ownOf (onFor 8 1) XShared (9 ∷ 9 ∷ 9 ∷ 9 ∷ 9 ∷ []) gives windows (given 4) (2 ∷ 5 ∷ 7 ∷ 8 ∷ 9 ∷ []))
+    ∷ ("owner 1's windows without room" asks ownOf (onFor 8 1) XShared (9 ∷ 9 ∷ 9 ∷ []) gives windows (refused 8 4) (9 ∷ 9 ∷ 9 ∷ []))
+    ∷ ("an absent owner before 8" asks ownOf (onFor 8 2) XShared [] gives windows (refused 1 0) [])
     -- pairs read as one owner's, a number that is left over too
     ∷ ("X as owner 1's" asks ownedPairs 1 X (9 ∷ 9 ∷ 9 ∷ 9 ∷ 9 ∷ 9 ∷ 9 ∷ []) gives windows (given 6) (0 ∷ 2 ∷ 1 ∷ 5 ∷ 7 ∷ 1 ∷ 9 ∷ []))
     ∷ ("an odd list as owner 0's" asks ownedPairs 0 (0 ∷ 2 ∷ 5 ∷ []) (9 ∷ 9 ∷ 9 ∷ 9 ∷ []) gives windows (given 4) (0 ∷ 2 ∷ 0 ∷ 5 ∷ []))
     ∷ ("pairs without room" asks ownedPairs 0 (0 ∷ 2 ∷ []) (9 ∷ 9 ∷ []) gives windows (refused 8 3) (9 ∷ 9 ∷ []))
     -- lists in threes: the longest, one window more, none, pairs; and the order
     ∷ ("shared lists" asks sharedLists (192 ∷ 195 ∷ 0 ∷ 4 ∷ []) gives faults (fine ∷ fault 1 0 ∷ fault 1 0 ∷ fault 1 0 ∷ []))
-    ∷ ("1 before 2, shared" asks verdictOfFor 0 0 X [] gives aVerdict (refused 1 0))
-    ∷ ("2 before 3, shared" asks verdictOfFor 0 0 (2 ∷ 2 ∷ 0 ∷ []) [] gives aVerdict (refused 2 0))
+    ∷ ("1 before 2, shared" asks verdictOfFor (onFor 0 0) X [] gives aVerdict (refused 1 0))
+    ∷ ("2 before 3, shared" asks verdictOfFor (onFor 0 0) (2 ∷ 2 ∷ 0 ∷ []) [] gives aVerdict (refused 2 0))
+    -- request 5: X has windows of two ticks, and the rest of its frame one of three and one of one tick. A window of m ticks is let in, a shorter one is not
+    ∷ ("X of two ticks and more" asks verdictOfFor (onAtLeast 8 0 2) (asOwned 0 X) (1 ∷ 4 ∷ 4 ∷ 2 ∷ 8 ∷ 6 ∷ []) gives aVerdict (given (miss 6 2 3 2)))
+    ∷ ("X of three ticks and more" asks verdictOfFor (onAtLeast 8 0 3) (asOwned 0 X) [] gives aVerdict (refused 12 0))
+    ∷ ("every window at m = 1" asks leastSuppliesFor (onAtLeast 8 1 1) XShared (8 ∷ []) gives amounts (given 4 ∷ []))
+    -- whoever owns it, and the lowest index of the whole list
+    ∷ ("another team's sliver" asks verdictOfFor (onAtLeast 8 0 2) XShared [] gives aVerdict (refused 12 3))
+    ∷ ("an own sliver" asks verdictOfFor (onAtLeast 8 1 2) XShared [] gives aVerdict (refused 12 3))
+    ∷ ("the lowest of two slivers" asks verdictOfFor (onAtLeast 8 1 3) XShared [] gives aVerdict (refused 12 0))
+    ∷ ("a sliver between longer windows" asks outageOfFor (onAtLeast 8 0 3) labShared gives amounts (refused 12 1 ∷ []))
+    -- m out of its range is at place 64, and before any window; the largest m allows one window, the frame's whole length
+    ∷ ("m of 0" asks outageOfFor (onAtLeast 8 0 0) XShared gives amounts (refused 12 64 ∷ []))
+    ∷ ("the largest m" asks suppliedOfFor (onAtLeast 65536 0 65536) (0 ∷ 65536 ∷ 0 ∷ []) (9 ∷ []) gives ticks (given true ∷ []))
+    ∷ ("one more than the largest m" asks suppliedOfFor (onAtLeast 65536 0 65537) (0 ∷ 65536 ∷ 0 ∷ []) (9 ∷ []) gives ticks (refused 12 64 ∷ []))
+    ∷ ("the range before the windows" asks outageOfFor (onAtLeast 8 0 65537) (0 ∷ 1 ∷ 0 ∷ []) gives amounts (refused 12 64 ∷ []))
+    ∷ ("shortest windows" asks shortests (0 ∷ 1 ∷ 65536 ∷ 65537 ∷ [])
+    gives boards (refused 12 64 ∷ given (on 8) ∷ given (onAtLeast 8 0 65536) ∷ refused 12 64 ∷ []))
+    -- after 1, 2, 3 and an absent owner, before 4; after a trace's 9; and nothing is written
+    ∷ ("1 before 12" asks verdictOfFor (onAtLeast 8 0 0) [] [] gives aVerdict (refused 1 0))
+    ∷ ("2 before 12" asks verdictOfFor (onAtLeast 0 0 0) XShared [] gives aVerdict (refused 2 0))
+    ∷ ("3 before 12" asks verdictOfFor (onAtLeast 8 0 2) (0 ∷ 1 ∷ 0 ∷ 2 ∷ 2 ∷ 0 ∷ []) [] gives aVerdict (refused 3 1))
+    ∷ ("an absent owner before 12" asks verdictOfFor (onAtLeast 8 1 0) (0 ∷ 1 ∷ 0 ∷ []) [] gives aVerdict (refused 1 0))
+    ∷ ("12 before 4" asks verdictOfFor (onAtLeast 8 0 2) (0 ∷ 1 ∷ 0 ∷ []) (1 ∷ []) gives aVerdict (refused 12 0))
+    ∷ ("12 before 7" asks leastSuppliesFor (onAtLeast 8 0 2) (0 ∷ 1 ∷ 0 ∷ []) (1000001 ∷ []) gives amounts (refused 12 0 ∷ []))
+    ∷ ("12 before 8" asks criticalWindowsFor (onAtLeast 8 0 2) (0 ∷ 1 ∷ 0 ∷ []) (9 ∷ []) gives windows (refused 12 0) (9 ∷ []))
+    ∷ ("12 before 10" asks runOfFor (onAtLeast 8 0 2) (0 ∷ 1 ∷ 0 ∷ []) [] 0 (1 ∷ []) (9 ∷ []) gives aRun (refused 12 0) (9 ∷ []))
+    ∷ ("9 before 12" asks replayOfFor (onAtLeast 8 0 2) (0 ∷ 1 ∷ 0 ∷ []) [] (2 ∷ []) gives aReplay (refused 9 0))
+    ∷ ("an owner's windows among slivers" asks ownOf (onAtLeast 8 0 2) XShared (9 ∷ []) gives windows (refused 12 3) (9 ∷ []))
+    -- plan files with m first; W6's with m of 2 and of 3
+    ∷ ("W6 with m first" asks lineOf 1 (2 ∷ 8 ∷ 2 ∷ 0 ∷ 2 ∷ 5 ∷ 7 ∷ 2 ∷ 1 ∷ 4 ∷ 4 ∷ 2 ∷ 8 ∷ 6 ∷ [])
+    gives text (bytes "MISS length 6 start 2 demand 3 supply 2\n"))
+    ∷ ("a plan of slivers" asks lineOf 1 (3 ∷ 8 ∷ 2 ∷ 0 ∷ 2 ∷ 5 ∷ 7 ∷ 2 ∷ 1 ∷ 4 ∷ 4 ∷ 2 ∷ 8 ∷ 6 ∷ []) gives text (bytes "REFUSED 12 at 0\n"))
+    ∷ ("a plan with m of 0" asks lineOf 1 (0 ∷ 8 ∷ 2 ∷ 0 ∷ 2 ∷ 5 ∷ 7 ∷ 0 ∷ []) gives text (bytes "REFUSED 12 at 64\n"))
+    ∷ ("m missing" asks lineOf 1 [] gives text (bytes "REFUSED 9 at 0\n"))
+    ∷ ("m in too many bytes" asks lineOf 1 (130 ∷ 0 ∷ 8 ∷ []) gives text (bytes "REFUSED 9 at 0\n"))
+    ∷ ("a byte left over after m and a plan" asks lineOf 1 (2 ∷ 8 ∷ 1 ∷ 0 ∷ 2 ∷ 0 ∷ 7 ∷ []) gives text (bytes "REFUSED 9 at 6\n"))
+    ∷ ("1 as soon as it is read, after m" asks lineOf 1 (0 ∷ 0 ∷ 65 ∷ []) gives text (bytes "REFUSED 1 at 0\n"))
+    ∷ ("4 as soon as it is read, before 12" asks lineOf 1 (0 ∷ 8 ∷ 1 ∷ 0 ∷ 2 ∷ 33 ∷ []) gives text (bytes "REFUSED 4 at 0\n"))
+    ∷ ("a plan written with m first" asks writtenPlan (record { settings = 300 ∷ []; frame = 8; windows = 0 ∷ 2 ∷ []; tasks = [] }) (9 ∷ 9 ∷ 9 ∷ 9 ∷ 9 ∷ 9 ∷ 9 ∷ 9 ∷ [])
+    gives bytesIn (given 7) (172 ∷ 2 ∷ 8 ∷ 1 ∷ 0 ∷ 2 ∷ 0 ∷ 9 ∷ []))
     -- of the four errors, W5 and W9 show two: here supply counted from tick 0 passes the first, and starts at window ends miss the second's least start
     ∷ ("supply from tick 0" asks verdictOf 8 X (2 ∷ 8 ∷ 3 ∷ []) gives aVerdict (given (miss 3 2 2 0)))
     ∷ ("starts at window ends" asks verdictOf 8 X (2 ∷ 4 ∷ 4 ∷ []) gives aVerdict (given (miss 4 1 2 1)))
@@ -383,21 +428,21 @@ table =
     ∷ ("run without room" asks runOf 8 X (1 ∷ 4 ∷ 4 ∷ []) 10 (2 ∷ 0 ∷ 1 ∷ []) [] gives aRun (refused 8 1) [])
     ∷ ("11 before 8" asks runOf 8 X (1 ∷ 4 ∷ 4 ∷ []) 10 (2 ∷ 0 ∷ 2 ∷ []) [] gives aRun (refused 11 0) [])
     ∷ ("run refused by 10" asks runOf 8 X (1 ∷ 4 ∷ 4 ∷ []) 10 (2 ∷ 0 ∷ []) (9 ∷ []) gives aRun (refused 10 0) (9 ∷ []))
-    ∷ ("plan refused by 1" asks writtenPlan (record { frame = 8; windows = []; tasks = 1 ∷ [] }) (9 ∷ []) gives bytesIn (refused 1 0) (9 ∷ []))
-    ∷ ("a plan written" asks writtenPlan (record { frame = 300; windows = 0 ∷ 2 ∷ []; tasks = [] }) (9 ∷ 9 ∷ 9 ∷ 9 ∷ 9 ∷ 9 ∷ 9 ∷ [])
+    ∷ ("plan refused by 1" asks writtenPlan (record { settings = []; frame = 8; windows = []; tasks = 1 ∷ [] }) (9 ∷ []) gives bytesIn (refused 1 0) (9 ∷ []))
+    ∷ ("a plan written" asks writtenPlan (record { settings = []; frame = 300; windows = 0 ∷ 2 ∷ []; tasks = [] }) (9 ∷ 9 ∷ 9 ∷ 9 ∷ 9 ∷ 9 ∷ 9 ∷ [])
     gives bytesIn (given 6) (172 ∷ 2 ∷ 1 ∷ 0 ∷ 2 ∷ 0 ∷ 9 ∷ []))
-    ∷ ("line without room" asks lineInto (8 ∷ 1 ∷ 0 ∷ 2 ∷ 0 ∷ []) (9 ∷ 9 ∷ []) gives bytesIn (refused 8 14) (9 ∷ 9 ∷ []))
+    ∷ ("line without room" asks lineInto 0 (8 ∷ 1 ∷ 0 ∷ 2 ∷ 0 ∷ []) (9 ∷ 9 ∷ []) gives bytesIn (refused 8 14) (9 ∷ 9 ∷ []))
     -- the other lines; bytes left over, a number cut short, one in too many bytes, one missing, the greatest number and one more, and the two early answers
-    ∷ ("line of a plan that meets" asks lineOf (8 ∷ 2 ∷ 0 ∷ 2 ∷ 5 ∷ 7 ∷ 0 ∷ []) gives text (bytes "MEETS cycle 8\n"))
-    ∷ ("line of a refusal" asks lineOf (8 ∷ 2 ∷ 0 ∷ 2 ∷ 2 ∷ 4 ∷ 0 ∷ []) gives text (bytes "REFUSED 3 at 1\n"))
-    ∷ ("a byte left over" asks lineOf (8 ∷ 1 ∷ 0 ∷ 2 ∷ 0 ∷ 7 ∷ []) gives text (bytes "REFUSED 9 at 5\n"))
-    ∷ ("a number cut short" asks lineOf (8 ∷ 1 ∷ 0 ∷ 130 ∷ []) gives text (bytes "REFUSED 9 at 3\n"))
-    ∷ ("a number in too many bytes" asks lineOf (8 ∷ 1 ∷ 0 ∷ 130 ∷ 0 ∷ []) gives text (bytes "REFUSED 9 at 3\n"))
-    ∷ ("a number missing" asks lineOf (8 ∷ 1 ∷ []) gives text (bytes "REFUSED 9 at 2\n"))
-    ∷ ("the greatest number" asks lineOf (255 ∷ 255 ∷ 255 ∷ 255 ∷ 15 ∷ 1 ∷ 0 ∷ 2 ∷ 0 ∷ []) gives text (bytes "REFUSED 2 at 0\n"))
-    ∷ ("a number too large" asks lineOf (128 ∷ 128 ∷ 128 ∷ 128 ∷ 16 ∷ 1 ∷ 0 ∷ 2 ∷ 0 ∷ []) gives text (bytes "REFUSED 9 at 0\n"))
-    ∷ ("1 as soon as it is read" asks lineOf (0 ∷ 65 ∷ []) gives text (bytes "REFUSED 1 at 0\n"))
-    ∷ ("4 as soon as it is read" asks lineOf (0 ∷ 1 ∷ 0 ∷ 2 ∷ 33 ∷ []) gives text (bytes "REFUSED 4 at 0\n"))
+    ∷ ("line of a plan that meets" asks lineOf 0 (8 ∷ 2 ∷ 0 ∷ 2 ∷ 5 ∷ 7 ∷ 0 ∷ []) gives text (bytes "MEETS cycle 8\n"))
+    ∷ ("line of a refusal" asks lineOf 0 (8 ∷ 2 ∷ 0 ∷ 2 ∷ 2 ∷ 4 ∷ 0 ∷ []) gives text (bytes "REFUSED 3 at 1\n"))
+    ∷ ("a byte left over" asks lineOf 0 (8 ∷ 1 ∷ 0 ∷ 2 ∷ 0 ∷ 7 ∷ []) gives text (bytes "REFUSED 9 at 5\n"))
+    ∷ ("a number cut short" asks lineOf 0 (8 ∷ 1 ∷ 0 ∷ 130 ∷ []) gives text (bytes "REFUSED 9 at 3\n"))
+    ∷ ("a number in too many bytes" asks lineOf 0 (8 ∷ 1 ∷ 0 ∷ 130 ∷ 0 ∷ []) gives text (bytes "REFUSED 9 at 3\n"))
+    ∷ ("a number missing" asks lineOf 0 (8 ∷ 1 ∷ []) gives text (bytes "REFUSED 9 at 2\n"))
+    ∷ ("the greatest number" asks lineOf 0 (255 ∷ 255 ∷ 255 ∷ 255 ∷ 15 ∷ 1 ∷ 0 ∷ 2 ∷ 0 ∷ []) gives text (bytes "REFUSED 2 at 0\n"))
+    ∷ ("a number too large" asks lineOf 0 (128 ∷ 128 ∷ 128 ∷ 128 ∷ 16 ∷ 1 ∷ 0 ∷ 2 ∷ 0 ∷ []) gives text (bytes "REFUSED 9 at 0\n"))
+    ∷ ("1 as soon as it is read" asks lineOf 0 (0 ∷ 65 ∷ []) gives text (bytes "REFUSED 1 at 0\n"))
+    ∷ ("4 as soon as it is read" asks lineOf 0 (0 ∷ 1 ∷ 0 ∷ 2 ∷ 33 ∷ []) gives text (bytes "REFUSED 4 at 0\n"))
     ∷ []
 
 -- every row's question gets its expected reply
@@ -409,7 +454,7 @@ Hold (e ∷ rows) = (reply (e .question) ≡ e .expected) × Hold rows
 pub examples : Hold table
 unfolding everything reply table
 examples =
-    (refl, (refl, (refl, (refl, (refl, (refl, (refl, (refl, (refl, (refl, (refl, (refl, (refl, (refl, (refl, (refl, (refl, (refl, (refl, (refl, (refl, (refl, (refl, (refl, (refl, (refl, (refl, (refl, (refl, (refl, (refl, (refl, (refl, (refl, (refl, (refl, (refl, (refl, (refl, (refl, (refl, (refl, (refl, (refl, (refl, (refl, (refl, (refl, (refl, (refl, (refl, (refl, (refl, (refl, (refl, (refl, (refl, (refl, (refl, (refl, (refl, (refl, (refl, (refl, (refl, (refl, (refl, (refl, (refl, (refl, (refl, (refl, (refl, (refl, (refl, (refl, (refl, (refl, (refl, (refl, (refl, (refl, (refl, (refl, (refl, (refl, (refl, (refl, (refl, (refl, (refl, (refl, (refl, (refl, (refl, (refl, (refl, (refl, (refl, (refl, (refl, (refl, (refl, (refl, (refl, (refl, (refl, (refl, (refl, (refl, (refl, (refl, (refl, (refl, (refl, (refl, (refl, (refl, (refl, (refl, (refl, (refl, (refl, (refl, (refl, (refl, (refl, (refl, (refl, (refl, (refl, (refl, (refl, (refl, (refl, (refl, (refl, (refl, (refl, (refl, (refl, (refl, (refl, (refl, (refl, (refl, (refl, (refl, (refl, (refl, (refl, (refl, tt))))))))))))))))))))))))))))))))))))))))))))))))))))))))))))))))))))))))))))))))))))))))))))))))))))))))))))))))))))))))))))))))))))))))))))))))))))))))
+    (refl, (refl, (refl, (refl, (refl, (refl, (refl, (refl, (refl, (refl, (refl, (refl, (refl, (refl, (refl, (refl, (refl, (refl, (refl, (refl, (refl, (refl, (refl, (refl, (refl, (refl, (refl, (refl, (refl, (refl, (refl, (refl, (refl, (refl, (refl, (refl, (refl, (refl, (refl, (refl, (refl, (refl, (refl, (refl, (refl, (refl, (refl, (refl, (refl, (refl, (refl, (refl, (refl, (refl, (refl, (refl, (refl, (refl, (refl, (refl, (refl, (refl, (refl, (refl, (refl, (refl, (refl, (refl, (refl, (refl, (refl, (refl, (refl, (refl, (refl, (refl, (refl, (refl, (refl, (refl, (refl, (refl, (refl, (refl, (refl, (refl, (refl, (refl, (refl, (refl, (refl, (refl, (refl, (refl, (refl, (refl, (refl, (refl, (refl, (refl, (refl, (refl, (refl, (refl, (refl, (refl, (refl, (refl, (refl, (refl, (refl, (refl, (refl, (refl, (refl, (refl, (refl, (refl, (refl, (refl, (refl, (refl, (refl, (refl, (refl, (refl, (refl, (refl, (refl, (refl, (refl, (refl, (refl, (refl, (refl, (refl, (refl, (refl, (refl, (refl, (refl, (refl, (refl, (refl, (refl, (refl, (refl, (refl, (refl, (refl, (refl, (refl, (refl, (refl, (refl, (refl, (refl, (refl, (refl, (refl, (refl, (refl, (refl, (refl, (refl, (refl, (refl, (refl, (refl, (refl, (refl, (refl, (refl, (refl, (refl, (refl, (refl, (refl, (refl, (refl, (refl, (refl, (refl, tt)))))))))))))))))))))))))))))))))))))))))))))))))))))))))))))))))))))))))))))))))))))))))))))))))))))))))))))))))))))))))))))))))))))))))))))))))))))))))))))))))))))))))))))))))))))))
 
 -- ---- a row by its name
 

@@ -13,6 +13,14 @@ mostWindows = 64
 abbrev pub teams : ℕ
 teams = 2
 
+-- the shortest window that a board allows: 1 to 65,536
+abbrev pub mostShortest : ℕ
+mostShortest = 65536
+
+-- settings that a plan file may have before P: the shortest window
+abbrev pub mostSettings : ℕ
+mostSettings = 1
+
 -- tasks of a group: 0 to 32
 abbrev pub mostTasks : ℕ
 mostTasks = 32

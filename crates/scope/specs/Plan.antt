@@ -1,4 +1,4 @@
--- Document 01, "The plan file and its line": the file, read and written.
+-- Document 01, "The plan file and its line": the file, read and written; document 02: how many settings stand before P is a parameter.
 use Prim.Native.Nat.{ℕ, zero, suc, _+_, _-_, _*_, _/_, _%_}
 use mathlib.Core.Bool.{Bool, cond, _&&_, _||_}
 use mathlib.Core.Option.{Option, none, some}
@@ -7,10 +7,8 @@ use lib.Dec.{leb, ltb, eqb}
 use lib.ListN.{length, drop}
 use Rattle.scope.specs.Numbers.{written}
 use Rattle.scope.specs.Limits.{mostWindows, mostTasks, mostNumber}
-use Rattle.scope.specs.Windows.{Board}
-use Rattle.scope.specs.Verdict.{Verdict}
 use Rattle.scope.specs.Answers.{Fault, Fault.fine, Fault.fault, Answer, Answer.given, Answer.refused, faultIf, _orElse_, unless, unlessKept}
-use Rattle.scope.specs.Answers.{windowListFault, taskListFault, roomFault, verdictAnswer}
+use Rattle.scope.specs.Answers.{windowListFault, taskListFault, roomFault}
 
 -- ---- numbers
 
@@ -59,7 +57,9 @@ readNumbers bytes (suc n) at =
 
 -- ---- the file
 
+-- the settings are what stands before P: nothing, or from request 5 on the shortest window
 pub record Plan : Type 0 where
+  pub settings : List ℕ
   pub frame : ℕ
   pub windows : List ℕ
   pub tasks : List ℕ
@@ -108,27 +108,19 @@ countedFrom k check bytes at =
     orNine (readNumber bytes at) (λ n afterCount. past (check n) (orNine (readNumbers bytes (k * n) afterCount) asListed))
 
 -- window count, windows, task count, tasks, and the end of the file, after P
-unfoldable pub listsFrom : List ℕ → ℕ → ℕ → Answer Plan
-listsFrom bytes frame at =
+unfoldable pub listsFrom : List ℕ → List ℕ → ℕ → ℕ → Answer Plan
+listsFrom bytes settings frame at =
     andThen (countedFrom 2 windowCountFault bytes at) (λ windows.
     andThen (countedFrom 3 taskCountFault bytes (windows .next)) (λ tasks.
-    unless (restFault bytes (tasks .next)) (record { frame = frame; windows = windows .numbers; tasks = tasks .numbers })))
+    unless (restFault bytes (tasks .next)) (record { settings = settings; frame = frame; windows = windows .numbers; tasks = tasks .numbers })))
 
--- P, window count, windows, task count, tasks, from an offset on: what a form of the file has before P is read first
-unfoldable pub planFrom : List ℕ → ℕ → Answer Plan
-planFrom bytes at = orNine (readNumber bytes at) (λ frame afterFrame. listsFrom bytes frame afterFrame)
+-- P, window count, windows, task count, tasks, after the settings
+unfoldable pub planFrom : List ℕ → List ℕ → ℕ → Answer Plan
+planFrom bytes settings at = orNine (readNumber bytes at) (λ frame afterFrame. listsFrom bytes settings frame afterFrame)
 
--- a plan file has nothing before P
-unfoldable pub planOf : List ℕ → Answer Plan
-planOf bytes = planFrom bytes 0
-
--- the windows of a plan file are pairs, and owner 0's
-abbrev pub planBoard : Plan → Board
-planBoard p = record { frame = p .frame; owner = 0 }
-
--- the verdict of a plan file
-unfoldable pub planAnswer : List ℕ → Answer Verdict
-planAnswer bytes = andThen (planOf bytes) (λ p. verdictAnswer (planBoard p) (p .windows) (p .tasks))
+-- a plan file of k settings
+unfoldable pub planOf : ℕ → List ℕ → Answer Plan
+planOf k bytes = orNine (readNumbers bytes k 0) (λ settings afterSettings. planFrom bytes settings afterSettings)
 
 -- ---- writing
 
@@ -149,9 +141,9 @@ numbersBytes (n ∷ l) = numberBytes n ++ numbersBytes l
 abbrev pub countedBytes : ℕ → List ℕ → List ℕ
 countedBytes k l = numberBytes (length l / k) ++ numbersBytes l
 
--- P, window count, windows, task count, tasks
+-- settings, P, window count, windows, task count, tasks
 unfoldable pub planBytes : Plan → List ℕ
-planBytes p = numberBytes (p .frame) ++ countedBytes 2 (p .windows) ++ countedBytes 3 (p .tasks)
+planBytes p = numbersBytes (p .settings) ++ numberBytes (p .frame) ++ countedBytes 2 (p .windows) ++ countedBytes 3 (p .tasks)
 
 -- 1 and 4, which are about the counts, then 8; the numbers' ranges are for the reader of the file
 unfoldable pub writeFault : Plan → ℕ → Fault

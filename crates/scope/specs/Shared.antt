@@ -1,4 +1,5 @@
--- Document 02, request 4: a window table that teams share, in threes of start, end and owner; and what each entry answers the owner that is asked for.
+-- Document 02, requests 4 and 5: a window table that teams share, in threes of start, end and owner, none shorter than the board allows; and what each entry
+-- answers the owner that is asked for.
 use Prim.Native.Nat.{ℕ, _-_}
 use mathlib.Core.Bool.{Bool, not, cond, _&&_, _||_}
 use mathlib.Core.Option.{Option}
@@ -12,11 +13,11 @@ use Rattle.scope.specs.Windows.{Board, Window, window, windowFits}
 use Rattle.scope.specs.Verdict.{Verdict}
 use Rattle.scope.specs.Bound.{Bound}
 use Rattle.scope.specs.Run.{Ran}
-use Rattle.scope.specs.Answers.{Fault, Fault.fine, Fault.fault, Answer, Answer.refused, faultIf, faultAt, _orElse_, unless, unlessKept, listFault, frameFault, roomFault}
+use Rattle.scope.specs.Answers.{Fault, Fault.fine, Fault.fault, Answer, Answer.refused, faultIf, faultAt, _orElse_, unless, unlessKept, listFault, frameFault, shortestFault, roomFault}
 use Rattle.scope.specs.Answers.{Delay}
 use Rattle.scope.specs.Answers.{suppliedAnswer, leastSupplyAnswer, criticalAnswer, criticalOut, delayAnswer, outageAnswer}
 use Rattle.scope.specs.Answers.{marginAnswer, verdictAnswer, boundAnswer, runAnswer, runOut}
-use Rattle.scope.specs.Plan.{orNine}
+use Rattle.scope.specs.Plan.{orNine, andThen, Plan, planOf}
 use Rattle.scope.specs.Trace.{Record, timed, traceOf}
 use Rattle.scope.specs.Replay.{Replayed, recordsAnswer}
 
@@ -87,8 +88,20 @@ wholeFault owners b ws = ownedListFault ws orElse frameFault b orElse ownedFault
 unfoldable pub absentOwnerFault : Board → List ℕ → Fault
 absentOwnerFault b ws = faultIf (eqb (length (own b ws)) 0) 1 0
 
+-- a window shorter than the board allows
+unfoldable pub sliver : Board → Owned → Bool
+sliver b w = ltb (w .window .end - w .window .start) (b .shortest)
+
+-- the lowest index of one in the whole list, whoever owns it
+unfoldable pub firstSliver : Board → List Owned → Option ℕ
+firstSliver b ws = first (λ i. sliver b (ownedAt ws i)) (length ws)
+
+-- 12, which may depend on every team: the shortest allowed window is out of its range, then a window is shorter
+unfoldable pub sliverFault : Board → List ℕ → Fault
+sliverFault b ws = shortestFault b orElse faultAt 12 (firstSliver b (ownedOf ws))
+
 unfoldable pub sharedFault : ℕ → Board → List ℕ → Fault
-sharedFault owners b ws = wholeFault owners b ws orElse absentOwnerFault b ws
+sharedFault owners b ws = wholeFault owners b ws orElse absentOwnerFault b ws orElse sliverFault b ws
 
 -- ---- the owner's windows by themselves, in lent memory: how many numbers, and the memory afterwards
 
@@ -163,3 +176,13 @@ recordsFor b ws ts rs = askedFor teams b ws refused (λ mine. recordsAnswer b mi
 -- 9 before all others
 unfoldable pub replayFor : Board → List ℕ → List ℕ → List ℕ → Answer Replayed
 replayFor b ws ts bytes = orNine (traceOf bytes) (λ rs end. recordsFor b ws ts (timed rs))
+
+-- ---- plan files
+
+-- the windows are pairs, and owner 0's; a file without the setting allows windows of one tick
+abbrev pub planBoard : Plan → Board
+planBoard p = record { frame = p .frame; owner = 0; shortest = getD (p .settings) 0 1 }
+
+-- the verdict of a plan file of k settings
+unfoldable pub planAnswer : ℕ → List ℕ → Answer Verdict
+planAnswer k bytes = andThen (planOf k bytes) (λ p. verdictFor (planBoard p) (asOwned 0 (p .windows)) (p .tasks))

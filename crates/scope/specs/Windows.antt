@@ -7,10 +7,12 @@ use lib.Dec.{leb, ltb, eqb}
 use lib.ListN.{length, getD}
 use Rattle.scope.specs.Numbers.{first, pieces}
 
--- what, beside the windows, decides which ticks are supplied: the frame, and of a table that teams share (Shared) the owner that is asked for
+-- what a table is judged by beside its windows: the frame, and of a table that teams share (Shared) the owner that is asked for and the shortest window
+-- that the board allows
 pub record Board : Type 0 where
   pub frame : ℕ
   pub owner : ℕ
+  pub shortest : ℕ
 
 -- the ticks `start` up to but not including `end`
 pub record Window : Type 0 where
