@@ -1,5 +1,5 @@
--- Document 02, request 4: each team's answers depend on the frame and its own windows, and on nothing else once the whole list is legal; a table with one
--- owner is answered as the pairs are. One statement each, over every entry and any number of owners
+-- Document 02, request 4: each team's answers depend on the frame and its own windows, and on nothing else once the whole list is legal and has no sliver; a
+-- table with one owner is answered as the pairs are. One statement each, over every entry and any number of owners
 use mathlib.Core.Path.{_≡_, refl, sym, ap, _∙_, fun-ext}
 use mathlib.Core.Bool.{Bool, true, false, not, cond, _&&_, _||_, and-true, and-false, or-false}
 use mathlib.Core.Option.{Option, none, some}
@@ -23,10 +23,11 @@ use Rattle.scope.specs.Plan.{Read, Read.read, Read.bad, orNine}
 use Rattle.scope.specs.Trace.{Stamped, Record, traceOf, timed}
 use Rattle.scope.specs.Replay.{Replayed, replayFault, recordsAnswer, replayAnswer}
 use Rattle.scope.specs.Shared.{Owned, owned, ownedOf, ownedAt, windowsFor, own, asOwned, follows, ownedLegal, badOwned, ownedListFault, ownedFault}
-use Rattle.scope.specs.Shared.{wholeFault, absentOwnerFault, sharedFault, ownFault, ownAnswer, ownOut, unlessRefused, askedFor, kept, recordsFor, replayFor}
+use Rattle.scope.specs.Shared.{wholeFault, absentOwnerFault, sliverFault, sharedFault, ownFault, ownAnswer, ownOut, unlessRefused, askedFor, kept, recordsFor, replayFor}
 use Rattle.theory.specs.Numbers.{first-equal, first-some}
 use Rattle.theory.specs.Shared.{asked-fine, asked-refused, asked-given}
-use Rattle.theory.specs.Answers.{fault-not-fine, table-legal}
+use Rattle.theory.specs.Answers.{orElse-fine, table-legal}
+use Rattle.theory.specs.Slivers.{sliver-twelve, sliver-place, one-tick}
 
 -- ---- entries: functions of a board and a list of windows that refuse what is no table, and of the board read no more than the frame
 
@@ -45,7 +46,7 @@ unfolding supplied
 
 φ : (b c : Board) (ws : List ℕ) → b .frame ≡ c .frame → tableFault b ws ≡ tableFault c ws
 unfolding tableFault frameFault windowFault badWindow windowLegal
-φ b c ws e = ap (λ (P : ℕ). tableFault (record { frame = P; owner = 0 }) ws) e
+φ b c ws e = ap (λ (P : ℕ). tableFault (record { frame = P; owner = 0; shortest = 1 }) ws) e
 
 pub supplied-entry : (k : ℕ) → Entry refused (λ b ws. suppliedAnswer b ws k)
 unfolding suppliedAnswer
@@ -97,23 +98,48 @@ records-entry ts rs = record { checks = λ b ws n p e. rw e; by-frame = λ b c w
 
 -- ---- whatever the other team does
 
+-- 1, 2, 3 and 12, which may depend on every team
+unfoldable pub teamsFault : ℕ → Board → List ℕ → Fault
+teamsFault owners b ws = wholeFault owners b ws orElse sliverFault b ws
+
+module _ (owners : ℕ) (b : Board) (ws : List ℕ) where
+  teams-parts : teamsFault owners b ws ≡ fine → (wholeFault owners b ws ≡ fine) × (sliverFault b ws ≡ fine)
+  unfolding teamsFault
+  teams-parts e = orElse-fine (wholeFault owners b ws) (sliverFault b ws) e
+
+-- of a list without one of them only 1 for an absent owner is left
+shared-absent : (owners : ℕ) (b : Board) (ws : List ℕ) → teamsFault owners b ws ≡ fine → sharedFault owners b ws ≡ absentOwnerFault b ws
+unfolding sharedFault
+shared-absent owners b ws e = let p = teams-parts owners b ws e in rw (p .0, p .1) (last (absentOwnerFault b ws))
+  where
+    last : (f : Fault) → (f orElse fine) ≡ f
+    last fine = refl
+    last (fault n p) = refl
+
+absent-same : (b c : Board) (ws vs : List ℕ) → own b ws ≡ own c vs → absentOwnerFault b ws ≡ absentOwnerFault c vs
+unfolding absentOwnerFault
+absent-same b c ws vs same = ap (λ (l : List ℕ). faultIf (eqb (length l) 0) 1 0) same
+
 pub alone : {R : Type 0} {refusal : ℕ → ℕ → R} {entry : Board → List ℕ → R} → Entry refusal entry →
-    (owners : ℕ) (b c : Board) (ws vs : List ℕ) → wholeFault owners b ws ≡ fine → wholeFault owners c vs ≡ fine →
+    (owners : ℕ) (b c : Board) (ws vs : List ℕ) → teamsFault owners b ws ≡ fine → teamsFault owners c vs ≡ fine →
     b .frame ≡ c .frame → own b ws ≡ own c vs →
     askedFor owners b ws refusal (entry b) ≡ askedFor owners c vs refusal (entry c)
-unfolding askedFor sharedFault absentOwnerFault
+unfolding askedFor
 alone {R} {refusal} {entry} is owners b c ws vs e f framed same =
-    rw (e, f, same) (ap (unlessRefused (faultIf (eqb (length (own c vs)) 0) 1 0) refusal) (is .by-frame b c (own c vs) framed))
+    rw (shared-absent owners b ws e, shared-absent owners c vs f, absent-same b c ws vs same, same)
+    (ap (unlessRefused (absentOwnerFault c vs) refusal) (is .by-frame b c (own c vs) framed))
 
--- ---- what may depend on every team: 1 and 2, at place 0, and 3, at a window of the whole list
+-- ---- what may depend on every team: 1 and 2, at place 0, 3, at a window of the whole list, and 12, at such a window or at 64
 
 pub data WholeRefusal (windows : ℕ) : ℕ → ℕ → Type 0 where
   by-count : WholeRefusal windows 1 0
   by-frame : WholeRefusal windows 2 0
   by-window : (i : ℕ) → i < windows → WholeRefusal windows 3 i
+  by-range : WholeRefusal windows 12 64
+  by-sliver : (i : ℕ) → i < windows → WholeRefusal windows 12 i
 
-pub whole-refusal : (owners : ℕ) (b : Board) (ws : List ℕ) (n p : ℕ) → wholeFault owners b ws ≡ fault n p → WholeRefusal (length (ownedOf ws)) n p
-unfolding wholeFault ownedListFault frameFault ownedFault badOwned
+pub whole-refusal : (owners : ℕ) (b : Board) (ws : List ℕ) (n p : ℕ) → teamsFault owners b ws ≡ fault n p → WholeRefusal (length (ownedOf ws)) n p
+unfolding teamsFault wholeFault ownedListFault frameFault ownedFault badOwned
 whole-refusal owners b ws n p = counted (badCount 3 mostWindows ws || eqb (length ws) 0)
   where
     R : Type 0
@@ -122,16 +148,23 @@ whole-refusal owners b ws n p = counted (badCount 3 mostWindows ws || eqb (lengt
     is : {m q : ℕ} → WholeRefusal (length (ownedOf ws)) m q → fault m q ≡ fault n p → R
     is {m} {q} r e = let x : m ≡ n = cc in let y : q ≡ p = cc in rw (← x, ← y) r
 
-    windowed : (o : Option ℕ) → first (λ i. not (ownedLegal owners b (ownedOf ws) i)) (length (ownedOf ws)) ≡ o → faultAt 3 o ≡ fault n p → R
-    windowed none f e = absurd (fault-not-fine (sym e))
+    slivered : sliverFault b ws ≡ fault n p → R
+    slivered e =
+        let twelve = sliver-twelve b ws n p e in
+        elim (sliver-place b ws p (rw twelve at e)) [ inl z ↦ rw (twelve, z) by-range | inr l ↦ rw twelve (by-sliver p l) ]
+
+    bad : Option ℕ
+    bad = first (λ i. not (ownedLegal owners b (ownedOf ws) i)) (length (ownedOf ws))
+
+    windowed : (o : Option ℕ) → bad ≡ o → (faultAt 3 o orElse sliverFault b ws) ≡ fault n p → R
+    windowed none f e = slivered e
     windowed (some i) f e = is (by-window i (first-some (λ j. not (ownedLegal owners b (ownedOf ws) j)) (length (ownedOf ws)) i f .0)) e
 
-    framed : (t : Bool) → (faultIf t 2 0 orElse faultAt 3 (first (λ i. not (ownedLegal owners b (ownedOf ws) i)) (length (ownedOf ws)))) ≡ fault n p → R
+    framed : (t : Bool) → ((faultIf t 2 0 orElse faultAt 3 bad) orElse sliverFault b ws) ≡ fault n p → R
     framed true e = is by-frame e
-    framed false e = windowed (first (λ i. not (ownedLegal owners b (ownedOf ws) i)) (length (ownedOf ws))) refl e
+    framed false e = windowed bad refl e
 
-    counted : (t : Bool) → (faultIf t 1 0 orElse faultIf (eqb (b .frame) 0 || ltb mostFrame (b .frame)) 2 0
-        orElse faultAt 3 (first (λ i. not (ownedLegal owners b (ownedOf ws) i)) (length (ownedOf ws)))) ≡ fault n p → R
+    counted : (t : Bool) → ((faultIf t 1 0 orElse faultIf (eqb (b .frame) 0 || ltb mostFrame (b .frame)) 2 0 orElse faultAt 3 bad) orElse sliverFault b ws) ≡ fault n p → R
     counted true e = is by-count e
     counted false e = framed (eqb (b .frame) 0 || ltb mostFrame (b .frame)) e
 
@@ -142,34 +175,56 @@ pub record Told {R : Type 0} (owners : ℕ) (b : Board) (ws : List ℕ) (answer 
   pub is : WholeRefusal (length (ownedOf ws)) number place
   pub answered : answer ≡ refusal number place
 
-whole-told : {R : Type 0} (owners : ℕ) (b : Board) (ws : List ℕ) (refusal : ℕ → ℕ → R) (entry : List ℕ → R) (n p : ℕ) →
-    wholeFault owners b ws ≡ fault n p → Told owners b ws (askedFor owners b ws refusal entry) refusal
-unfolding sharedFault
-whole-told owners b ws refusal entry n p e = record {
-  number = n;
-  place = p;
-  is = whole-refusal owners b ws n p e;
-  answered = asked-refused owners b ws refusal entry (rw e);
-}
+module _ {R : Type 0} (refusal : ℕ → ℕ → R) (entry : List ℕ → R) (owners : ℕ) (b : Board) (ws : List ℕ) (n p : ℕ) where
+  told : teamsFault owners b ws ≡ fault n p → sharedFault owners b ws ≡ fault n p → Told owners b ws (askedFor owners b ws refusal entry) refusal
+  told e f = record { number = n; place = p; is = whole-refusal owners b ws n p e; answered = asked-refused owners b ws refusal entry f }
+
+  whole-told : wholeFault owners b ws ≡ fault n p → Told owners b ws (askedFor owners b ws refusal entry) refusal
+  unfolding teamsFault sharedFault
+  whole-told e = told (rw e) (rw e)
+
+  sliver-told : wholeFault owners b ws ≡ fine → absentOwnerFault b ws ≡ fine → sliverFault b ws ≡ fault n p → Told owners b ws (askedFor owners b ws refusal entry) refusal
+  unfolding teamsFault sharedFault
+  sliver-told e a f = told (rw (e, f)) (rw (e, a, f))
 
 -- nothing else does: of two tables with equal frames and equal windows of the owner, on which it is answered differently by any entry, one is refused so
 pub told-apart : {R : Type 0} {refusal : ℕ → ℕ → R} {entry : Board → List ℕ → R} → Entry refusal entry →
     (owners : ℕ) (b c : Board) (ws vs : List ℕ) → b .frame ≡ c .frame → own b ws ≡ own c vs →
     (askedFor owners b ws refusal (entry b) ≡ askedFor owners c vs refusal (entry c) → ⊥) →
     Told owners b ws (askedFor owners b ws refusal (entry b)) refusal ⊎ Told owners c vs (askedFor owners c vs refusal (entry c)) refusal
+unfolding teamsFault sharedFault
 told-apart {R} {refusal} {entry} is owners b c ws vs framed same differ = go (wholeFault owners b ws) refl (wholeFault owners c vs) refl
   where
-    go : (f : Fault) → wholeFault owners b ws ≡ f → (g : Fault) → wholeFault owners c vs ≡ g →
-        Told owners b ws (askedFor owners b ws refusal (entry b)) refusal ⊎ Told owners c vs (askedFor owners c vs refusal (entry c)) refusal
-    go (fault n p) e g h = inl (whole-told owners b ws refusal (entry b) n p e)
-    go fine e (fault n p) h = inr (whole-told owners c vs refusal (entry c) n p h)
-    go fine e fine h = absurd (differ (alone is owners b c ws vs e h framed same))
+    One : Type 0
+    One = Told owners b ws (askedFor owners b ws refusal (entry b)) refusal ⊎ Told owners c vs (askedFor owners c vs refusal (entry c)) refusal
+
+    slivers : wholeFault owners b ws ≡ fine → wholeFault owners c vs ≡ fine → absentOwnerFault c vs ≡ fine →
+        (f : Fault) → sliverFault b ws ≡ f → (g : Fault) → sliverFault c vs ≡ g → One
+    slivers e h a (fault n p) s g t = inl (sliver-told refusal (entry b) owners b ws n p e (absent-same b c ws vs same ∙ a) s)
+    slivers e h a fine s (fault n p) t = inr (sliver-told refusal (entry c) owners c vs n p h a t)
+    slivers e h a fine s fine t = absurd (differ (alone is owners b c ws vs (rw (e, s)) (rw (h, t)) framed same))
+
+    absent : wholeFault owners b ws ≡ fine → wholeFault owners c vs ≡ fine → (f : Fault) → absentOwnerFault c vs ≡ f → One
+    absent e h (fault n p) a =
+        let there : sharedFault owners b ws ≡ fault n p = rw (e, absent-same b c ws vs same, a) in
+        let here : sharedFault owners c vs ≡ fault n p = rw (h, a) in
+        absurd (differ (asked-refused owners b ws refusal (entry b) there ∙ sym (asked-refused owners c vs refusal (entry c) here)))
+    absent e h fine a = slivers e h a (sliverFault b ws) refl (sliverFault c vs) refl
+
+    go : (f : Fault) → wholeFault owners b ws ≡ f → (g : Fault) → wholeFault owners c vs ≡ g → One
+    go (fault n p) e g h = inl (whole-told refusal (entry b) owners b ws n p e)
+    go fine e (fault n p) h = inr (whole-told refusal (entry c) owners c vs n p h)
+    go fine e fine h = absent e h (absentOwnerFault c vs) refl
 
 -- an owner's windows by themselves depend on nothing else either
-pub own-alone : (owners : ℕ) (b c : Board) (ws vs : List ℕ) → wholeFault owners b ws ≡ fine → wholeFault owners c vs ≡ fine → own b ws ≡ own c vs →
+pub own-alone : (owners : ℕ) (b c : Board) (ws vs : List ℕ) → teamsFault owners b ws ≡ fine → teamsFault owners c vs ≡ fine → own b ws ≡ own c vs →
     (room : ℕ) (out : List ℕ) → (ownAnswer owners b ws room ≡ ownAnswer owners c vs room) × (ownOut owners b ws out ≡ ownOut owners c vs out)
-unfolding ownAnswer ownOut ownFault sharedFault absentOwnerFault
-own-alone owners b c ws vs e f same room out = (rw (e, f, same), rw (e, f, same))
+unfolding ownAnswer ownOut ownFault
+own-alone owners b c ws vs e f same room out =
+    let g = shared-absent owners b ws e in
+    let h = shared-absent owners c vs f in
+    let a = absent-same b c ws vs same in
+    (rw (g, h, a, same), rw (g, h, a, same))
 
 -- ---- a table with one owner
 
@@ -239,36 +294,46 @@ module _ (owners : ℕ) (b : Board) (exists : b .owner < owners) (ws : List ℕ)
   unfolding wholeFault tableFault ownedFault windowFault
   owned-whole = rw (owned-list (b .owner) ws, owned-read (b .owner) ws, owned-bad (b .owner) owners b exists (windowsOf ws))
 
-  pub pairs-fault : sharedFault owners b threes ≡ tableFault b ws
+  pub pairs-fault : sharedFault owners b threes ≡ (tableFault b ws orElse sliverFault b threes)
   unfolding sharedFault absentOwnerFault
   pairs-fault = rw owned-whole (go (tableFault b ws) refl)
     where
-      go : (f : Fault) → tableFault b ws ≡ f → (f orElse faultIf (eqb (length (own b threes)) 0) 1 0) ≡ f
+      go : (f : Fault) → tableFault b ws ≡ f →
+          (f orElse faultIf (eqb (length (own b threes)) 0) 1 0 orElse sliverFault b threes) ≡ (f orElse sliverFault b threes)
       go (fault n p) e = refl
       go fine e =
           let ok = table-legal b ws e in
           rw (owned-back (b .owner) ws (ok .even), ne-eqb (length ws) 0 (λ z. omega (arith, ok .some)))
+
+  -- and by nothing else on a board that allows every window
+  pub pairs-only : b .shortest ≡ 1 → sharedFault owners b threes ≡ tableFault b ws
+  pairs-only one = pairs-fault ∙ go (tableFault b ws) refl
+    where
+      go : (f : Fault) → tableFault b ws ≡ f → (f orElse sliverFault b threes) ≡ f
+      go (fault n p) e = refl
+      go fine e = one-tick owners b threes one (owned-whole ∙ e)
 
   -- where they are a table they are its owner's windows
   pub own-pairs : length ws % 2 ≡ 0 → own b threes ≡ ws
   own-pairs h = owned-back (b .owner) ws h
 
   -- and they are answered as the pairs are, refusals and places too
-  pub one-owner : {R : Type 0} {refusal : ℕ → ℕ → R} {entry : Board → List ℕ → R} → Entry refusal entry → askedFor owners b threes refusal (entry b) ≡ entry b ws
-  one-owner {R} {refusal} {entry} is = go (tableFault b ws) refl
+  pub one-owner : b .shortest ≡ 1 → {R : Type 0} {refusal : ℕ → ℕ → R} {entry : Board → List ℕ → R} → Entry refusal entry →
+      askedFor owners b threes refusal (entry b) ≡ entry b ws
+  one-owner one {R} {refusal} {entry} is = go (tableFault b ws) refl
     where
       go : (f : Fault) → tableFault b ws ≡ f → askedFor owners b threes refusal (entry b) ≡ entry b ws
-      go (fault n p) e = asked-refused owners b threes refusal (entry b) (pairs-fault ∙ e) ∙ sym (is .checks b ws n p e)
+      go (fault n p) e = asked-refused owners b threes refusal (entry b) (pairs-only one ∙ e) ∙ sym (is .checks b ws n p e)
       go fine e =
-          asked-fine owners b threes refusal (entry b) (pairs-fault ∙ e) ∙ ap (entry b) (own-pairs (table-legal b ws e .even))
+          asked-fine owners b threes refusal (entry b) (pairs-only one ∙ e) ∙ ap (entry b) (own-pairs (table-legal b ws e .even))
 
 -- ---- a trace, whose bytes are refused before any table
 
-or-nine : {A B : Type 0} (r : Read A) (f g : A → ℕ → Answer B) → ((a : A) (next : ℕ) → f a next ≡ g a next) → orNine r f ≡ orNine r g
+pub or-nine : {A B : Type 0} (r : Read A) (f g : A → ℕ → Answer B) → ((a : A) (next : ℕ) → f a next ≡ g a next) → orNine r f ≡ orNine r g
 or-nine (read a next) f g h = h a next
 or-nine (bad o) f g h = refl
 
-pub replay-alone : (b c : Board) (ws vs ts bytes : List ℕ) → wholeFault teams b ws ≡ fine → wholeFault teams c vs ≡ fine →
+pub replay-alone : (b c : Board) (ws vs ts bytes : List ℕ) → teamsFault teams b ws ≡ fine → teamsFault teams c vs ≡ fine →
     b .frame ≡ c .frame → own b ws ≡ own c vs → replayFor b ws ts bytes ≡ replayFor c vs ts bytes
 unfolding replayFor recordsFor
 replay-alone b c ws vs ts bytes e f framed same =
@@ -288,9 +353,9 @@ replay-told-apart b c ws vs ts bytes framed same = go (traceOf bytes)
     go (bad o) differ = absurd (differ refl)
     go (read rs next) differ = told-apart (records-entry ts (timed rs)) teams b c ws vs framed same differ
 
-pub replay-one-owner : (b : Board) → b .owner < teams → (ws ts bytes : List ℕ) → replayFor b (asOwned (b .owner) ws) ts bytes ≡ replayAnswer b ws ts bytes
+pub replay-one-owner : (b : Board) → b .owner < teams → b .shortest ≡ 1 → (ws ts bytes : List ℕ) → replayFor b (asOwned (b .owner) ws) ts bytes ≡ replayAnswer b ws ts bytes
 unfolding replayFor recordsFor replayAnswer
-replay-one-owner b exists ws ts bytes = or-nine (traceOf bytes) _ _ (λ rs next. one-owner teams b exists ws (records-entry ts (timed rs)))
+replay-one-owner b exists one ws ts bytes = or-nine (traceOf bytes) _ _ (λ rs next. one-owner teams b exists ws one (records-entry ts (timed rs)))
 
 -- where the list has no fault, what the owner's windows get is answered
 pub replay-own : (b : Board) (ws ts bytes : List ℕ) → sharedFault teams b ws ≡ fine → replayFor b ws ts bytes ≡ replayAnswer b (own b ws) ts bytes

@@ -1,8 +1,8 @@
 -- The theorems at marked examples: their premises are the rows of the table of examples, so none of them is empty
-use mathlib.Core.Path.{_≡_, refl, ap, _∙_}
+use mathlib.Core.Path.{_≡_, refl, sym, ap, _∙_}
 use mathlib.Core.Bool.{true}
 use mathlib.Core.Option.{some}
-use mathlib.Core.Logic.{_⊎_}
+use mathlib.Core.Logic.{_⊎_, inl}
 use mathlib.Core.List.{List, [], _∷_, _++_, map}
 use Prim.Native.Nat.{ℕ, zero, suc, _-_, _*_, _≤_, _<_}
 use native.Mathlib.Omega.{arith}
@@ -16,21 +16,21 @@ use Rattle.scope.specs.Verdict.{Verdict.meets, Verdict.miss}
 use Rattle.scope.specs.Bound.{Bound.bound, asked}
 use Rattle.scope.specs.Jobs.{Job, job, jobsOf, taskOf, deadline}
 use Rattle.scope.specs.Machine.{edf, workLeft}
-use Rattle.scope.specs.Limits.{teams, mostWindows, mostTasks, mostNumber}
-use Rattle.scope.specs.Plan.{Read.read, Plan, planOf, planAnswer, numberBytesWithin, numberBytes, numbersBytes, planBytes, writeAnswer, writeOut}
+use Rattle.scope.specs.Limits.{teams, mostSettings, mostWindows, mostTasks, mostNumber}
+use Rattle.scope.specs.Plan.{Read.read, Plan, planOf, numberBytesWithin, numberBytes, numbersBytes, planBytes, writeAnswer, writeOut}
 use Rattle.scope.specs.Line.{lineAnswer, lineOut}
 use Rattle.scope.specs.Run.{Outcome.met, outcome, countOf, counts}
 use Rattle.scope.specs.Answers.{Fault.fault, Answer.given, Answer.refused, windowListFault, taskListFault, verdictAnswer, boundAnswer, runAnswer, runOut, criticalAnswer}
 use Rattle.scope.specs.Answers.{criticalOf, criticalOut, leastSupplyAnswer, outageAnswer}
 use Rattle.scope.specs.Trace.{Stamped, traceOf, Record, timed, ticksOf, releases, completion, completions, traceBytes, stampedFrom}
 use Rattle.scope.specs.Replay.{endedFrom, recorded, Replayed.same, Replayed.differs, Replayed.missed, replayAnswer}
-use Rattle.scope.specs.Shared.{own, asOwned, sharedFault, ownAnswer, verdictFor, runOutFor, replayFor}
+use Rattle.scope.specs.Shared.{own, asOwned, sharedFault, ownAnswer, verdictFor, runOutFor, replayFor, planAnswer}
 use Rattle.scope.specs.Demands.{Silent, LeastMiss, Way, Served}
-use Rattle.scope.specs.Examples.{Reply.amounts, Reply.windows, Reply.bytesIn, Reply.aVerdict, Reply.bounds, Reply.aRun, X, lab, XShared, on, onFor, reply, table, examples, row}
+use Rattle.scope.specs.Examples.{Reply.amounts, Reply.windows, Reply.bytesIn, Reply.aVerdict, Reply.bounds, Reply.aRun, X, lab, XShared, on, onFor, onAtLeast, reply, table, examples, row}
 use Rattle.scope.specs.Examples.{Reply.aReplay}
 use Rattle.scope.specs.Computing.{everything}
 use Rattle.theory.specs.Numbers.{by-lexically}
-use Rattle.theory.specs.Answers.{run-given}
+use Rattle.theory.specs.Answers.{fault-not-fine, run-given}
 use Rattle.theory.specs.Exact.{exact-meets, exact-miss}
 use Rattle.theory.specs.Dues.{dueAfter, miss-at-deadline}
 use Rattle.theory.specs.Bound.{exact-bound}
@@ -47,7 +47,9 @@ use Rattle.theory.specs.Traces.{shift-answer}
 use Rattle.theory.specs.Replays.{replay-given, same-completions, FirstPair, machineEnded, replayed-differs, meets-no-miss}
 use Rattle.theory.specs.Recorded.{recorded-same, recorded-met, recorded-missed}
 use Rattle.theory.specs.Shared.{one-owner-a-tick, no-such-owner}
-use Rattle.theory.specs.Alone.{verdict-entry, run-out-entry, alone, WholeRefusal, whole-refusal, Told, told-apart, own-alone, one-owner, replay-alone, replay-one-owner}
+use Rattle.theory.specs.Alone.{verdict-entry, run-out-entry, teamsFault, alone, WholeRefusal, whole-refusal, Told, told-apart, own-alone, one-owner, replay-alone, replay-one-owner}
+use Rattle.theory.specs.Shortest.{verdict-known, Twelve, exactly-twelve, one-answer, never-twelve, smaller-same, replay-smaller, PlanTwelve, plan-twelve}
+use Rattle.theory.specs.Shortest.{withSettings, smaller-plan, old-form}
 use Rattle.theory.specs.PlanBytes.{Writable, plan-length, round-trip, left-over, only-bytes}
 
 abbrev pub w6 : List ℕ
@@ -237,7 +239,7 @@ run-kept-at =
     run-kept 10 0 (on 8) X (1 ∷ 4 ∷ 4 ∷ []) 10 (2 ∷ 0 ∷ []) (9 ∷ []) bad
 
 abbrev no-windows : Plan
-no-windows = record { frame = 8; windows = []; tasks = 1 ∷ [] }
+no-windows = record { settings = []; frame = 8; windows = []; tasks = 1 ∷ [] }
 
 write-kept-at : writeOut no-windows (9 ∷ []) ≡ 9 ∷ []
 unfolding reply table
@@ -246,10 +248,10 @@ write-kept-at =
     let bad : writeAnswer no-windows 1 ≡ refused 1 0 = cc in
     write-kept 1 0 no-windows (9 ∷ []) bad
 
-line-kept-at : lineOut (planAnswer (8 ∷ 1 ∷ 0 ∷ 2 ∷ 0 ∷ [])) (9 ∷ 9 ∷ []) ≡ 9 ∷ 9 ∷ []
+line-kept-at : lineOut (planAnswer 0 (8 ∷ 1 ∷ 0 ∷ 2 ∷ 0 ∷ [])) (9 ∷ 9 ∷ []) ≡ 9 ∷ 9 ∷ []
 unfolding reply table
 line-kept-at =
-    let a = planAnswer (8 ∷ 1 ∷ 0 ∷ 2 ∷ 0 ∷ []) in
+    let a = planAnswer 0 (8 ∷ 1 ∷ 0 ∷ 2 ∷ 0 ∷ []) in
     let e : bytesIn (lineAnswer a 2) (lineOut a (9 ∷ 9 ∷ [])) ≡ bytesIn (refused 8 14) (9 ∷ 9 ∷ []) = row table examples "line without room" in
     let short : lineAnswer a 2 ≡ refused 8 14 = cc in
     line-kept 8 14 a (9 ∷ 9 ∷ []) short
@@ -257,7 +259,7 @@ line-kept-at =
 -- ---- the plan file
 
 abbrev pub w6-plan : Plan
-w6-plan = record { frame = 8; windows = X; tasks = w6 }
+w6-plan = record { settings = []; frame = 8; windows = X; tasks = w6 }
 
 abbrev pub w6-file : List ℕ
 w6-file = 8 ∷ 2 ∷ 0 ∷ 2 ∷ 5 ∷ 7 ∷ 2 ∷ 1 ∷ 4 ∷ 4 ∷ 2 ∷ 8 ∷ 6 ∷ []
@@ -270,6 +272,7 @@ w6-writable : Writable w6-plan
 unfolding badCount windowListFault taskListFault greatest
 w6-writable =
     record {
+      settings = up-to-greatest mostNumber [] (omega arith);
       frame = omega arith;
       windows = up-to-greatest mostNumber X (omega arith);
       tasks = up-to-greatest mostNumber w6 (omega arith);
@@ -277,24 +280,24 @@ w6-writable =
       taskList = refl;
     }
 
-pub w6-reads : planOf w6-file ≡ given w6-plan
+pub w6-reads : planOf 0 w6-file ≡ given w6-plan
 w6-reads = rw w6-bytes at (round-trip w6-plan w6-writable)
 
-w6-only : (bytes : List ℕ) → UpTo 255 bytes → planOf bytes ≡ given w6-plan → bytes ≡ w6-file
-w6-only bytes u e = only-bytes bytes w6-plan u e ∙ w6-bytes
+w6-only : (bytes : List ℕ) → UpTo 255 bytes → planOf 0 bytes ≡ given w6-plan → bytes ≡ w6-file
+w6-only bytes u e = only-bytes 0 bytes w6-plan e u ∙ w6-bytes
 
 -- bytes left over after its 13
-w6-left-over : (b : ℕ) (rest : List ℕ) → planOf (w6-file ++ (b ∷ rest)) ≡ refused 9 13
+w6-left-over : (b : ℕ) (rest : List ℕ) → planOf 0 (w6-file ++ (b ∷ rest)) ≡ refused 9 13
 w6-left-over b rest = rw w6-bytes at (left-over w6-plan w6-writable b rest)
 
 -- of which a read of 1,128 bytes tells as much as a read of all
-w6-first-bytes : (b : ℕ) (rest : List ℕ) → planAnswer (take (suc mostPlanBytes) (w6-file ++ (b ∷ rest))) ≡ refused 9 13
+w6-first-bytes : (b : ℕ) (rest : List ℕ) → planAnswer 0 (take (suc (mostPlanBytes 0)) (w6-file ++ (b ∷ rest))) ≡ refused 9 13
 unfolding planAnswer
-w6-first-bytes b rest = first-answer (w6-file ++ (b ∷ rest)) (suc mostPlanBytes) (omega arith) ∙ rw (w6-left-over b rest)
+w6-first-bytes b rest = first-answer (w6-file ++ (b ∷ rest)) (suc (mostPlanBytes 0)) 0 (omega arith) ∙ rw (w6-left-over b rest)
 
 -- a plan as long as a plan can be: every number but the two counts takes five bytes
 longest : Plan
-longest = record { frame = mostNumber; windows = replicate (2 * mostWindows) mostNumber; tasks = replicate (3 * mostTasks) mostNumber }
+longest = record { settings = replicate mostSettings mostNumber; frame = mostNumber; windows = replicate (2 * mostWindows) mostNumber; tasks = replicate (3 * mostTasks) mostNumber }
 
 five-for-most : length (numberBytes mostNumber) ≡ 5
 five-for-most =
@@ -311,12 +314,13 @@ unfolding numbersBytes
 five-each zero = refl
 five-each (suc n) = omega (arith, length-append (numberBytes mostNumber) (numbersBytes (replicate n mostNumber)), five-for-most, five-each n)
 
-longest-bytes : length (planBytes longest) ≡ mostPlanBytes
+longest-bytes : length (planBytes longest) ≡ mostPlanBytes mostSettings
 unfolding longest
 longest-bytes = omega (
   arith,
   plan-length longest,
   five-for-most,
+  five-each mostSettings,
   five-each (2 * mostWindows),
   five-each (3 * mostTasks),
   ap length (number-one mostWindows (omega arith)),
@@ -327,6 +331,7 @@ longest-writable : Writable longest
 unfolding longest badCount windowListFault taskListFault greatest
 longest-writable =
     record {
+      settings = up-to-greatest mostNumber (replicate mostSettings mostNumber) (omega arith);
       frame = omega arith;
       windows = up-to-greatest mostNumber (replicate (2 * mostWindows) mostNumber) (omega arith);
       tasks = up-to-greatest mostNumber (replicate (3 * mostTasks) mostNumber) (omega arith);
@@ -334,8 +339,9 @@ longest-writable =
       taskList = refl;
     }
 
-longest-most : length (planBytes longest) ≤ mostPlanBytes
-longest-most = longest-plan (planBytes longest) longest (round-trip longest longest-writable)
+longest-most : length (planBytes longest) ≤ mostPlanBytes mostSettings
+unfolding longest
+longest-most = longest-plan mostSettings (planBytes longest) longest (round-trip longest longest-writable)
 
 -- ---- a board's trace
 
@@ -458,12 +464,12 @@ early-same = recorded-same (on 8) X late-tasks refl refl full-jobs 10 refl (omeg
 
 -- W6's group is answered on X with owner 1's windows beside it as on X read as one owner's, which is as on X alone
 x-alone : verdictFor (on 8) XShared w6 ≡ verdictFor (on 8) (asOwned 0 X) w6
-unfolding everything
+unfolding everything teamsFault
 x-alone = alone (verdict-entry w6) teams (on 8) (on 8) XShared (asOwned 0 X) refl refl refl refl
 
 x-one-owner : verdictFor (on 8) (asOwned 0 X) w6 ≡ verdictAnswer (on 8) X w6
 unfolding verdictFor
-x-one-owner = one-owner teams (on 8) (omega arith) X (verdict-entry w6)
+x-one-owner = one-owner teams (on 8) (omega arith) X refl (verdict-entry w6)
 
 w6-shared : verdictFor (on 8) XShared w6 ≡ given (miss 6 2 3 2)
 w6-shared = x-alone ∙ x-one-owner ∙ w6-misses
@@ -471,41 +477,93 @@ w6-shared = x-alone ∙ x-one-owner ∙ w6-misses
 -- as owner 1's they get the same
 x-second : verdictFor (onFor 8 1) (asOwned 1 X) w6 ≡ verdictAnswer (onFor 8 1) X w6
 unfolding verdictFor
-x-second = one-owner teams (onFor 8 1) (omega arith) X (verdict-entry w6)
+x-second = one-owner teams (onFor 8 1) (omega arith) X refl (verdict-entry w6)
 
 -- W13's counts, and W7's trace
 w13-alone : runOutFor (on 8) XShared w7 10 w13 (9 ∷ 9 ∷ 9 ∷ []) ≡ runOutFor (on 8) (asOwned 0 X) w7 10 w13 (9 ∷ 9 ∷ 9 ∷ [])
-unfolding everything
+unfolding everything teamsFault
 w13-alone = alone (run-out-entry w7 10 w13 (9 ∷ 9 ∷ 9 ∷ [])) teams (on 8) (on 8) XShared (asOwned 0 X) refl refl refl refl
 
 trace-alone : replayFor (on 8) XShared w7 trace ≡ given same
-unfolding everything
+unfolding everything teamsFault
 trace-alone =
-    replay-alone (on 8) (on 8) XShared (asOwned 0 X) w7 trace refl refl refl refl ∙ replay-one-owner (on 8) (omega arith) X w7 trace ∙ trace-same
+    replay-alone (on 8) (on 8) XShared (asOwned 0 X) w7 trace refl refl refl refl ∙ replay-one-owner (on 8) (omega arith) refl X w7 trace ∙ trace-same
 
 -- tick 2 is owner 1's, so it is not owner 0's
 tick-of-one : suppliedBy (on 8) (own (on 8) XShared) 2 ≡ true → ⊥
-unfolding everything
+unfolding everything teamsFault
 tick-of-one e = let z : _≡_ {A = ℕ} 0 1 = one-owner-a-tick teams (on 8) (onFor 8 1) XShared refl refl 2 e refl in omega arith
 
 -- there is no owner 2
 third-refused : sharedFault teams (onFor 8 2) XShared ≡ fault 1 0
-unfolding everything
+unfolding everything teamsFault
 third-refused = no-such-owner teams (onFor 8 2) XShared refl (omega arith)
 
 -- a list in which the other team's window is empty is told apart, by 3 at that window
 other-empty : Told teams (on 8) (0 ∷ 2 ∷ 0 ∷ []) (verdictFor (on 8) (0 ∷ 2 ∷ 0 ∷ []) []) refused
     ⊎ Told teams (on 8) (0 ∷ 2 ∷ 0 ∷ 4 ∷ 4 ∷ 1 ∷ []) (verdictFor (on 8) (0 ∷ 2 ∷ 0 ∷ 4 ∷ 4 ∷ 1 ∷ []) []) refused
-unfolding everything
+unfolding everything teamsFault
 other-empty =
     told-apart (verdict-entry []) teams (on 8) (on 8) (0 ∷ 2 ∷ 0 ∷ []) (0 ∷ 2 ∷ 0 ∷ 4 ∷ 4 ∷ 1 ∷ []) refl refl
     (λ e. let z : _≡_ {A = ℕ} 0 1 = cc in omega arith)
 
 at-its-window : WholeRefusal 2 3 1
-unfolding everything
+unfolding everything teamsFault
 at-its-window = whole-refusal teams (on 8) (0 ∷ 2 ∷ 0 ∷ 4 ∷ 4 ∷ 1 ∷ []) 3 1 refl
 
 -- owner 0's windows by themselves are X's, too
 x-own-alone : ownAnswer teams (on 8) XShared 4 ≡ ownAnswer teams (on 8) (asOwned 0 X) 4
-unfolding everything
+unfolding everything teamsFault
 x-own-alone = own-alone teams (on 8) (on 8) XShared (asOwned 0 X) refl refl refl 4 [] .0
+
+-- ---- the shortest window
+
+-- on a board of two ticks and more the table of two teams is refused at owner 1's window of one tick, whoever asks
+x-twelve : Twelve teams (onAtLeast 8 0 2) XShared 3
+unfolding everything
+x-twelve = exactly-twelve teams (onAtLeast 8 0 2) XShared _ (verdict-known (onAtLeast 8 0 2) w6) 3 .0 refl
+
+-- and with m out of its range at 64
+x-range : verdictFor (onAtLeast 8 1 0) XShared w6 ≡ refused 12 64
+unfolding everything
+x-range =
+    exactly-twelve teams (onAtLeast 8 1 0) XShared _ (verdict-known (onAtLeast 8 1 0) w6) 64 .1
+    (record { whole = refl; present = refl; at = inl (inl refl, refl) })
+
+-- a list in which the other team has a sliver is told apart, by 12 at that window
+other-sliver : WholeRefusal 2 12 1
+unfolding everything teamsFault
+other-sliver = whole-refusal teams (onAtLeast 8 0 2) (0 ∷ 2 ∷ 0 ∷ 4 ∷ 5 ∷ 1 ∷ []) 12 1 refl
+
+-- windows of two ticks and more are answered as on a board that allows every window, and there 12 never comes
+x-smaller : verdictFor (onAtLeast 8 0 2) (asOwned 0 X) w6 ≡ verdictFor (on 8) (asOwned 0 X) w6
+unfolding everything
+x-smaller =
+    smaller-same teams (onAtLeast 8 0 2) (on 8) (asOwned 0 X) refl refl (omega arith) (omega arith) (verdict-entry w6) (λ p e. fault-not-fine (sym e))
+
+x-never : (p : ℕ) → verdictFor (on 8) XShared w6 ≡ refused 12 p → ⊥
+unfolding verdictFor
+x-never p e = never-twelve teams (on 8) XShared refl _ (verdict-known (on 8) w6) p e
+
+x-at-one : verdictFor (onFor 8 1) XShared w6 ≡ verdictAnswer (onFor 8 1) (own (onFor 8 1) XShared) w6
+unfolding everything
+x-at-one = one-answer teams (onFor 8 1) XShared refl refused (λ l. verdictAnswer (onFor 8 1) l w6)
+
+trace-smaller : replayFor (onAtLeast 8 0 2) (asOwned 0 X) w7 trace ≡ replayFor (on 8) (asOwned 0 X) w7 trace
+unfolding everything
+trace-smaller = replay-smaller (onAtLeast 8 0 2) (on 8) (asOwned 0 X) w7 trace refl refl (omega arith) (omega arith) (λ p e. fault-not-fine (sym e))
+
+-- W6's file, with m = 1 before it, with m = 2 as with m = 1, and with m = 3
+w6-old-form : planAnswer 1 (1 ∷ w6-file) ≡ planAnswer 0 w6-file
+unfolding greatest
+w6-old-form = old-form w6-file w6-plan (up-to-greatest 255 w6-file (omega arith)) w6-reads
+
+w6-smaller-plan : planAnswer 1 (planBytes (withSettings (2 ∷ []) w6-plan)) ≡ planAnswer 1 (planBytes (withSettings (1 ∷ []) w6-plan))
+unfolding everything
+w6-smaller-plan =
+    smaller-plan w6-plan w6-writable 2 1 (up-to-greatest mostNumber (2 ∷ []) (omega arith)) (up-to-greatest mostNumber (1 ∷ []) (omega arith)) (omega arith) (omega arith)
+    (λ q e. let z : _≡_ {A = ℕ} 0 1 = cc in omega arith)
+
+w6-plan-twelve : PlanTwelve 1 (3 ∷ w6-file) 0
+unfolding everything
+w6-plan-twelve = plan-twelve 1 (3 ∷ w6-file) 0 .0 refl

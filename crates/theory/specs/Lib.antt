@@ -38,7 +38,9 @@ pub mod PlanBytes
 pub mod Replays
 pub mod Recorded
 pub mod Shared
+pub mod Slivers
 pub mod Alone
+pub mod Shortest
 pub mod Refused
 pub mod Applied
 pub mod Sharp

@@ -201,7 +201,7 @@ module _ (board : Board) (q : ℕ → Bool) where
 
 module _ (p : ℕ → Bool) (n : ℕ) where
   abbrev framed : Board
-  framed = record { frame = n; owner = 0 }
+  framed = record { frame = n; owner = 0; shortest = 1 }
 
   -- no run is open past n, where the pattern is false
   maximal-closed : Closed framed (within p n) (maximalRuns p n) (suc n)

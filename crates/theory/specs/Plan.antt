@@ -1,6 +1,6 @@
--- A plan file that is read: what stands where in it, how long it is at most, and how many of its bytes decide the answer. A plan stands at
--- an offset, so that this serves forms of the file with other numbers before P
-use mathlib.Core.Path.{_≡_, refl, subst}
+-- A plan file that is read: what stands where in it, how long it is at most, and how many of its bytes decide the answer. All of it over how many settings
+-- stand before P
+use mathlib.Core.Path.{_≡_, refl, ap, subst}
 use mathlib.Core.List.{List}
 use Prim.Native.Nat.{ℕ, _+_, _*_, _≤_, _<_}
 use native.Mathlib.Omega.{arith}
@@ -12,15 +12,16 @@ use borrow.Author.Tests.{ltb-false, lt-ltb, le-ltb}
 use Rattle.scope.specs.Limits.{mostWindows, mostTasks}
 use Rattle.scope.specs.Answers.{Fault, Fault.fine, Fault.fault, Answer, Answer.given, Answer.refused, unless}
 use Rattle.scope.specs.Plan.{Read, Read.read, Read.bad, readNumber, readNumbers, Plan, orNine, past, andThen, countFault}
-use Rattle.scope.specs.Plan.{windowCountFault, taskCountFault, restFault, Listed, asListed, countedFrom, listsFrom, planFrom, planOf, planAnswer}
+use Rattle.scope.specs.Plan.{windowCountFault, taskCountFault, restFault, Listed, asListed, countedFrom, listsFrom, planFrom, planOf}
+use Rattle.scope.specs.Shared.{planAnswer}
 use Rattle.theory.specs.Numbers.{or-neither}
 use Rattle.theory.specs.Answers.{faultIf-fine, unless-given}
 use Rattle.theory.specs.Seven.{number-next, number-small, first-number}
 use Rattle.theory.specs.Series.{numbers-next, first-numbers}
 
--- P has at most five bytes, the two counts have one each, and every number of a window or a task has at most five: 1127
-abbrev pub mostPlanBytes : ℕ
-mostPlanBytes = 5 * (1 + 2 * mostWindows + 3 * mostTasks) + 2
+-- k settings and P have at most five bytes each, the two counts have one each, and every number of a window or a task has at most five: 1127 without settings
+abbrev pub mostPlanBytes : ℕ → ℕ
+mostPlanBytes k = 5 * (k + 1 + 2 * mostWindows + 3 * mostTasks) + 2
 
 -- ---- the checks of a file: of a count and of the end
 
@@ -90,7 +91,7 @@ module _ (k least most number : ℕ) (bytes : List ℕ) (at : ℕ) (l : List ℕ
       let one = number-small bytes at (q .count) (q .afterCount) (q .counted) (omega arith) in
       (s .0, omega (arith, s .2, one), s .3 (number-next bytes at (q .count) (q .afterCount) (q .counted) .2))
 
--- ---- a plan that stands at an offset, up to end
+-- ---- a plan that stands at an offset, after its settings, up to end
 
 pub record PlanAt (bytes : List ℕ) (at : ℕ) (p : Plan) (end : ℕ) : Type 0 where
   pub afterFrame : ℕ
@@ -109,7 +110,7 @@ module _ (bytes : List ℕ) (at : ℕ) (p : Plan) (end : ℕ) (q : PlanAt bytes 
   tasks-next = counted-next 3 0 mostTasks 4 bytes (q .afterWindows) (p .tasks) end (q .tasks) (omega arith)
 
   -- P takes 5 bytes at most, the windows 641 and the tasks 481
-  pub plan-end : end ≤ at + mostPlanBytes
+  pub plan-end : end ≤ at + mostPlanBytes 0
   plan-end =
       omega (
         arith,
@@ -121,7 +122,7 @@ module _ (bytes : List ℕ) (at : ℕ) (p : Plan) (end : ℕ) (q : PlanAt bytes 
       )
 
   -- it is read there, unless bytes are left over
-  pub plan-at : planFrom bytes at ≡ unless (restFault bytes end) p
+  pub plan-at : planFrom bytes (p .settings) at ≡ unless (restFault bytes end) p
   unfolding planFrom listsFrom
   plan-at =
       rw (
@@ -131,13 +132,13 @@ module _ (bytes : List ℕ) (at : ℕ) (p : Plan) (end : ℕ) (q : PlanAt bytes 
       )
 
 -- a plan is given only where it stands, up to the end of the file
-pub plan-read : (bytes : List ℕ) (at : ℕ) (p : Plan) → planFrom bytes at ≡ given p → PlanAt bytes at p (length bytes)
+plan-read : (bytes settings : List ℕ) (at : ℕ) (p : Plan) → planFrom bytes settings at ≡ given p → (settings ≡ p .settings) × PlanAt bytes at p (length bytes)
 unfolding planFrom listsFrom
-plan-read bytes at p given-p =
+plan-read bytes settings at p given-p =
     orNine-given (readNumber bytes at) _ p given-p (λ P afterFrame frame r₁.
     andThen-given (countedFrom 2 windowCountFault bytes afterFrame) _ p r₁ (λ ws windows r₂.
     andThen-given (countedFrom 3 taskCountFault bytes (ws .next)) _ p r₂ (λ ts tasks r₃.
-    let v : Plan = record { frame = P; windows = ws .numbers; tasks = ts .numbers } in
+    let v : Plan = record { settings = settings; frame = P; windows = ws .numbers; tasks = ts .numbers } in
     let r = unless-given (restFault bytes (ts .next)) v p r₃ in
     let q : PlanAt bytes at v (ts .next) =
     record {
@@ -148,11 +149,41 @@ plan-read bytes at p given-p =
       tasks = counted-read 3 taskCountFault bytes (ws .next) ts tasks;
     } in
     let z : ts .next ≡ length bytes = omega (arith, no-rest bytes (ts .next) (r .0), tasks-next bytes at v (ts .next) q .2) in
-    subst (PlanAt bytes at p) z (subst (λ (u : Plan). PlanAt bytes at u (ts .next)) (r .1) q))))
+    (ap (λ (u : Plan). u .settings) (r .1), subst (PlanAt bytes at p) z (subst (λ (u : Plan). PlanAt bytes at u (ts .next)) (r .1) q)))))
 
-pub longest-plan : (bytes : List ℕ) (p : Plan) → planOf bytes ≡ given p → length bytes ≤ mostPlanBytes
-unfolding planOf
-longest-plan bytes p e = plan-end bytes 0 p (length bytes) (plan-read bytes 0 p e)
+-- ---- a file of k settings and a plan, up to end
+
+pub record FileOf (k : ℕ) (bytes : List ℕ) (p : Plan) (end : ℕ) : Type 0 where
+  pub afterSettings : ℕ
+  pub settings : readNumbers bytes k 0 ≡ read (p .settings) afterSettings
+  pub plan : PlanAt bytes afterSettings p end
+
+module _ (k : ℕ) (bytes : List ℕ) (p : Plan) where
+  -- it is read, unless bytes are left over
+  pub file-at : (end : ℕ) → FileOf k bytes p end → planOf k bytes ≡ unless (restFault bytes end) p
+  unfolding planOf
+  file-at end q = rw (q .settings) (plan-at bytes (q .afterSettings) p end (q .plan))
+
+  -- a plan is given only by such a file
+  pub file-read : planOf k bytes ≡ given p → FileOf k bytes p (length bytes)
+  unfolding planOf
+  file-read e =
+      orNine-given (readNumbers bytes k 0) _ p e (λ settings after read-settings r.
+      let q = plan-read bytes settings after p r in
+      record { afterSettings = after; settings = rw (← (q .0)) read-settings; plan = q .1 })
+
+  -- with as many settings as its form has
+  pub file-settings : (end : ℕ) → FileOf k bytes p end → (length (p .settings) ≡ k)
+  file-settings end q = numbers-next bytes 0 k (p .settings) (q .afterSettings) (q .settings) .0
+
+  pub longest-plan : planOf k bytes ≡ given p → length bytes ≤ mostPlanBytes k
+  longest-plan e =
+      let q = file-read e in
+      omega (
+        arith,
+        numbers-next bytes 0 k (p .settings) (q .afterSettings) (q .settings) .2,
+        plan-end bytes (q .afterSettings) p (length bytes) (q .plan),
+      )
 
 -- ---- the first k bytes, where these are more than a plan can have
 
@@ -190,9 +221,9 @@ module _ (bytes : List ℕ) (k : ℕ) where
       let m : each * n ≤ each * most = mul-le-mul-left each c in
       rw (first-numbers bytes next k (each * n) (omega arith)))))
 
-  pub first-plan : (at : ℕ) → at + mostPlanBytes < k → planFrom (take k bytes) at ≡ planFrom bytes at
+  first-plan : (settings : List ℕ) (at : ℕ) → at + mostPlanBytes 0 < k → planFrom (take k bytes) settings at ≡ planFrom bytes settings at
   unfolding planFrom listsFrom
-  first-plan at long =
+  first-plan settings at long =
       rw (first-number bytes at k (omega arith)) (orNine-same (readNumber bytes at) _ _ (λ P next e.
       let f = number-next bytes at P next e .1 in
       rw (first-counted 2 1 mostWindows 1 next (omega arith) (omega arith) (omega arith))
@@ -208,11 +239,13 @@ module _ (bytes : List ℕ) (k : ℕ) where
       rw (first-rest (ts .next) (omega arith))))))))
 
   -- they decide what the file reads to, so a bounded read of a file is exact
-  module _ (long : mostPlanBytes < k) where
-    pub first-bytes : planOf (take k bytes) ≡ planOf bytes
+  module _ (n : ℕ) (long : mostPlanBytes n < k) where
+    pub first-bytes : planOf n (take k bytes) ≡ planOf n bytes
     unfolding planOf
-    first-bytes = first-plan 0 long
+    first-bytes =
+        rw (first-numbers bytes 0 k n (omega arith)) (orNine-same (readNumbers bytes n 0) _ _ (λ settings next e.
+        first-plan settings next (omega (arith, numbers-next bytes 0 n settings next e .2))))
 
-    pub first-answer : planAnswer (take k bytes) ≡ planAnswer bytes
+    pub first-answer : planAnswer n (take k bytes) ≡ planAnswer n bytes
     unfolding planAnswer
     first-answer = rw first-bytes

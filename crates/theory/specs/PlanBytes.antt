@@ -3,7 +3,6 @@ use mathlib.Core.Path.{_≡_, refl, sym, ap, _∙_, subst}
 use mathlib.Core.List.{List, [], _∷_, _++_, append-assoc, append-nil}
 use Prim.Native.Nat.{ℕ, _+_, _*_, _/_, _≤_, _<_}
 use native.Mathlib.Omega.{arith}
-use native.Mathlib.Nat.{zero-add}
 use lib.ListN.{length, drop, length-append}
 use lib.Seq.{drop-length}
 use borrow.Author.Tests.{lt-ltb, le-ltb}
@@ -13,11 +12,12 @@ use Rattle.scope.specs.Plan.{Plan, windowCountFault, taskCountFault, restFault,
 use Rattle.theory.specs.Answers.{window-list-legal, window-list-fine, task-list-legal, task-list-fine}
 use Rattle.theory.specs.Seven.{UpTo, number-most, number-ahead, written-number}
 use Rattle.theory.specs.Series.{numbers-most, numbers-ahead, drop-past, written-numbers}
-use Rattle.theory.specs.Plan.{count-legal, count-fine, CountedAt, PlanAt, windows-next, tasks-next, plan-at, plan-read}
+use Rattle.theory.specs.Plan.{count-legal, count-fine, CountedAt, PlanAt, windows-next, tasks-next, FileOf, file-at, file-read, file-settings}
 
 -- ---- plans that a file can hold
 
 pub record Writable (p : Plan) : Type 0 where
+  pub settings : UpTo mostNumber (p .settings)
   pub frame : p .frame ≤ mostNumber
   pub windows : UpTo mostNumber (p .windows)
   pub tasks : UpTo mostNumber (p .tasks)
@@ -26,14 +26,19 @@ pub record Writable (p : Plan) : Type 0 where
 
 -- ---- the parts of a plan's bytes
 
-parts : (p : Plan) (rest : List ℕ) → planBytes p ++ rest ≡
-    numberBytes (p .frame) ++ (countedBytes 2 (p .windows) ++ (countedBytes 3 (p .tasks) ++ rest))
+-- after the settings
+abbrev afterSettings : Plan → List ℕ → List ℕ
+afterSettings p rest = numberBytes (p .frame) ++ (countedBytes 2 (p .windows) ++ (countedBytes 3 (p .tasks) ++ rest))
+
+parts : (p : Plan) (rest : List ℕ) → planBytes p ++ rest ≡ numbersBytes (p .settings) ++ afterSettings p rest
 unfolding planBytes
 parts p rest =
-    append-assoc (numberBytes (p .frame) ++ countedBytes 2 (p .windows)) _ rest ∙ append-assoc (numberBytes (p .frame)) _ _
+    append-assoc (numbersBytes (p .settings) ++ numberBytes (p .frame) ++ countedBytes 2 (p .windows)) _ rest
+    ∙ append-assoc (numbersBytes (p .settings) ++ numberBytes (p .frame)) _ _
+    ∙ append-assoc (numbersBytes (p .settings)) _ _
 
 pub plan-length : (p : Plan) → length (planBytes p) ≡
-    length (numberBytes (p .frame))
+    length (numbersBytes (p .settings)) + length (numberBytes (p .frame))
     + length (numberBytes (length (p .windows) / 2)) + length (numbersBytes (p .windows))
     + length (numberBytes (length (p .tasks) / 3)) + length (numbersBytes (p .tasks))
 unfolding planBytes
@@ -42,8 +47,9 @@ plan-length p =
     λ k l. length-append (numberBytes (length l / k)) (numbersBytes l) in
     omega (
       arith,
-      length-append (numberBytes (p .frame) ++ countedBytes 2 (p .windows)) (countedBytes 3 (p .tasks)),
-      length-append (numberBytes (p .frame)) (countedBytes 2 (p .windows)),
+      length-append (numbersBytes (p .settings) ++ numberBytes (p .frame) ++ countedBytes 2 (p .windows)) (countedBytes 3 (p .tasks)),
+      length-append (numbersBytes (p .settings) ++ numberBytes (p .frame)) (countedBytes 2 (p .windows)),
+      length-append (numbersBytes (p .settings)) (numberBytes (p .frame)),
       counted 2 (p .windows),
       counted 3 (p .tasks),
     )
@@ -79,21 +85,19 @@ module _ (k : ℕ) (check : ℕ → Fault) (bytes : List ℕ) (at : ℕ) (l : Li
 -- ---- a plan that is written stands where its bytes do
 
 module _ (p : Plan) (w : Writable p) where
-  pub written-plan : (bytes rest : List ℕ) (at : ℕ) → drop at bytes ≡ planBytes p ++ rest → PlanAt bytes at p (at + length (planBytes p))
-  unfolding planBytes
-  written-plan bytes rest at h =
+  written-plan : (bytes rest : List ℕ) (at : ℕ) → drop at bytes ≡ afterSettings p rest →
+      PlanAt bytes at p (at + length (numberBytes (p .frame)) + length (countedBytes 2 (p .windows)) + length (countedBytes 3 (p .tasks)))
+  written-plan bytes rest at h₀ =
       let l = window-list-legal (p .windows) (w .windowList) in
       let k = task-list-legal (p .tasks) (w .taskList) in
       let frame = numberBytes (p .frame) in
       let windows = countedBytes 2 (p .windows) in
       let tasks = countedBytes 3 (p .tasks) in
-      let h₀ : drop at bytes ≡ frame ++ (windows ++ (tasks ++ rest)) = h ∙ parts p rest in
       let a₁ : ℕ = at + length frame in
       let h₁ : drop a₁ bytes ≡ windows ++ (tasks ++ rest) = drop-past bytes frame _ at h₀ in
       let a₂ : ℕ = a₁ + length windows in
       let h₂ : drop a₂ bytes ≡ tasks ++ rest = drop-past bytes windows _ a₁ h₁ in
-      let z : a₂ + length tasks ≡ at + length (planBytes p) = omega (arith, length-append (frame ++ windows) tasks, length-append frame windows) in
-      subst (PlanAt bytes at p) z (record {
+      record {
         afterFrame = a₁;
         afterWindows = a₂;
         frame = written-number bytes _ at (p .frame) (w .frame) h₀;
@@ -101,30 +105,65 @@ module _ (p : Plan) (w : Writable p) where
             (count-fine 1 mostWindows 1 (length (p .windows) / 2) (omega (arith, l .0, l .1)) (omega (arith, l .2))) h₁;
         tasks = written-counted 3 taskCountFault bytes a₂ (p .tasks) _ (w .tasks) (omega (arith, k .0)) (omega (arith, k .1))
             (count-fine 0 mostTasks 4 (length (p .tasks) / 3) (omega arith) (omega (arith, k .1))) h₂;
+      }
+
+  -- after as many settings as it has
+  abbrev form : ℕ
+  form = length (p .settings)
+
+  pub written-file : (bytes rest : List ℕ) → bytes ≡ planBytes p ++ rest → FileOf form bytes p (length (planBytes p))
+  unfolding planBytes
+  written-file bytes rest h =
+      let settings = numbersBytes (p .settings) in
+      let frame = numberBytes (p .frame) in
+      let windows = countedBytes 2 (p .windows) in
+      let tasks = countedBytes 3 (p .tasks) in
+      let h₀ : drop 0 bytes ≡ settings ++ afterSettings p rest = h ∙ parts p rest in
+      let z : 0 + length settings + length frame + length windows + length tasks ≡ length (planBytes p) =
+      omega (arith, length-append (settings ++ frame ++ windows) tasks, length-append (settings ++ frame) windows, length-append settings frame) in
+      subst (FileOf form bytes p) z (record {
+        afterSettings = 0 + length settings;
+        settings = written-numbers bytes _ (p .settings) 0 (w .settings) h₀;
+        plan = written-plan bytes rest (0 + length settings) (drop-past bytes settings _ 0 h₀);
       })
 
   -- it reads back
-  pub round-trip : planOf (planBytes p) ≡ given p
-  unfolding planOf restFault
+  pub round-trip : planOf form (planBytes p) ≡ given p
+  unfolding restFault
   round-trip =
       let bytes = planBytes p in
-      let at = written-plan bytes [] 0 (sym (append-nil bytes)) in
-      rw (zero-add, le-ltb (length bytes) (length bytes) (omega arith)) at (plan-at bytes 0 p _ at)
+      rw (le-ltb (length bytes) (length bytes) (omega arith)) at (file-at form bytes p _ (written-file bytes [] (sym (append-nil bytes))))
 
   -- with bytes left over, the first of them is named
-  pub left-over : (b : ℕ) (rest : List ℕ) → planOf (planBytes p ++ (b ∷ rest)) ≡ refused 9 (length (planBytes p))
-  unfolding planOf restFault
+  pub left-over : (b : ℕ) (rest : List ℕ) → planOf form (planBytes p ++ (b ∷ rest)) ≡ refused 9 (length (planBytes p))
+  unfolding restFault
   left-over b rest =
       let front = planBytes p in
       let all = front ++ (b ∷ rest) in
       let more : length front < length all = omega (arith, length-append front (b ∷ rest)) in
-      rw (zero-add, lt-ltb (length front) (length all) more) at (plan-at all 0 p _ (written-plan all (b ∷ rest) 0 refl))
+      rw (lt-ltb (length front) (length all) more) at (file-at form all p _ (written-file all (b ∷ rest) refl))
 
 -- ---- bytes in which a plan stands are that plan's bytes
 
-module _ (bytes : List ℕ) (at : ℕ) (p : Plan) (end : ℕ) (q : PlanAt bytes at p end) where
-  pub plan-writable : Writable p
-  plan-writable =
+plan-ahead : (bytes : List ℕ) (at : ℕ) (p : Plan) (end : ℕ) → PlanAt bytes at p end → UpTo 255 bytes → drop at bytes ≡ afterSettings p (drop end bytes)
+plan-ahead bytes at p end q u =
+    let m : length (p .windows) / 2 ≡ q .windows .count = omega (arith, windows-next bytes at p end q .0) in
+    let n : length (p .tasks) / 3 ≡ q .tasks .count = omega (arith, tasks-next bytes at p end q .0) in
+    rw (
+      ← counted-ahead 3 taskCountFault bytes (q .afterWindows) (p .tasks) u end (q .tasks) n,
+      ← counted-ahead 2 windowCountFault bytes (q .afterFrame) (p .windows) u (q .afterWindows) (q .windows) m,
+    )
+    (number-ahead bytes at (p .frame) (q .afterFrame) (q .frame) u)
+
+-- whatever the form of the file
+module _ (k : ℕ) (bytes : List ℕ) (p : Plan) (e : planOf k bytes ≡ given p) where
+  -- a plan that is given has lists of the right shape, and numbers that a file can hold
+  pub read-writable : Writable p
+  read-writable =
+      let file = file-read k bytes p e in
+      let end = length bytes in
+      let at = file .afterSettings in
+      let q = file .plan in
       let windows = q .windows in
       let tasks = q .tasks in
       let m = count-legal 1 mostWindows 1 (windows .count) (windows .legal) in
@@ -132,6 +171,7 @@ module _ (bytes : List ℕ) (at : ℕ) (p : Plan) (end : ℕ) (q : PlanAt bytes 
       let w = windows-next bytes at p end q .0 in
       let t = tasks-next bytes at p end q .0 in
       record {
+        settings = numbers-most bytes 0 k (p .settings) at (file .settings);
         frame = number-most bytes at (p .frame) (q .afterFrame) (q .frame);
         windows = numbers-most bytes (windows .afterCount) (2 * windows .count) (p .windows) (q .afterWindows) (windows .numbers);
         tasks = numbers-most bytes (tasks .afterCount) (3 * tasks .count) (p .tasks) end (tasks .numbers);
@@ -139,25 +179,15 @@ module _ (bytes : List ℕ) (at : ℕ) (p : Plan) (end : ℕ) (q : PlanAt bytes 
         taskList = task-list-fine (p .tasks) (omega arith) (omega (arith, n .1));
       }
 
-  pub plan-ahead : UpTo 255 bytes → drop at bytes ≡ planBytes p ++ drop end bytes
-  plan-ahead u =
-      let m : length (p .windows) / 2 ≡ q .windows .count = omega (arith, windows-next bytes at p end q .0) in
-      let n : length (p .tasks) / 3 ≡ q .tasks .count = omega (arith, tasks-next bytes at p end q .0) in
-      rw (
-        parts p (drop end bytes),
-        ← counted-ahead 3 taskCountFault bytes (q .afterWindows) (p .tasks) u end (q .tasks) n,
-        ← counted-ahead 2 windowCountFault bytes (q .afterFrame) (p .windows) u (q .afterWindows) (q .windows) m,
-      )
-      (number-ahead bytes at (p .frame) (q .afterFrame) (q .frame) u)
+  -- and as many settings as the form has
+  pub read-settings : length (p .settings) ≡ k
+  read-settings = file-settings k bytes p (length bytes) (file-read k bytes p e)
 
--- a plan that is given has lists of the right shape, and numbers that a file can hold
-pub read-writable : (bytes : List ℕ) (p : Plan) → planOf bytes ≡ given p → Writable p
-unfolding planOf
-read-writable bytes p e = plan-writable bytes 0 p (length bytes) (plan-read bytes 0 p e)
-
--- no other bytes read to it than those that are written
-pub only-bytes : (bytes : List ℕ) (p : Plan) → UpTo 255 bytes → planOf bytes ≡ given p → bytes ≡ planBytes p
-unfolding planOf
-only-bytes bytes p u e =
-    plan-ahead bytes 0 p (length bytes) (plan-read bytes 0 p e) u
-    ∙ ap (λ (r : List ℕ). planBytes p ++ r) (drop-length bytes) ∙ append-nil (planBytes p)
+  -- no other bytes read to it than those that are written
+  pub only-bytes : UpTo 255 bytes → bytes ≡ planBytes p
+  only-bytes u =
+      let file = file-read k bytes p e in
+      numbers-ahead bytes 0 u k (p .settings) (file .afterSettings) (file .settings)
+      ∙ ap (λ (r : List ℕ). numbersBytes (p .settings) ++ r) (plan-ahead bytes (file .afterSettings) p (length bytes) (file .plan) u)
+      ∙ sym (parts p (drop (length bytes) bytes))
+      ∙ ap (λ (r : List ℕ). planBytes p ++ r) (drop-length bytes) ∙ append-nil (planBytes p)

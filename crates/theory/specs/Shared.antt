@@ -18,16 +18,16 @@ use Rattle.scope.specs.Windows.{Board, Window, window, windowsOf, windowAt, win
 use Rattle.scope.specs.Answers.{Fault, Fault.fine, Fault.fault, Answer, Answer.given, Answer.refused, faultIf, faultAt, _orElse_, unless}
 use Rattle.scope.specs.Answers.{windowListFault, frameFault, windowFault, tableFault, roomFault}
 use Rattle.scope.specs.Shared.{Owned, owned, ownedOf, ownedAt, windowsFor, own, asOwned, follows, ownedLegal, badOwned, ownedListFault, ownedFault}
-use Rattle.scope.specs.Shared.{wholeFault, absentOwnerFault, sharedFault, ownFault, ownAnswer, ownOut, unlessRefused, askedFor}
+use Rattle.scope.specs.Shared.{wholeFault, absentOwnerFault, sliverFault, sharedFault, ownFault, ownAnswer, ownOut, unlessRefused, askedFor}
 use Rattle.theory.specs.Numbers.{and-both, both-and, bool-cases, or-neither, first-none}
 use Rattle.theory.specs.Lists.{pieces-length, count-fine, Rising}
 use Rattle.theory.specs.MaximalRuns.{rising-rule}
 use Rattle.theory.specs.Answers.{fault-not-fine, faultIf-fine, faultAt-fine, orElse-fine, unless-given, unless-refused, LegalTable, table-legal, window-list-fine}
 
-abbrev startAt : List Owned → ℕ → ℕ
+abbrev pub startAt : List Owned → ℕ → ℕ
 startAt ws i = (ownedAt ws i) .window .start
 
-abbrev endAt : List Owned → ℕ → ℕ
+abbrev pub endAt : List Owned → ℕ → ℕ
 endAt ws i = (ownedAt ws i) .window .end
 
 abbrev ownerAt : List Owned → ℕ → ℕ
@@ -270,9 +270,12 @@ module _ (owners : ℕ) (b : Board) (ws : List ℕ) where
         ruled = ruled owners b (ownedOf ws) (faultAt-fine 3 (badOwned owners b (ownedOf ws)) (q .1));
       }
 
-  shared-parts : sharedFault owners b ws ≡ fine → (wholeFault owners b ws ≡ fine) × (absentOwnerFault b ws ≡ fine)
+  pub shared-parts : sharedFault owners b ws ≡ fine → (wholeFault owners b ws ≡ fine) × (absentOwnerFault b ws ≡ fine) × (sliverFault b ws ≡ fine)
   unfolding sharedFault
-  shared-parts e = orElse-fine (wholeFault owners b ws) (absentOwnerFault b ws) e
+  shared-parts e =
+      let p = orElse-fine (wholeFault owners b ws) (absentOwnerFault b ws orElse sliverFault b ws) e in
+      let q = orElse-fine (absentOwnerFault b ws) (sliverFault b ws) (p .1) in
+      (p .0, q .0, q .1)
 
   pub own-few : wholeFault owners b ws ≡ fine → length (own b ws) ≤ 2 * mostWindows
   own-few e = omega (arith, for-few (b .owner) (ownedOf ws), whole e .few)

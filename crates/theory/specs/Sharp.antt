@@ -17,9 +17,9 @@ use Rattle.scope.specs.Machine.{edf}
 use Rattle.scope.specs.Run.{counts}
 use Rattle.scope.specs.Limits.{teams}
 use Rattle.scope.specs.Answers.{Fault.fine, Answer.given, Answer.refused, verdictAnswer}
-use Rattle.scope.specs.Shared.{ownedOf, own, ownedFault, verdictFor}
+use Rattle.scope.specs.Shared.{ownedOf, own, ownedFault, wholeFault, sharedFault, verdictFor}
 use Rattle.scope.specs.Demands.{Way, givenTo}
-use Rattle.scope.specs.Examples.{X, on}
+use Rattle.scope.specs.Examples.{X, on, onAtLeast}
 use Rattle.scope.specs.Computing.{everything}
 use Rattle.theory.specs.Tasks.{TaskRules, Periods}
 use Rattle.theory.specs.Answers.{LegalTable, table-legal}
@@ -112,5 +112,31 @@ pub not-alone-uncounted : ((b : Board) (ws vs ts : List ℕ) → ownedFault team
 unfolding everything
 not-alone-uncounted claim =
     let e : given (meets 8) ≡ refused 1 0 = claim (on 8) (0 ∷ 2 ∷ 0 ∷ []) (0 ∷ 2 ∷ 0 ∷ 4 ∷ []) [] refl refl refl in
+    let z : _≡_ {A = ℕ} 0 1 = cc in
+    omega arith
+
+-- and where it has a sliver: owner 1's window of one tick refuses owner 0 too
+pub not-alone-among-slivers : ((b : Board) (ws vs ts : List ℕ) → wholeFault teams b ws ≡ fine → wholeFault teams b vs ≡ fine →
+    own b ws ≡ own b vs → verdictFor b ws ts ≡ verdictFor b vs ts) → ⊥
+unfolding everything
+not-alone-among-slivers claim =
+    let e : given (meets 8) ≡ refused 12 1 = claim (onAtLeast 8 0 2) (0 ∷ 2 ∷ 0 ∷ []) (0 ∷ 2 ∷ 0 ∷ 4 ∷ 5 ∷ 1 ∷ []) [] refl refl refl in
+    let z : _≡_ {A = ℕ} 0 1 = cc in
+    omega arith
+
+-- what is answered at m may be refused at a greater one, and at 0
+pub not-greater : ((P o m n : ℕ) (ws ts : List ℕ) → sharedFault teams (onAtLeast P o m) ws ≡ fine → m ≤ n →
+    verdictFor (onAtLeast P o m) ws ts ≡ verdictFor (onAtLeast P o n) ws ts) → ⊥
+unfolding everything
+not-greater claim =
+    let e : given (meets 8) ≡ refused 12 0 = claim 8 0 2 3 (0 ∷ 2 ∷ 0 ∷ []) [] refl (omega arith) in
+    let z : _≡_ {A = ℕ} 0 1 = cc in
+    omega arith
+
+pub not-to-zero : ((P o m n : ℕ) (ws ts : List ℕ) → sharedFault teams (onAtLeast P o m) ws ≡ fine → n ≤ m →
+    verdictFor (onAtLeast P o m) ws ts ≡ verdictFor (onAtLeast P o n) ws ts) → ⊥
+unfolding everything
+not-to-zero claim =
+    let e : given (meets 8) ≡ refused 12 64 = claim 8 0 2 0 (0 ∷ 2 ∷ 0 ∷ []) [] refl (omega arith) in
     let z : _≡_ {A = ℕ} 0 1 = cc in
     omega arith

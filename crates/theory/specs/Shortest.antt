@@ -1,0 +1,372 @@
+-- Document 02, request 5, of what the entries answer: 12 exactly when, that m = 1 refuses nothing, and that what is not refused at m is answered the same at
+-- every smaller m; of plan files too
+use mathlib.Core.Path.{_≡_, refl, sym, ap, _∙_}
+use mathlib.Core.Bool.{Bool, true, false, _||_}
+use mathlib.Core.Logic.{_↔_}
+use mathlib.Core.Option.{Option, none, some}
+use mathlib.Core.List.{List, [], _∷_, _++_}
+use Prim.Native.Nat.{ℕ, _*_, _≤_, _<_}
+use native.Mathlib.Omega.{arith}
+use lib.Dec.{leb, ltb, eqb}
+use lib.ListN.{length}
+use Rattle.scope.specs.Numbers.{badCount, greatest}
+use Rattle.scope.specs.Limits.{teams, mostFrame, mostWindows, mostTasks, mostCycle, mostLength, mostTicks, mostJobs, mostNumber}
+use Rattle.scope.specs.Windows.{Board, windowsOf, badWindow}
+use Rattle.scope.specs.Tasks.{Task, tasksOf, badTask}
+use Rattle.scope.specs.Cycle.{cycle}
+use Rattle.scope.specs.Jobs.{Job, jobsOf, badJob}
+use Rattle.scope.specs.Answers.{Fault, Fault.fine, Fault.fault, Answer, Answer.given, Answer.refused, faultIf, faultAt, _orElse_, unless}
+use Rattle.scope.specs.Answers.{windowListFault, frameFault, windowFault, tableFault, taskListFault, taskFault, groupFault, cycleFault, lengthFault, absentFault}
+use Rattle.scope.specs.Answers.{roomFault, jobListFault, jobFault, criticalOf, criticalFault, runFault}
+use Rattle.scope.specs.Answers.{suppliedAnswer, leastSupplyAnswer, criticalAnswer, delayAnswer, outageAnswer, marginAnswer, verdictAnswer, boundAnswer, runAnswer}
+use Rattle.scope.specs.Plan.{Read, Read.read, Read.bad, readNumber, readNumbers, orNine, past, andThen, Plan, windowCountFault, taskCountFault, restFault, countedFrom, listsFrom, planFrom, planOf, numberBytesWithin, numberBytes}
+use Rattle.scope.specs.Plan.{numbersBytes, planBytes}
+use Rattle.scope.specs.Trace.{Record, timed, traceOf, ticksOf, releases, badRecord}
+use Rattle.scope.specs.Replay.{extentFault, recordFault, replayFault, recordsAnswer}
+use Rattle.scope.specs.Shared.{ownedOf, windowsFor, own, ownedListFault, ownedFault, badOwned, ownedLegal, wholeFault, absentOwnerFault, sliverFault, sharedFault}
+use Rattle.scope.specs.Shared.{asOwned, unlessRefused, askedFor, verdictFor, recordsFor, replayFor, planBoard, planAnswer}
+use Rattle.theory.specs.Answers.{fault-not-fine, orElse-fine, unless-refused}
+use Rattle.theory.specs.Shared.{asked-fine, asked-refused}
+use Rattle.theory.specs.Slivers.{Sliver, sliver-exactly, sliver-twelve, one-tick, smaller-fine}
+use Rattle.theory.specs.Alone.{Entry, teamsFault, alone, records-entry, verdict-entry, or-nine}
+use Rattle.theory.specs.Seven.{UpTo, up-to-greatest}
+use Rattle.theory.specs.PlanBytes.{Writable, round-trip, read-writable, read-settings, only-bytes}
+
+-- ---- document 01's checks give the numbers 1 to 11
+
+abbrev Base : Fault → Type 0
+Base f = (n p : ℕ) → f ≡ fault n p → n ≤ 11
+
+base-if : (t : Bool) (m q : ℕ) → m ≤ 11 → Base (faultIf t m q)
+base-if true m q h n p e = let z : m ≡ n = cc in omega arith
+base-if false m q h n p e = absurd (fault-not-fine (sym e))
+
+base-at : (m : ℕ) (o : Option ℕ) → m ≤ 11 → Base (faultAt m o)
+base-at m none h n p e = absurd (fault-not-fine (sym e))
+base-at m (some i) h n p e = let z : m ≡ n = cc in omega arith
+
+base-else : (f g : Fault) → Base f → Base g → Base (f orElse g)
+base-else fine g a c = c
+base-else (fault m q) g a c = a
+
+module _ (b : Board) (ws : List ℕ) where
+  list-base : Base (windowListFault ws)
+  unfolding windowListFault
+  list-base = base-if (badCount 2 mostWindows ws || eqb (length ws) 0) 1 0 (omega arith)
+
+  frame-base : Base (frameFault b)
+  unfolding frameFault
+  frame-base = base-if (eqb (b .frame) 0 || ltb mostFrame (b .frame)) 2 0 (omega arith)
+
+  window-base : Base (windowFault b (windowsOf ws))
+  unfolding windowFault
+  window-base = base-at 3 (badWindow b (windowsOf ws)) (omega arith)
+
+  table-base : Base (tableFault b ws)
+  unfolding tableFault
+  table-base =
+      base-else (windowListFault ws) (frameFault b orElse windowFault b (windowsOf ws)) list-base
+      (base-else (frameFault b) (windowFault b (windowsOf ws)) frame-base window-base)
+
+-- the table's, then the others'
+table-else : (b : Board) (ws : List ℕ) (g : Fault) → Base g → Base (tableFault b ws orElse g)
+table-else b ws g h = base-else (tableFault b ws) g (table-base b ws) h
+
+group-else : (ts : List ℕ) (g : Fault) → Base g → Base (groupFault ts orElse g)
+unfolding groupFault taskListFault taskFault
+group-else ts g h =
+    base-else (groupFault ts) g
+    (base-else (taskListFault ts) (taskFault (tasksOf ts)) (base-if (badCount 3 mostTasks ts) 4 0 (omega arith)) (base-at 5 (badTask (tasksOf ts)) (omega arith))) h
+
+room-base : (needed room : ℕ) → Base (roomFault needed room)
+unfolding roomFault
+room-base needed room = base-if (ltb room needed) 8 needed (omega arith)
+
+length-base : (t : ℕ) → Base (lengthFault t)
+unfolding lengthFault
+length-base t = base-if (ltb mostLength t) 7 0 (omega arith)
+
+cycle-base : (b : Board) (ts : List Task) → Base (cycleFault b ts)
+unfolding cycleFault
+cycle-base b ts = base-if (ltb mostCycle (cycle (b .frame) ts)) 6 0 (omega arith)
+
+absent-base : (ts : List Task) (i : ℕ) → Base (absentFault ts i)
+unfolding absentFault
+absent-base ts i = base-if (leb (length ts) i) 7 0 (omega arith)
+
+jobs-base : (n : ℕ) (js : List ℕ) → Base (jobListFault n js)
+unfolding jobListFault
+jobs-base n js = base-if (badCount 3 mostJobs js || ltb mostTicks n) 10 0 (omega arith)
+
+job-base : (ts : List Task) (n : ℕ) (js : List Job) → Base (jobFault ts n js)
+unfolding jobFault
+job-base ts n js = base-at 11 (badJob ts n js) (omega arith)
+
+extent-base : (rs : List Record) → Base (extentFault rs)
+unfolding extentFault
+extent-base rs = base-if (ltb mostTicks (ticksOf rs) || ltb mostJobs (length (releases rs))) 10 0 (omega arith)
+
+record-base : (ts : List Task) (rs : List Record) → Base (recordFault ts rs)
+unfolding recordFault
+record-base ts rs = base-at 11 (badRecord ts rs) (omega arith)
+
+-- an entry that refuses by these numbers only
+abbrev pub Known : {A : Type 0} → (List ℕ → Answer A) → Type 0
+Known entry = (l : List ℕ) (n p : ℕ) → entry l ≡ refused n p → n ≤ 11
+
+module _ (b : Board) where
+  pub supplied-known : (k : ℕ) → Known (λ l. suppliedAnswer b l k)
+  unfolding suppliedAnswer
+  supplied-known k l n p e = table-base b l n p (unless-refused (tableFault b l) _ n p e)
+
+  pub least-supply-known : (t : ℕ) → Known (λ l. leastSupplyAnswer b l t)
+  unfolding leastSupplyAnswer
+  least-supply-known t l n p e = table-else b l (lengthFault t) (length-base t) n p (unless-refused (tableFault b l orElse lengthFault t) _ n p e)
+
+  pub critical-known : (room : ℕ) → Known (λ l. criticalAnswer b l room)
+  unfolding criticalAnswer criticalFault
+  critical-known room l n p e =
+      table-else b l (roomFault (length (criticalOf b l)) room) (room-base (length (criticalOf b l)) room) n p (unless-refused (criticalFault b l room) _ n p e)
+
+  pub delay-known : Known (delayAnswer b)
+  unfolding delayAnswer
+  delay-known l n p e = table-base b l n p (unless-refused (tableFault b l) _ n p e)
+
+  pub outage-known : Known (outageAnswer b)
+  unfolding outageAnswer
+  outage-known l n p e = table-base b l n p (unless-refused (tableFault b l) _ n p e)
+
+  pub margin-known : (ts : List ℕ) (t : ℕ) → Known (λ l. marginAnswer b l ts t)
+  unfolding marginAnswer
+  margin-known ts t l n p e =
+      table-else b l (groupFault ts orElse lengthFault t) (group-else ts (lengthFault t) (length-base t)) n p
+      (unless-refused (tableFault b l orElse groupFault ts orElse lengthFault t) _ n p e)
+
+  pub verdict-known : (ts : List ℕ) → Known (λ l. verdictAnswer b l ts)
+  unfolding verdictAnswer
+  verdict-known ts l n p e =
+      let cycled = cycleFault b (tasksOf ts) in
+      table-else b l (groupFault ts orElse cycled) (group-else ts cycled (cycle-base b (tasksOf ts))) n p
+      (unless-refused (tableFault b l orElse groupFault ts orElse cycled) _ n p e)
+
+  pub bound-known : (ts : List ℕ) (i : ℕ) → Known (λ l. boundAnswer b l ts i)
+  unfolding boundAnswer
+  bound-known ts i l n p e =
+      let absent = absentFault (tasksOf ts) i in
+      table-else b l (groupFault ts orElse absent) (group-else ts absent (absent-base (tasksOf ts) i)) n p
+      (unless-refused (tableFault b l orElse groupFault ts orElse absent) _ n p e)
+
+  pub run-known : (ts : List ℕ) (ticks : ℕ) (js : List ℕ) (room : ℕ) → Known (λ l. runAnswer b l ts ticks js room)
+  unfolding runAnswer runFault
+  run-known ts ticks js room l n p e =
+      let each = jobFault (tasksOf ts) ticks (jobsOf js) in
+      let output = roomFault (length (jobsOf js)) room in
+      let jobs = jobListFault ticks js orElse each orElse output in
+      table-else b l (groupFault ts orElse jobs)
+      (group-else ts jobs (base-else (jobListFault ticks js) (each orElse output) (jobs-base ticks js)
+      (base-else each output (job-base (tasksOf ts) ticks (jobsOf js)) (room-base (length (jobsOf js)) room)))) n p
+      (unless-refused (runFault b l ts ticks js room) _ n p e)
+
+  pub records-known : (ts : List ℕ) (rs : List Record) → Known (λ l. recordsAnswer b l ts rs)
+  unfolding recordsAnswer replayFault
+  records-known ts rs l n p e =
+      let each = recordFault (tasksOf ts) rs in
+      table-else b l (groupFault ts orElse extentFault rs orElse each)
+      (group-else ts (extentFault rs orElse each) (base-else (extentFault rs) each (extent-base rs) (record-base (tasksOf ts) rs))) n p
+      (unless-refused (replayFault b l ts rs) _ n p e)
+
+-- ---- 12, exactly when: the list has no fault 1, 2 or 3, the owner has a window, and m is out of its range or some window shorter than m
+
+whole-base : (owners : ℕ) (b : Board) (ws : List ℕ) → Base (wholeFault owners b ws orElse absentOwnerFault b ws)
+unfolding wholeFault ownedListFault ownedFault absentOwnerFault
+whole-base owners b ws =
+    base-else (wholeFault owners b ws) (absentOwnerFault b ws)
+    (base-else (ownedListFault ws) (frameFault b orElse ownedFault owners b (ownedOf ws)) (base-if (badCount 3 mostWindows ws || eqb (length ws) 0) 1 0 (omega arith))
+    (base-else (frameFault b) (ownedFault owners b (ownedOf ws)) (frame-base b ws) (base-at 3 (badOwned owners b (ownedOf ws)) (omega arith))))
+    (base-if (eqb (length (own b ws)) 0) 1 0 (omega arith))
+
+module _ (owners : ℕ) (b : Board) (ws : List ℕ) where
+  pub record Twelve (p : ℕ) : Type 0 where
+    pub whole : wholeFault owners b ws ≡ fine
+    pub present : absentOwnerFault b ws ≡ fine
+    pub at : Sliver b ws p
+
+  shared-twelve : (p : ℕ) → sharedFault owners b ws ≡ fault 12 p → Twelve p
+  unfolding sharedFault
+  shared-twelve p = go (wholeFault owners b ws) (absentOwnerFault b ws) refl refl (whole-base owners b ws)
+    where
+      go : (f g : Fault) → wholeFault owners b ws ≡ f → absentOwnerFault b ws ≡ g → Base (wholeFault owners b ws orElse absentOwnerFault b ws) →
+          (f orElse g orElse sliverFault b ws) ≡ fault 12 p → Twelve p
+      go (fault n q) g e a base s = absurd (omega (arith, base 12 p (rw e s)))
+      go fine (fault n q) e a base s = absurd (omega (arith, base 12 p (rw (e, a) s)))
+      go fine fine e a base s = record { whole = e; present = a; at = sliver-exactly b ws p .0 s }
+
+  twelve-shared : (p : ℕ) → Twelve p → sharedFault owners b ws ≡ fault 12 p
+  unfolding sharedFault
+  twelve-shared p t = rw (t .whole, t .present) (sliver-exactly b ws p .1 (t .at))
+
+  pub exactly-twelve : {A : Type 0} (entry : List ℕ → Answer A) → Known entry → (p : ℕ) → (askedFor owners b ws refused entry ≡ refused 12 p) ↔ Twelve p
+  unfolding askedFor
+  exactly-twelve entry is p = (go (sharedFault owners b ws) refl, λ t. asked-refused owners b ws refused entry (twelve-shared p t))
+    where
+      go : (f : Fault) → sharedFault owners b ws ≡ f → unlessRefused f refused (entry (own b ws)) ≡ refused 12 p → Twelve p
+      go fine s e = absurd (omega (arith, is (own b ws) 12 p e))
+      go (fault n q) s e = let x : n ≡ 12 = cc in let y : q ≡ p = cc in shared-twelve p (rw (← x, ← y) s)
+
+  -- ---- m = 1 refuses nothing: only what request 4 refuses is refused
+
+  module _ (one : b .shortest ≡ 1) where
+    pub one-fault : sharedFault owners b ws ≡ (wholeFault owners b ws orElse absentOwnerFault b ws)
+    unfolding sharedFault
+    one-fault = go (wholeFault owners b ws) (absentOwnerFault b ws) refl
+      where
+        go : (f g : Fault) → wholeFault owners b ws ≡ f → (f orElse g orElse sliverFault b ws) ≡ (f orElse g)
+        go (fault n p) g e = refl
+        go fine (fault n p) e = refl
+        go fine fine e = one-tick owners b ws one e
+
+    -- answers are as before
+    pub one-answer : {R : Type 0} (refusal : ℕ → ℕ → R) (entry : List ℕ → R) →
+        askedFor owners b ws refusal entry ≡ unlessRefused (wholeFault owners b ws orElse absentOwnerFault b ws) refusal (entry (own b ws))
+    unfolding askedFor
+    one-answer refusal entry = ap (λ (f : Fault). unlessRefused f refusal (entry (own b ws))) one-fault
+
+    -- and 12 never comes
+    pub never-twelve : {A : Type 0} (entry : List ℕ → Answer A) → Known entry → (p : ℕ) → askedFor owners b ws refused entry ≡ refused 12 p → ⊥
+    unfolding sharedFault
+    never-twelve entry is p e =
+        let t = exactly-twelve entry is p .0 e in
+        fault-not-fine (sym (sliver-exactly b ws p .1 (t .at)) ∙ one-tick owners b ws one (t .whole))
+
+-- ---- what is not refused by 12 at m is answered the same at every smaller m from 1 on
+
+module _ (owners : ℕ) (b c : Board) (ws : List ℕ) (framed : b .frame ≡ c .frame) (owner : b .owner ≡ c .owner)
+    (least : 1 ≤ c .shortest) (less : c .shortest ≤ b .shortest) where
+  whole-same : wholeFault owners b ws ≡ wholeFault owners c ws
+  unfolding wholeFault frameFault ownedFault badOwned ownedLegal
+  whole-same = ap (λ (P : ℕ). wholeFault owners (record { frame = P; owner = 0; shortest = 1 }) ws) framed
+
+  absent-same : absentOwnerFault b ws ≡ absentOwnerFault c ws
+  unfolding absentOwnerFault
+  absent-same = ap (λ (o : ℕ). absentOwnerFault (record { frame = 0; owner = o; shortest = 1 }) ws) owner
+
+  smaller-fault : ((p : ℕ) → sharedFault owners b ws ≡ fault 12 p → ⊥) → sharedFault owners b ws ≡ sharedFault owners c ws
+  unfolding sharedFault
+  smaller-fault spared = rw (← whole-same, ← absent-same) (go (wholeFault owners b ws) (absentOwnerFault b ws) (sliverFault b ws) refl refl refl)
+    where
+      go : (f g h : Fault) → wholeFault owners b ws ≡ f → absentOwnerFault b ws ≡ g → sliverFault b ws ≡ h →
+          (f orElse g orElse h) ≡ (f orElse g orElse sliverFault c ws)
+      go (fault n p) g h e a s = refl
+      go fine (fault n p) h e a s = refl
+      go fine fine (fault n p) e a s =
+          let z = sliver-twelve b ws n p s in absurd (spared p (rw (e, a) (rw z at s)))
+      go fine fine fine e a s = sym (smaller-fine b c ws least less s)
+
+  pub smaller-same : {R : Type 0} {refusal : ℕ → ℕ → R} {entry : Board → List ℕ → R} → Entry refusal entry →
+      ((p : ℕ) → sharedFault owners b ws ≡ fault 12 p → ⊥) →
+      askedFor owners b ws refusal (entry b) ≡ askedFor owners c ws refusal (entry c)
+  unfolding askedFor
+  smaller-same {R} {refusal} {entry} is spared =
+      let mine : own b ws ≡ own c ws = ap (λ (o : ℕ). windowsFor o (ownedOf ws)) owner in
+      rw (smaller-fault spared) (ap (unlessRefused (sharedFault owners c ws) refusal) (ap (entry b) mine ∙ is .by-frame b c (own c ws) framed))
+
+  -- of a refusal in the answer
+  pub smaller-answer : {A : Type 0} {entry : Board → List ℕ → Answer A} → Entry refused entry →
+      ((p : ℕ) → askedFor owners b ws refused (entry b) ≡ refused 12 p → ⊥) →
+      askedFor owners b ws refused (entry b) ≡ askedFor owners c ws refused (entry c)
+  smaller-answer {A} {entry} is spared = smaller-same is (λ p s. spared p (asked-refused owners b ws refused (entry b) s))
+
+-- ---- traces, whose bytes are refused by 9 before any table
+
+pub replay-smaller : (b c : Board) (ws ts bytes : List ℕ) → b .frame ≡ c .frame → b .owner ≡ c .owner → 1 ≤ c .shortest → c .shortest ≤ b .shortest →
+    ((p : ℕ) → sharedFault teams b ws ≡ fault 12 p → ⊥) → replayFor b ws ts bytes ≡ replayFor c ws ts bytes
+unfolding replayFor recordsFor
+replay-smaller b c ws ts bytes framed owner least less spared =
+    or-nine (traceOf bytes) _ _ (λ rs next. smaller-same teams b c ws framed owner least less (records-entry ts (timed rs)) spared)
+
+-- ---- plan files
+
+-- a file's own refusals, before its plan is judged, are document 01's
+plan-base : (k : ℕ) (bytes : List ℕ) (n p : ℕ) → planOf k bytes ≡ refused n p → n ≤ 11
+unfolding planOf planFrom listsFrom countedFrom restFault
+plan-base k bytes n p =
+    read-base (readNumbers bytes k 0) _ (λ settings next. read-base (readNumber bytes next) _ (λ P after.
+    then-base (countedFrom 2 windowCountFault bytes after) _ (counted 2 windowCountFault after (λ c. base-if (ltb c 1 || ltb mostWindows c) 1 0 (omega arith))) (λ ws.
+    then-base (countedFrom 3 taskCountFault bytes (ws .next)) _ (counted 3 taskCountFault (ws .next) (λ c. base-if (ltb c 0 || ltb mostTasks c) 4 0 (omega arith))) (λ ts e.
+    base-if (ltb (ts .next) (length bytes)) 9 (ts .next) (omega arith) n p (unless-refused (restFault bytes (ts .next)) _ n p e)))))
+  where
+    given-not-refused : {A : Type 0} {a : A} → given a ≡ refused n p → ⊥
+    given-not-refused e = let z : _≡_ {A = ℕ} 0 1 = cc in omega arith
+
+    read-base : {A B : Type 0} (r : Read A) (f : A → ℕ → Answer B) → ((a : A) (next : ℕ) → f a next ≡ refused n p → n ≤ 11) → orNine r f ≡ refused n p → n ≤ 11
+    read-base (read a next) f h e = h a next e
+    read-base (bad o) f h e = let z : 9 ≡ n = cc in omega arith
+
+    past-base : {A : Type 0} (f : Fault) (a : Answer A) → Base f → (a ≡ refused n p → n ≤ 11) → past f a ≡ refused n p → n ≤ 11
+    past-base fine a b h e = h e
+    past-base (fault m q) a b h e = let x : m ≡ n = cc in let y : q ≡ p = cc in b n p (rw (x, y))
+
+    then-base : {A B : Type 0} (a : Answer A) (f : A → Answer B) → (a ≡ refused n p → n ≤ 11) → ((v : A) → f v ≡ refused n p → n ≤ 11) → andThen a f ≡ refused n p → n ≤ 11
+    then-base (given v) f g h e = h v e
+    then-base (refused m q) f g h e = let x : m ≡ n = cc in let y : q ≡ p = cc in g (rw (x, y))
+
+    counted : (each : ℕ) (check : ℕ → Fault) (at : ℕ) → ((c : ℕ) → Base (check c)) → countedFrom each check bytes at ≡ refused n p → n ≤ 11
+    counted each check at h =
+        read-base (readNumber bytes at) _ (λ c next. past-base (check c) _ (h c) (read-base (readNumbers bytes (each * c) next) _ (λ l end e. absurd (given-not-refused e))))
+
+-- a file is refused by 12 exactly when it reads to a plan whose windows are
+pub record PlanTwelve (k : ℕ) (bytes : List ℕ) (p : ℕ) : Type 0 where
+  pub plan : Plan
+  pub reads : planOf k bytes ≡ given plan
+  pub twelve : Twelve teams (planBoard plan) (asOwned 0 (plan .windows)) p
+
+pub plan-twelve : (k : ℕ) (bytes : List ℕ) (p : ℕ) → (planAnswer k bytes ≡ refused 12 p) ↔ PlanTwelve k bytes p
+unfolding planAnswer verdictFor
+plan-twelve k bytes p = (go (planOf k bytes) refl, λ t.
+    rw (t .reads) (exactly-twelve teams (planBoard (t .plan)) (asOwned 0 (t .plan .windows)) _ (verdict-known (planBoard (t .plan)) (t .plan .tasks)) p .1 (t .twelve)))
+  where
+    go : (a : Answer Plan) → planOf k bytes ≡ a → andThen a (λ q. verdictFor (planBoard q) (asOwned 0 (q .windows)) (q .tasks)) ≡ refused 12 p → PlanTwelve k bytes p
+    go (given q) r e = record {
+      plan = q;
+      reads = r;
+      twelve = exactly-twelve teams (planBoard q) (asOwned 0 (q .windows)) _ (verdict-known (planBoard q) (q .tasks)) p .0 e;
+    }
+    go (refused m o) r e = let x : m ≡ 12 = cc in absurd (omega (arith, plan-base k bytes m o r))
+
+-- a plan with other settings
+abbrev pub withSettings : List ℕ → Plan → Plan
+withSettings l p = record { settings = l; frame = p .frame; windows = p .windows; tasks = p .tasks }
+
+module _ (p : Plan) (w : Writable p) where
+  written-answer : planAnswer (length (p .settings)) (planBytes p) ≡ verdictFor (planBoard p) (asOwned 0 (p .windows)) (p .tasks)
+  unfolding planAnswer
+  written-answer = rw (round-trip p w)
+
+  writable-with : (l : List ℕ) → UpTo mostNumber l → Writable (withSettings l p)
+  writable-with l u = record { settings = u; frame = w .frame; windows = w .windows; tasks = w .tasks; windowList = w .windowList; taskList = w .taskList }
+
+  -- what is not refused by 12 with m first is answered the same with every smaller m from 1 on
+  pub smaller-plan : (m n : ℕ) → UpTo mostNumber (m ∷ []) → UpTo mostNumber (n ∷ []) → 1 ≤ n → n ≤ m →
+      ((q : ℕ) → planAnswer 1 (planBytes (withSettings (m ∷ []) p)) ≡ refused 12 q → ⊥) →
+      planAnswer 1 (planBytes (withSettings (m ∷ []) p)) ≡ planAnswer 1 (planBytes (withSettings (n ∷ []) p))
+  unfolding planAnswer verdictFor
+  smaller-plan m n u v least less spared =
+      rw (round-trip (withSettings (m ∷ []) p) (writable-with (m ∷ []) u), round-trip (withSettings (n ∷ []) p) (writable-with (n ∷ []) v))
+      (smaller-answer teams (planBoard (withSettings (m ∷ []) p)) (planBoard (withSettings (n ∷ []) p)) (asOwned 0 (p .windows)) refl refl least less
+      (verdict-entry (p .tasks)) (λ q e. spared q (rw (round-trip (withSettings (m ∷ []) p) (writable-with (m ∷ []) u)) e)))
+
+-- an old file is answered as the same bytes with m = 1 before them
+pub old-form : (bytes : List ℕ) (p : Plan) → UpTo 255 bytes → planOf 0 bytes ≡ given p → planAnswer 1 (1 ∷ bytes) ≡ planAnswer 0 bytes
+unfolding planAnswer planBytes numbersBytes numberBytes numberBytesWithin greatest
+old-form bytes p u e =
+    let none : p .settings ≡ [] = empty (p .settings) (read-settings 0 bytes p e) in
+    let w = read-writable 0 bytes p e in
+    let back : planOf 1 (planBytes (withSettings (1 ∷ []) p)) ≡ given (withSettings (1 ∷ []) p) =
+    round-trip (withSettings (1 ∷ []) p) (writable-with p w (1 ∷ []) (up-to-greatest mostNumber (1 ∷ []) (omega arith))) in
+    let front : planBytes (withSettings (1 ∷ []) p) ≡ 1 ∷ planBytes (withSettings [] p) = refl in
+    let same : planBytes (withSettings [] p) ≡ bytes = ap (λ (l : List ℕ). planBytes (withSettings l p)) (sym none) ∙ sym (only-bytes 0 bytes p e u) in
+    rw (e, ← same, ← front, back, none)
+  where
+    empty : (l : List ℕ) → length l ≡ 0 → l ≡ []
+    empty [] z = refl
+    empty (a ∷ l) z = absurd (omega arith)
