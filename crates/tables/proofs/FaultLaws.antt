@@ -73,14 +73,21 @@ module _ {A : Type 0} (t : Bool) (a : A) (n p : ℕ) where
       go true f = let z : _≡_ {A = ℕ} 0 1 = cc in absurd (omega arith)
       go false f = refl
 
--- ---- the lowest index at which a rule breaks
+-- ---- the lowest index at which a test passes, or a rule breaks
+
+module _ (number : ℕ) (test : ℕ → Bool) (n : ℕ) where
+  pub found-at : (i : ℕ) → i < n → ((k : ℕ) → k < i → test k ≡ false) → test i ≡ true → fault number i ≡ faultAt number (first test n)
+  found-at i l passed-over here = ap (faultAt number) (sym (some-first test n i l here passed-over))
+
+  pub found-nowhere : ((k : ℕ) → k < n → test k ≡ false) → fine ≡ faultAt number (first test n)
+  found-nowhere passed-over = ap (faultAt number) (sym (none-first test n passed-over))
 
 module _ (number : ℕ) (rule : ℕ → Bool) (n : ℕ) where
   pub breaks-at : (i : ℕ) → i < n → ((k : ℕ) → k < i → rule k ≡ true) → rule i ≡ false → fault number i ≡ faultAt number (first (λ k. not (rule k)) n)
-  breaks-at i l kept broken = ap (faultAt number) (sym (some-first (λ k. not (rule k)) n i l (ap not broken) (λ k h. ap not (kept k h))))
+  breaks-at i l kept broken = found-at number (λ k. not (rule k)) n i l (λ k h. ap not (kept k h)) (ap not broken)
 
   pub breaks-nowhere : ((k : ℕ) → k < n → rule k ≡ true) → fine ≡ faultAt number (first (λ k. not (rule k)) n)
-  breaks-nowhere kept = ap (faultAt number) (sym (none-first (λ k. not (rule k)) n (λ k h. ap not (kept k h))))
+  breaks-nowhere kept = found-nowhere number (λ k. not (rule k)) n (λ k h. ap not (kept k h))
 
 -- ---- two checks made together, then a third, then the value
 

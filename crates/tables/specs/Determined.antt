@@ -11,7 +11,7 @@ use Rattle.scope.specs.Bound as Bounds
 use Rattle.scope.specs.Answers as Answers
 use Rattle.scope.specs.Answers.{Fault, Fault.fine, Fault.fault, Answer, Answer.given, Answer.refused}
 use Rattle.tables.specs.declared.answer.Refusal.{Refusal}
-use Rattle.tables.specs.declared.answer.Refusal.the-variants.{WindowList, Frame, Window, TaskList, Task, Cycle, Asked, Room, Bytes, JobList, Job}
+use Rattle.tables.specs.declared.answer.Refusal.the-variants.{WindowList, Frame, Window, TaskList, Task, Cycle, Asked, Room, Bytes, JobList, Job, Sliver}
 use Rattle.tables.specs.declared.answer.Checked.{Checked}
 use Rattle.tables.specs.declared.answer.Checked.the-variants.{Fine, Bad}
 use Rattle.tables.specs.declared.answer.Supplied as supplied
@@ -49,7 +49,8 @@ refusalOf n p =
     (cond (eqb n 8) (Room p)
     (cond (eqb n 9) (Bytes p)
     (cond (eqb n 10) JobList
-    (Job p))))))))))
+    (cond (eqb n 11) (Job p)
+    (Sliver p)))))))))))
 
 pub refusal-back : (r : Refusal) → refusalOf (number r) (place r) ≡ r
 refusal-back WindowList = refl
@@ -63,6 +64,7 @@ refusal-back (Room n) = refl
 refusal-back (Bytes o) = refl
 refusal-back JobList = refl
 refusal-back (Job i) = refl
+refusal-back (Sliver i) = refl
 
 abbrev checkedOf : Fault → Checked
 checkedOf fine = Fine
@@ -151,7 +153,7 @@ task-determined = undone taskOf (λ x. record { work = x .C; period = x .T; dead
 -- ---- constructors' answers
 
 abbrev boardFrom : Windows.Board → madeBoard.MadeBoard
-boardFrom b = madeBoard.the-variants.Is (record { frame = b .frame; owner = b .owner })
+boardFrom b = madeBoard.the-variants.Is (record { frame = b .frame; owner = b .owner; shortest = b .shortest })
 
 pub made-board-determined : (a b : madeBoard.MadeBoard) → toldBoard a ≡ toldBoard b → a ≡ b
 made-board-determined = undone toldBoard (made boardFrom madeBoard.the-variants.Refused) back

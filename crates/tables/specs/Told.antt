@@ -1,4 +1,4 @@
--- What the code's types say, in the words of `scope`: document 01's number, place and values for every case of every answer
+-- What the code's types say, in the words of `scope`: the documents' number, place and values for every case of every answer
 use Prim.Native.Nat.{ℕ}
 use mathlib.Core.Bool.{Bool}
 use lib.IntN.{ℤ}
@@ -10,7 +10,7 @@ use Rattle.scope.specs.Bound as Bounds
 use Rattle.scope.specs.Answers as Answers
 use Rattle.scope.specs.Answers.{Fault, Fault.fine, Fault.fault, Answer, Answer.given, Answer.refused}
 use Rattle.tables.specs.declared.answer.Refusal.{Refusal}
-use Rattle.tables.specs.declared.answer.Refusal.the-variants.{WindowList, Frame, Window, TaskList, Task, Cycle, Asked, Room, Bytes, JobList, Job}
+use Rattle.tables.specs.declared.answer.Refusal.the-variants.{WindowList, Frame, Window, TaskList, Task, Cycle, Asked, Room, Bytes, JobList, Job, Sliver}
 use Rattle.tables.specs.declared.answer.Checked.{Checked}
 use Rattle.tables.specs.declared.answer.Checked.the-variants.{Fine, Bad}
 use Rattle.tables.specs.declared.answer.Supplied as supplied
@@ -32,7 +32,7 @@ use Rattle.tables.specs.declared.length.MadeLength as madeLength
 -- ---- values
 
 abbrev pub boardOf : board.Board → Windows.Board
-boardOf b = record { frame = b .frame; owner = b .owner }
+boardOf b = record { frame = b .frame; owner = b .owner; shortest = b .shortest }
 
 abbrev pub windowOf : window.Window → Windows.Window
 windowOf w = record { start = w .start; end = w .end }
@@ -57,6 +57,7 @@ number (Room n) = 8
 number (Bytes o) = 9
 number JobList = 10
 number (Job i) = 11
+number (Sliver i) = 12
 
 abbrev pub place : Refusal → ℕ
 place WindowList = 0
@@ -70,6 +71,7 @@ place (Room n) = n
 place (Bytes o) = o
 place JobList = 0
 place (Job i) = i
+place (Sliver i) = i
 
 abbrev pub faultOf : Checked → Fault
 faultOf Fine = fine

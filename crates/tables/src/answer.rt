@@ -1,4 +1,4 @@
-// What the entries answer. specs/Told.antt gives document 01's number, place and values for every case, and the promises go through it.
+// What the entries answer. specs/Told.antt gives the documents' number, place and values for every case, and the promises go through it.
 ghost use mathlib.Core.Path.{_≡_};
 ghost use lib.IntN.{natAbs};
 ghost use Rattle.scope.specs.Answers.{_orElse_};
@@ -17,10 +17,11 @@ pub enum Refusal {
     Bytes(u64),
     JobList,
     Job(u64),
+    Sliver(u64),
 }
 
 impl Refusal {
-    // Document 01's number of a refusal.
+    // The documents' number of a refusal.
     pub fn number(self) -> u64
         ensures { λ r. ⌜ r ≡ numberOf self ⌝ }
     {
@@ -36,10 +37,11 @@ impl Refusal {
             Refusal::Bytes(_) => 9,
             Refusal::JobList => 10,
             Refusal::Job(_) => 11,
+            Refusal::Sliver(_) => 12,
         }
     }
 
-    // Document 01's place of a refusal.
+    // The documents' place of a refusal.
     pub fn place(self) -> u64
         ensures { λ r. ⌜ r ≡ placeOf self ⌝ }
     {
@@ -55,6 +57,7 @@ impl Refusal {
             Refusal::Bytes(o) => o,
             Refusal::JobList => 0,
             Refusal::Job(i) => i,
+            Refusal::Sliver(i) => i,
         }
     }
 }

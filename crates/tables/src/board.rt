@@ -1,15 +1,17 @@
 use crate::answer::Checked;
 use crate::answer::Refusal;
+use crate::window::Window;
 ghost use mathlib.Core.Path.{_≡_};
-ghost use Rattle.scope.specs.Answers.{frameFault, boardAnswer};
+ghost use Rattle.scope.specs.Answers.{frameFault, shortestFault, boardAnswer};
 ghost use Rattle.tables.specs.Told.{boardOf, faultOf, toldBoard};
 
-// What, beside the windows, decides which ticks are supplied: the frame, and the owner that is asked for. Any value may be lent: the entries check it.
-// C lends it too, as it is.
+// What a table is judged by beside its windows: the frame, the owner that is asked for, and the shortest allowed window. Any value may be lent: the
+// entries check it. C lends it too, as it is.
 #[repr(C)]
 pub struct Board {
     pub frame: u32,
     pub owner: u32,
+    pub shortest: u32,
 }
 
 pub enum MadeBoard {
@@ -21,17 +23,24 @@ impl Board {
     // Ticks of a frame: 1 to 65,536.
     pub const LONGEST: u32 = 65536;
 
+    // The shortest allowed window: 1 to 65,536 ticks.
+    pub const MOST_SHORTEST: u32 = 65536;
+
     // Which owners there are is judged with the windows.
-    pub fn new(frame: u32, owner: u32) -> MadeBoard
-        ensures { λ r. ⌜ toldBoard r ≡ boardAnswer (record { frame = frame; owner = owner }) ⌝ }
+    pub fn new(frame: u32, owner: u32, shortest: u32) -> MadeBoard
+        ensures { λ r. ⌜ toldBoard r ≡ boardAnswer (record { frame = frame; owner = owner; shortest = shortest }) ⌝ }
     {
-        if frame == 0 {
-            return MadeBoard::Refused(Refusal::Frame);
+        let board = Board {
+            frame,
+            owner,
+            shortest,
+        };
+        let ticks = check_frame(board);
+        let least = check_shortest(board);
+        match ticks.or_else(least) {
+            Checked::Fine => MadeBoard::Is(board),
+            Checked::Bad(r) => MadeBoard::Refused(r),
         }
-        if Board::LONGEST < frame {
-            return MadeBoard::Refused(Refusal::Frame);
-        }
-        MadeBoard::Is(Board { frame, owner })
     }
 }
 
@@ -39,8 +48,27 @@ impl Board {
 pub(crate) fn check_frame(board: Board) -> Checked
     ensures { λ r. ⌜ faultOf r ≡ frameFault (boardOf board) ⌝ }
 {
-    match Board::new(board.frame, board.owner) {
-        MadeBoard::Is(_) => Checked::Fine,
-        MadeBoard::Refused(r) => Checked::Bad(r),
+    let frame = board.frame;
+    if frame == 0 {
+        return Checked::Bad(Refusal::Frame);
     }
+    if Board::LONGEST < frame {
+        return Checked::Bad(Refusal::Frame);
+    }
+    Checked::Fine
+}
+
+// Refusal 12 of a shortest allowed window that is out of its range, at a place that no window has.
+pub(crate) fn check_shortest(board: Board) -> Checked
+    ensures { λ r. ⌜ faultOf r ≡ shortestFault (boardOf board) ⌝ }
+{
+    let shortest = board.shortest;
+    let place = Window::MOST as u64;
+    if shortest == 0 {
+        return Checked::Bad(Refusal::Sliver(place));
+    }
+    if Board::MOST_SHORTEST < shortest {
+        return Checked::Bad(Refusal::Sliver(place));
+    }
+    Checked::Fine
 }

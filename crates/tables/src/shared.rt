@@ -1,18 +1,21 @@
-// A table that teams share, in threes of start, end and owner: its checks, and the windows of the owner that is asked for. Document 02, request 4.
+// A table that teams share, in threes of start, end and owner: its checks, and the windows of the owner that is asked for. Document 02, requests 4 and 5.
 use crate::answer::Amount;
 use crate::answer::Checked;
 use crate::answer::Refusal;
 use crate::answer::refuse;
 use crate::board::Board;
 use crate::board::check_frame;
+use crate::board::check_shortest;
 use crate::window::MadeWindow;
 use crate::window::Window;
 use crate::window::check_list;
 ghost use mathlib.Core.Path.{_≡_};
-ghost use Prim.Native.Nat.{_≤_};
+ghost use Prim.Native.Nat.{_-_, _≤_};
 ghost use lib.ListN.{length};
 ghost use Rattle.scope.specs.Numbers.{written};
+ghost use Rattle.scope.specs.Answers.{faultAt};
 ghost use Rattle.scope.specs.Shared.{owned, ownedOf, ownedAt, own, follows, ownedLegal, ownedFault, ownedAnswer, wholeFault};
+ghost use Rattle.scope.specs.Shared.{sliver, firstSliver, sliverFault};
 ghost use Rattle.scope.specs.Shared.{absentOwnerFault, sharedFault, ownAnswer, ownOut, asOwned, asOwnedAnswer, asOwnedOut};
 ghost use Rattle.tables.specs.Told.{boardOf, ownedBy, faultOf, toldOwned, toldAmount};
 
@@ -57,6 +60,17 @@ impl Owned {
             return owner != self.owner;
         }
         end < start
+    }
+
+    // Whether the window is shorter than the board allows.
+    fn is_sliver(self, board: Board) -> bool
+        ensures { λ r. ⌜ r ≡ sliver (boardOf board) (ownedBy self) ⌝ }
+    {
+        let start = self.window.start;
+        let end = self.window.end;
+        let shortest = board.shortest;
+        let ticks = if start <= end { end - start } else { 0 };
+        ticks < shortest
     }
 }
 
@@ -117,7 +131,7 @@ fn check_owned(owners: u32, board: Board, windows: &[u32]) -> Checked
     Checked::Fine
 }
 
-// Refusals 1, 2 and 3 of the whole list: those that may depend on every team.
+// Refusals 1, 2 and 3 of the whole list.
 fn check_whole(owners: u32, board: Board, windows: &[u32]) -> Checked
     ensures { λ r. ⌜ faultOf r ≡ wholeFault owners (boardOf board) (now (windows .entry)) ⌝ }
 {
@@ -155,13 +169,40 @@ fn check_owner(board: Board, windows: &[u32]) -> Checked
     Checked::Fine
 }
 
-// Refusals 1, 2 and 3 of the whole list, then 1 of an absent owner.
+// Refusal 12 of a window that is shorter than the board allows, at the lowest index of the whole list.
+fn first_sliver(board: Board, windows: &[u32]) -> Checked
+    ensures { λ r. ⌜ faultOf r ≡ faultAt 12 (firstSliver (boardOf board) (ownedOf (now (windows .entry)))) ⌝ }
+{
+    let count = windows.len() / 3;
+    let mut i = 0;
+    while i < count {
+        let window = owned_at(windows, i);
+        if window.is_sliver(board) {
+            let place = i as u64;
+            return Checked::Bad(Refusal::Sliver(place));
+        }
+        i += 1;
+    }
+    Checked::Fine
+}
+
+// Refusal 12: the range of the shortest allowed window before any window.
+fn check_slivers(board: Board, windows: &[u32]) -> Checked
+    ensures { λ r. ⌜ faultOf r ≡ sliverFault (boardOf board) (now (windows .entry)) ⌝ }
+{
+    let range = check_shortest(board);
+    let each = first_sliver(board, windows);
+    range.or_else(each)
+}
+
+// Refusals 1, 2 and 3 of the whole list, 1 of an absent owner, then 12.
 pub(crate) fn check_shared(owners: u32, board: Board, windows: &[u32]) -> Checked
     ensures { λ r. ⌜ faultOf r ≡ sharedFault owners (boardOf board) (now (windows .entry)) ⌝ }
 {
     let whole = check_whole(owners, board, windows);
     let owner = check_owner(board, windows);
-    whole.or_else(owner)
+    let sliver = check_slivers(board, windows);
+    whole.or_else(owner.or_else(sliver))
 }
 
 // Writes the windows of the asked owner at the front of out, in pairs.
@@ -184,7 +225,7 @@ fn gather(board: Board, windows: &[u32], out: &mut [u32])
     }
 }
 
-// The windows of the asked owner, in pairs, at the front of out: how many numbers they have. Refusals 1 2 3, 1 of an absent owner, 8.
+// The windows of the asked owner, in pairs, at the front of out: how many numbers they have. Refusals 1 2 3, 1 of an absent owner, 12, 8.
 pub fn own_windows(owners: u32, board: Board, windows: &[u32], out: &mut [u32]) -> Amount
     ensures answer { λ r. ⌜ toldAmount r ≡ ownAnswer owners (boardOf board) (now (windows .entry)) (length (now (out .entry))) ⌝ }
     ensures buffer { λ _. ⌜ now (out .exit) ≡ ownOut owners (boardOf board) (now (windows .entry)) (now (out .entry)) ⌝ }

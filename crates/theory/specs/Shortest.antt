@@ -322,8 +322,11 @@ pub record PlanTwelve (k : ℕ) (bytes : List ℕ) (p : ℕ) : Type 0 where
 
 pub plan-twelve : (k : ℕ) (bytes : List ℕ) (p : ℕ) → (planAnswer k bytes ≡ refused 12 p) ↔ PlanTwelve k bytes p
 unfolding planAnswer verdictFor
-plan-twelve k bytes p = (go (planOf k bytes) refl, λ t.
-    rw (t .reads) (exactly-twelve teams (planBoard (t .plan)) (asOwned 0 (t .plan .windows)) _ (verdict-known (planBoard (t .plan)) (t .plan .tasks)) p .1 (t .twelve)))
+plan-twelve k bytes p = (
+  go (planOf k bytes) refl,
+  λ t.
+      rw (t .reads) (exactly-twelve teams (planBoard (t .plan)) (asOwned 0 (t .plan .windows)) _ (verdict-known (planBoard (t .plan)) (t .plan .tasks)) p .1 (t .twelve)),
+)
   where
     go : (a : Answer Plan) → planOf k bytes ≡ a → andThen a (λ q. verdictFor (planBoard q) (asOwned 0 (q .windows)) (q .tasks)) ≡ refused 12 p → PlanTwelve k bytes p
     go (given q) r e = record {

@@ -1,21 +1,54 @@
-use Rattle.scope.specs.Answers.{boardAnswer, frameFault}
-use borrow.Author.Tests.{eq-eqb, ne-eqb, lt-ltb, le-ltb}
+use mathlib.Core.Path.{_≡_, sym, ap, ap₂, _∙_}
+use Rattle.scope.specs.Windows.{Board}
+use Rattle.scope.specs.Answers.{_orElse_, frameFault, shortestFault, boardAnswer}
+use Rattle.tables.specs.Told.{boardOf, faultOf}
+use Rattle.tables.proofs.FaultLaws.{refused-by, given-by}
+use borrow.Author.Needs.{needs}
 use Rattle.tables.proofs.board.Board.new.Statement.{statement}
 use Rattle.tables.proofs.board.Board.new.Tie as tie
 use Rattle.tables.proofs.board.Board.new.Reads as reads
 use Rattle.tables.proofs.board.Board.new.Lts as lts
+use Rattle.tables.proofs.answer.Checked.or_else.Reads as or-else-reads
+use Rattle.tables.proofs.board.check_frame.Reads as check-frame-reads
+use Rattle.tables.proofs.board.check_shortest.Reads as check-shortest-reads
+
+-- the two checks together
+faulted : (c : tie.After-or-else) → let a = c .before .before .before .args in
+    let b : Board = record { frame = a .frame; owner = a .owner; shortest = a .shortest } in
+    faultOf (c .or-else .result) ≡ (frameFault b orElse shortestFault b)
+faulted c = c .or-else .ensures ∙ ap₂ _orElse_ (c .before .before .check-frame .ensures) (c .before .check-shortest .ensures)
+
+check-frame-requires : tie.Need-check-frame-requires
+check-frame-requires c κs = search needs
+
+check-shortest-requires : tie.Need-check-shortest-requires
+check-shortest-requires c κs = search needs
+
+or-else-requires : tie.Need-or-else-requires
+or-else-requires c κs = search needs
+
+enum-told : tie.Need-enum-told
+enum-told c = search needs
+
+enum-known-r : tie.Need-enum-known-r
+enum-known-r c = search needs
 
 returns : tie.Need-returns
-unfolding boardAnswer frameFault
-returns c = rw (eq-eqb _ _ (c .if1 .taken))
+unfolding boardAnswer
+returns c = given-by _ _ (sym (faulted (c .before .before)) ∙ ap faultOf (c .enum-told .given .1))
 
 returns-2 : tie.Need-returns-2
-unfolding boardAnswer frameFault
-returns-2 c = rw (ne-eqb _ _ (c .before .if1 .left), lt-ltb _ _ (c .if2 .taken))
-
-returns-3 : tie.Need-returns-3
-unfolding boardAnswer frameFault
-returns-3 c = rw (ne-eqb _ _ (c .before .if1 .left), le-ltb _ _ (c .if2 .left))
+unfolding boardAnswer
+returns-2 c = refused-by _ _ (sym (faulted (c .before .before .before)) ∙ ap faultOf (c .before .r .given .1))
 
 pub new-spec : {M : Type 1} → statement M
-new-spec = tie.close (tie.spec returns returns-2 returns-3)
+new-spec =
+    tie.close
+    (tie.spec
+    check-frame-requires
+    check-shortest-requires
+    or-else-requires
+    enum-told
+    enum-known-r
+    returns
+    returns-2)
