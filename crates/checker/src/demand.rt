@@ -1,11 +1,11 @@
 use crate::least::least_of;
+use shared::table::Owned;
+use shared::table::own_windows;
 use tables::answer::Amount;
 use tables::answer::Checked;
 use tables::answer::Margin;
 use tables::board::Board;
 use tables::length::check_length;
-use tables::shared::Owned;
-use tables::shared::own_windows;
 use tables::task::check_tasks;
 use tables::task::task_at;
 use tables::window::Window;

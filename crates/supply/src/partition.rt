@@ -1,11 +1,11 @@
 use crate::supply::least_at_ends;
+use shared::table::Owned;
+use shared::table::own_windows;
 use tables::answer::Amount;
 use tables::answer::Delay;
 use tables::answer::Refusal;
 use tables::answer::refuse;
 use tables::board::Board;
-use tables::shared::Owned;
-use tables::shared::own_windows;
 use tables::window::Window;
 use tables::window::window_at;
 ghost use mathlib.Core.Path.{_≡_};

@@ -1,13 +1,13 @@
 use crate::row::Position;
 use crate::row::moved;
 use crate::row::upto;
+use shared::table::Owned;
+use shared::table::own_windows;
 use tables::answer::Amount;
 use tables::answer::Checked;
 use tables::answer::Supplied;
 use tables::board::Board;
 use tables::length::check_length;
-use tables::shared::Owned;
-use tables::shared::own_windows;
 use tables::window::Window;
 use tables::window::check_table;
 use tables::window::is_on;

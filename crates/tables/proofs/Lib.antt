@@ -1,6 +1,5 @@
 pub mod Signs
 pub mod FaultLaws
 pub mod WindowLaws
-pub mod SharedLaws
 pub mod TaskLaws
 pub mod CursorLaws

@@ -4,7 +4,6 @@ use mathlib.Core.Path.{_≡_, refl, sym, ap, _∙_}
 use mathlib.Core.Bool.{cond}
 use lib.Dec.{eqb}
 use Rattle.scope.specs.Windows as Windows
-use Rattle.scope.specs.Shared as Shared
 use Rattle.scope.specs.Tasks as Tasks
 use Rattle.scope.specs.Verdict as Verdicts
 use Rattle.scope.specs.Bound as Bounds
@@ -23,13 +22,11 @@ use Rattle.tables.specs.declared.answer.Bound as bound
 use Rattle.tables.specs.declared.board.MadeBoard as madeBoard
 use Rattle.tables.specs.declared.window.Window as window
 use Rattle.tables.specs.declared.window.MadeWindow as madeWindow
-use Rattle.tables.specs.declared.shared.Owned as owned
-use Rattle.tables.specs.declared.shared.MadeOwned as madeOwned
 use Rattle.tables.specs.declared.task.Task as task
 use Rattle.tables.specs.declared.task.MadeTask as madeTask
 use Rattle.tables.specs.declared.length.MadeLength as madeLength
 use Rattle.tables.specs.Told.{number, place, faultOf, toldSupplied, toldAmount, toldDelay, toldMargin, toldVerdict, toldBound, toldBoard, toldWindow}
-use Rattle.tables.specs.Told.{toldOwned, toldTask, toldLength, windowOf, ownedBy, taskOf}
+use Rattle.tables.specs.Told.{toldTask, toldLength, windowOf, taskOf}
 
 -- what can be undone tells all cases apart
 pub undone : {A B : Type 0} (f : A → B) (g : B → A) → ((a : A) → g (f a) ≡ a) → (a b : A) → f a ≡ f b → a ≡ b
@@ -144,9 +141,6 @@ bound-determined = undone toldBound (made boundFrom bound.the-variants.Refused) 
 pub window-determined : (a b : window.Window) → windowOf a ≡ windowOf b → a ≡ b
 window-determined = undone windowOf (λ w. record { start = w .start; end = w .end }) (λ a. refl)
 
-pub owned-determined : (a b : owned.Owned) → ownedBy a ≡ ownedBy b → a ≡ b
-owned-determined = undone ownedBy (λ w. record { window = record { start = w .window .start; end = w .window .end }; owner = w .owner }) (λ a. refl)
-
 pub task-determined : (a b : task.Task) → taskOf a ≡ taskOf b → a ≡ b
 task-determined = undone taskOf (λ x. record { work = x .C; period = x .T; deadline = x .D }) (λ a. refl)
 
@@ -171,16 +165,6 @@ made-window-determined = undone toldWindow (made windowFrom madeWindow.the-varia
     back : (a : madeWindow.MadeWindow) → made windowFrom madeWindow.the-variants.Refused (toldWindow a) ≡ a
     back (madeWindow.the-variants.Is w) = refl
     back (madeWindow.the-variants.Refused r) = ap madeWindow.the-variants.Refused (refusal-back r)
-
-abbrev ownedFrom : Shared.Owned → madeOwned.MadeOwned
-ownedFrom w = madeOwned.the-variants.Is (record { window = record { start = w .window .start; end = w .window .end }; owner = w .owner })
-
-pub made-owned-determined : (a b : madeOwned.MadeOwned) → toldOwned a ≡ toldOwned b → a ≡ b
-made-owned-determined = undone toldOwned (made ownedFrom madeOwned.the-variants.Refused) back
-  where
-    back : (a : madeOwned.MadeOwned) → made ownedFrom madeOwned.the-variants.Refused (toldOwned a) ≡ a
-    back (madeOwned.the-variants.Is w) = refl
-    back (madeOwned.the-variants.Refused r) = ap madeOwned.the-variants.Refused (refusal-back r)
 
 abbrev taskFrom : Tasks.Task → madeTask.MadeTask
 taskFrom x = madeTask.the-variants.Is (record { work = x .C; period = x .T; deadline = x .D })

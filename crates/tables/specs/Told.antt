@@ -3,7 +3,6 @@ use Prim.Native.Nat.{ℕ}
 use mathlib.Core.Bool.{Bool}
 use lib.IntN.{ℤ}
 use Rattle.scope.specs.Windows as Windows
-use Rattle.scope.specs.Shared as Shared
 use Rattle.scope.specs.Tasks as Tasks
 use Rattle.scope.specs.Verdict as Verdicts
 use Rattle.scope.specs.Bound as Bounds
@@ -23,8 +22,6 @@ use Rattle.tables.specs.declared.board.Board as board
 use Rattle.tables.specs.declared.board.MadeBoard as madeBoard
 use Rattle.tables.specs.declared.window.Window as window
 use Rattle.tables.specs.declared.window.MadeWindow as madeWindow
-use Rattle.tables.specs.declared.shared.Owned as owned
-use Rattle.tables.specs.declared.shared.MadeOwned as madeOwned
 use Rattle.tables.specs.declared.task.Task as task
 use Rattle.tables.specs.declared.task.MadeTask as madeTask
 use Rattle.tables.specs.declared.length.MadeLength as madeLength
@@ -36,9 +33,6 @@ boardOf b = record { frame = b .frame; owner = b .owner; shortest = b .shortest 
 
 abbrev pub windowOf : window.Window → Windows.Window
 windowOf w = record { start = w .start; end = w .end }
-
-abbrev pub ownedBy : owned.Owned → Shared.Owned
-ownedBy w = record { window = windowOf (w .window); owner = w .owner }
 
 abbrev pub taskOf : task.Task → Tasks.Task
 taskOf x = record { C = x .work; T = x .period; D = x .deadline }
@@ -117,10 +111,6 @@ toldBoard (madeBoard.the-variants.Refused r) = no r
 abbrev pub toldWindow : madeWindow.MadeWindow → Answer Windows.Window
 toldWindow (madeWindow.the-variants.Is w) = given (windowOf w)
 toldWindow (madeWindow.the-variants.Refused r) = no r
-
-abbrev pub toldOwned : madeOwned.MadeOwned → Answer Shared.Owned
-toldOwned (madeOwned.the-variants.Is w) = given (ownedBy w)
-toldOwned (madeOwned.the-variants.Refused r) = no r
 
 abbrev pub toldTask : madeTask.MadeTask → Answer Tasks.Task
 toldTask (madeTask.the-variants.Is x) = given (taskOf x)

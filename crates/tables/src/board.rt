@@ -45,7 +45,7 @@ impl Board {
 }
 
 // Refusal 2.
-pub(crate) fn check_frame(board: Board) -> Checked
+pub fn check_frame(board: Board) -> Checked
     ensures { λ r. ⌜ faultOf r ≡ frameFault (boardOf board) ⌝ }
 {
     let frame = board.frame;
@@ -59,7 +59,7 @@ pub(crate) fn check_frame(board: Board) -> Checked
 }
 
 // Refusal 12 of a shortest allowed window that is out of its range, at a place that no window has.
-pub(crate) fn check_shortest(board: Board) -> Checked
+pub fn check_shortest(board: Board) -> Checked
     ensures { λ r. ⌜ faultOf r ≡ shortestFault (boardOf board) ⌝ }
 {
     let shortest = board.shortest;

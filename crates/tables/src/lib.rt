@@ -1,10 +1,9 @@
-// What a table and a group are, a table that teams share, their checks, a cursor that goes through a table tick by tick, and what every entry answers. Each public function is total:
-// any numbers at all may be lent.
+// What a table and a group are, their checks, a cursor that goes through a table tick by tick, and what every entry answers. Each public function is total: any
+// numbers at all may be lent.
 pub mod answer;
 pub mod board;
 pub mod cursor;
 pub mod length;
 pub mod list;
-pub mod shared;
 pub mod task;
 pub mod window;

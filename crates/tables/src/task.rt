@@ -1,16 +1,11 @@
 use crate::answer::Checked;
 use crate::answer::Refusal;
-use crate::board::Board;
 use crate::list::bad_count;
-use crate::shared::Owned;
-use crate::shared::check_shared;
 ghost use mathlib.Core.Path.{_≡_};
 ghost use Prim.Native.Nat.{_/_};
-ghost use Rattle.scope.specs.Limits.{teams};
 ghost use Rattle.scope.specs.Tasks.{task, tasksOf, taskAt, taskNumber, taskLegal, taskDemand};
-ghost use Rattle.scope.specs.Answers.{taskListFault, taskFault, groupFault, taskAnswer, _orElse_};
-ghost use Rattle.scope.specs.Shared.{sharedFault};
-ghost use Rattle.tables.specs.Told.{boardOf, taskOf, faultOf, toldTask};
+ghost use Rattle.scope.specs.Answers.{taskListFault, taskFault, groupFault, taskAnswer};
+ghost use Rattle.tables.specs.Told.{taskOf, faultOf, toldTask};
 
 // A task: C is the work, T the period (least distance of releases), D the deadline after release.
 pub struct Task {
@@ -148,13 +143,4 @@ pub fn check_tasks(tasks: &[u32]) -> Checked
     let list = check_task_list(tasks);
     let each = check_each_task(tasks);
     list.or_else(each)
-}
-
-// Refusals 1 2 3, 1 of an absent owner, 4 5.
-pub fn check_group(board: Board, windows: &[u32], tasks: &[u32]) -> Checked
-    ensures { λ r. ⌜ faultOf r ≡ (sharedFault teams (boardOf board) (now (windows .entry)) orElse groupFault (now (tasks .entry))) ⌝ }
-{
-    let table = check_shared(Owned::TEAMS, board, windows);
-    let group = check_tasks(tasks);
-    table.or_else(group)
 }

@@ -116,7 +116,7 @@ fn window_legal(board: Board, windows: &[u32], i: usize) -> bool
 }
 
 // Refusal 1, of windows with `each` numbers.
-pub(crate) fn check_list(windows: &[u32], each: usize) -> Checked
+pub fn check_list(windows: &[u32], each: usize) -> Checked
     ensures { λ r. ⌜ faultOf r ≡ listFault each (now (windows .entry)) ⌝ }
 {
     if bad_count(windows, each, Window::MOST) {

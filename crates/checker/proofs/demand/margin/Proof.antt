@@ -12,7 +12,7 @@ use Rattle.checker.proofs.demand.margin.Tie as tie
 use Rattle.checker.proofs.demand.margin.Reads as reads
 use Rattle.checker.proofs.demand.margin.Lts as lts
 use Rattle.checker.proofs.demand.margin_on.Reads as margin-on-reads
-use Rattle.tables.proofs.shared.own_windows.Reads as own-windows-reads
+use Rattle.shared.proofs.table.own_windows.Reads as own-windows-reads
 
 -- the owner's windows stand in the memory
 own-at : (c : tie.After-known-told2) →

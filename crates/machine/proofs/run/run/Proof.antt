@@ -12,7 +12,7 @@ use Rattle.machine.proofs.run.run.Reads as reads
 use Rattle.machine.proofs.run.run.Lts as lts
 use Rattle.machine.proofs.run.refuse.Reads as refuse-reads
 use Rattle.machine.proofs.run.run_on.Reads as run-on-reads
-use Rattle.tables.proofs.shared.own_windows.Reads as own-windows-reads
+use Rattle.shared.proofs.table.own_windows.Reads as own-windows-reads
 
 -- the owner's windows stand in the memory
 own-at : (c : tie.After-known-told2) →

@@ -12,7 +12,7 @@ use Rattle.plan.proofs.check.verdict_of.Tie as tie
 use Rattle.plan.proofs.check.verdict_of.Reads as reads
 use Rattle.plan.proofs.check.verdict_of.Lts as lts
 use Rattle.checker.proofs.verdict.verdict.Reads as verdict-reads
-use Rattle.tables.proofs.shared.as_owned.Reads as as-owned-reads
+use Rattle.shared.proofs.table.as_owned.Reads as as-owned-reads
 
 -- the threes stand in the memory
 held-at : (c : tie.After-known-told2) →

@@ -12,7 +12,7 @@ use Rattle.replay.proofs.replay.replay_fitting.Reads as replay-fitting-
 use Rattle.replay.proofs.survey.check_extent.Reads as check-extent-reads
 use Rattle.replay.proofs.survey.survey.Reads as survey-reads
 use Rattle.tables.proofs.answer.Checked.or_else.Reads as or-else-reads
-use Rattle.tables.proofs.task.check_group.Reads as check-group-reads
+use Rattle.shared.proofs.group.check_group.Reads as check-group-reads
 
 survey-requires : tie.Need-survey-requires
 survey-requires c κs = search needs

@@ -13,7 +13,7 @@ use Rattle.supply.proofs.partition.critical.Reads as reads
 use Rattle.supply.proofs.partition.critical.Lts as lts
 use Rattle.supply.proofs.partition.critical_on.Reads as critical-on-reads
 use Rattle.tables.proofs.answer.refuse.Reads as refuse-reads
-use Rattle.tables.proofs.shared.own_windows.Reads as own-windows-reads
+use Rattle.shared.proofs.table.own_windows.Reads as own-windows-reads
 
 -- the owner's windows stand in the memory
 own-at : (c : tie.After-known-told2) →

@@ -12,7 +12,7 @@ use Rattle.supply.proofs.partition.delay.Tie as tie
 use Rattle.supply.proofs.partition.delay.Reads as reads
 use Rattle.supply.proofs.partition.delay.Lts as lts
 use Rattle.supply.proofs.partition.delay_on.Reads as delay-on-reads
-use Rattle.tables.proofs.shared.own_windows.Reads as own-windows-reads
+use Rattle.shared.proofs.table.own_windows.Reads as own-windows-reads
 
 -- the owner's windows stand in the memory
 own-at : (c : tie.After-known-told2) →

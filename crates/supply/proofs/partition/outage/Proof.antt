@@ -14,7 +14,7 @@ use Rattle.supply.proofs.partition.outage.Tie as tie
 use Rattle.supply.proofs.partition.outage.Reads as reads
 use Rattle.supply.proofs.partition.outage.Lts as lts
 use Rattle.supply.proofs.partition.outage_of.Reads as outage-of-reads
-use Rattle.tables.proofs.shared.own_windows.Reads as own-windows-reads
+use Rattle.shared.proofs.table.own_windows.Reads as own-windows-reads
 
 -- the owner's windows stand in the memory
 own-at : (c : tie.After-known-told2) →

@@ -12,7 +12,7 @@ use Rattle.supply.proofs.supply.least_supply.Tie as tie
 use Rattle.supply.proofs.supply.least_supply.Reads as reads
 use Rattle.supply.proofs.supply.least_supply.Lts as lts
 use Rattle.supply.proofs.supply.least_on.Reads as least-on-reads
-use Rattle.tables.proofs.shared.own_windows.Reads as own-windows-reads
+use Rattle.shared.proofs.table.own_windows.Reads as own-windows-reads
 
 -- the owner's windows stand in the memory
 own-at : (c : tie.After-known-told2) →

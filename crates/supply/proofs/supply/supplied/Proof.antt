@@ -12,7 +12,7 @@ use Rattle.supply.proofs.supply.supplied.Statement.{statement}
 use Rattle.supply.proofs.supply.supplied.Tie as tie
 use Rattle.supply.proofs.supply.supplied.Reads as reads
 use Rattle.supply.proofs.supply.supplied.Lts as lts
-use Rattle.tables.proofs.shared.own_windows.Reads as own-windows-reads
+use Rattle.shared.proofs.table.own_windows.Reads as own-windows-reads
 use Rattle.tables.proofs.window.is_on.Reads as is-on-reads
 
 -- the owner's windows stand in the memory

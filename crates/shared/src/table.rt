@@ -1,0 +1,279 @@
+// A table that teams share, in threes of start, end and owner: its checks, and the windows of the owner that is asked for. Document 02, requests 4 and 5.
+use tables::answer::Amount;
+use tables::answer::Checked;
+use tables::answer::Refusal;
+use tables::answer::refuse;
+use tables::board::Board;
+use tables::board::check_frame;
+use tables::board::check_shortest;
+use tables::window::MadeWindow;
+use tables::window::Window;
+use tables::window::check_list;
+ghost use mathlib.Core.Path.{_≡_};
+ghost use Prim.Native.Nat.{_-_, _≤_};
+ghost use lib.ListN.{length};
+ghost use Rattle.scope.specs.Numbers.{written};
+ghost use Rattle.scope.specs.Answers.{faultAt};
+ghost use Rattle.scope.specs.Shared.{owned, ownedOf, ownedAt, own, follows, ownedLegal, ownedFault, ownedAnswer, wholeFault};
+ghost use Rattle.scope.specs.Shared.{sliver, firstSliver, sliverFault};
+ghost use Rattle.scope.specs.Shared.{absentOwnerFault, sharedFault, ownAnswer, ownOut, asOwned, asOwnedAnswer, asOwnedOut};
+ghost use Rattle.tables.specs.Told.{boardOf, faultOf, toldAmount};
+ghost use Rattle.shared.specs.Told.{ownedBy, toldOwned};
+
+// A window and the team that it belongs to.
+pub struct Owned {
+    pub window: Window,
+    pub owner: u32,
+}
+
+pub enum MadeOwned {
+    Is(Owned),
+    Refused(Refusal),
+}
+
+impl Owned {
+    // The teams that share a table: its owners are 0 and 1.
+    pub const TEAMS: u32 = 2;
+
+    // A window of a table that has `owners` owners.
+    pub fn new(owners: u32, board: Board, start: u32, end: u32, owner: u32) -> MadeOwned
+        ensures { λ r. ⌜ toldOwned r ≡ ownedAnswer owners (boardOf board) (owned start end owner) ⌝ }
+    {
+        match Window::new(board, start, end) {
+            MadeWindow::Refused(_) => MadeOwned::Refused(Refusal::Window(0)),
+            MadeWindow::Is(window) => {
+                if owners <= owner {
+                    return MadeOwned::Refused(Refusal::Window(0));
+                }
+                MadeOwned::Is(Owned { window, owner })
+            }
+        }
+    }
+
+    // Whether the window may come after another: it starts after the other's end, or there, and is another owner's.
+    fn follows(self, previous: Owned) -> bool
+        ensures { λ r. ⌜ r ≡ follows (ownedBy previous) (ownedBy self) ⌝ }
+    {
+        let end = previous.window.end;
+        let start = self.window.start;
+        let owner = previous.owner;
+        if end == start {
+            return owner != self.owner;
+        }
+        end < start
+    }
+
+    // Whether the window is shorter than the board allows.
+    fn is_sliver(self, board: Board) -> bool
+        ensures { λ r. ⌜ r ≡ sliver (boardOf board) (ownedBy self) ⌝ }
+    {
+        let start = self.window.start;
+        let end = self.window.end;
+        let shortest = board.shortest;
+        let ticks = if start <= end { end - start } else { 0 };
+        ticks < shortest
+    }
+}
+
+// Window i of a list of threes; past the last one the window 0 0 of owner 0.
+pub(crate) fn owned_at(windows: &[u32], i: usize) -> Owned
+    ensures { λ r. ⌜ ownedBy r ≡ ownedAt (ownedOf (now (windows .entry))) i ⌝ }
+{
+    if i < windows.len() / 3 {
+        let start = windows[3 * i];
+        let end = windows[3 * i + 1];
+        let owner = windows[3 * i + 2];
+        return Owned {
+            window: Window { start, end },
+            owner,
+        };
+    }
+    Owned {
+        window: Window { start: 0, end: 0 },
+        owner: 0,
+    }
+}
+
+// Whether window i keeps its rule.
+fn owned_legal(owners: u32, board: Board, windows: &[u32], i: usize) -> bool
+    ensures { λ r. ⌜ r ≡ ownedLegal owners (boardOf board) (ownedOf (now (windows .entry))) i ⌝ }
+{
+    let here = owned_at(windows, i);
+    match Owned::new(
+        owners,
+        board,
+        here.window.start,
+        here.window.end,
+        here.owner,
+    ) {
+        MadeOwned::Refused(_) => false,
+        MadeOwned::Is(_) => {
+            if i == 0 {
+                return true;
+            }
+            here.follows(owned_at(windows, i - 1))
+        }
+    }
+}
+
+// Refusal 3, at the lowest index of the whole list.
+fn check_owned(owners: u32, board: Board, windows: &[u32]) -> Checked
+    ensures { λ r. ⌜ faultOf r ≡ ownedFault owners (boardOf board) (ownedOf (now (windows .entry))) ⌝ }
+{
+    let count = windows.len() / 3;
+    let mut i = 0;
+    while i < count {
+        if !owned_legal(owners, board, windows, i) {
+            let place = i as u64;
+            return Checked::Bad(Refusal::Window(place));
+        }
+        i += 1;
+    }
+    Checked::Fine
+}
+
+// Refusals 1, 2 and 3 of the whole list.
+fn check_whole(owners: u32, board: Board, windows: &[u32]) -> Checked
+    ensures { λ r. ⌜ faultOf r ≡ wholeFault owners (boardOf board) (now (windows .entry)) ⌝ }
+{
+    let list = check_list(windows, 3);
+    let frame = check_frame(board);
+    let each = check_owned(owners, board, windows);
+    list.or_else(frame.or_else(each))
+}
+
+// How many numbers the windows of the asked owner have, in pairs.
+fn count_own(board: Board, windows: &[u32]) -> usize
+    ensures { λ r. ⌜ r ≡ length (own (boardOf board) (now (windows .entry))) ⌝ }
+{
+    let owner = board.owner;
+    let count = windows.len() / 3;
+    let mut numbers = 0;
+    let mut i = 0;
+    while i < count {
+        let window = owned_at(windows, i);
+        if window.owner == owner {
+            numbers += 2;
+        }
+        i += 1;
+    }
+    numbers
+}
+
+// Refusal 1 of an owner that has no window. One that does not exist has none in a list that keeps rule 3.
+fn check_owner(board: Board, windows: &[u32]) -> Checked
+    ensures { λ r. ⌜ faultOf r ≡ absentOwnerFault (boardOf board) (now (windows .entry)) ⌝ }
+{
+    if count_own(board, windows) == 0 {
+        return Checked::Bad(Refusal::WindowList);
+    }
+    Checked::Fine
+}
+
+// Refusal 12 of a window that is shorter than the board allows, at the lowest index of the whole list.
+fn first_sliver(board: Board, windows: &[u32]) -> Checked
+    ensures { λ r. ⌜ faultOf r ≡ faultAt 12 (firstSliver (boardOf board) (ownedOf (now (windows .entry)))) ⌝ }
+{
+    let count = windows.len() / 3;
+    let mut i = 0;
+    while i < count {
+        let window = owned_at(windows, i);
+        if window.is_sliver(board) {
+            let place = i as u64;
+            return Checked::Bad(Refusal::Sliver(place));
+        }
+        i += 1;
+    }
+    Checked::Fine
+}
+
+// Refusal 12: the range of the shortest allowed window before any window.
+fn check_slivers(board: Board, windows: &[u32]) -> Checked
+    ensures { λ r. ⌜ faultOf r ≡ sliverFault (boardOf board) (now (windows .entry)) ⌝ }
+{
+    let range = check_shortest(board);
+    let each = first_sliver(board, windows);
+    range.or_else(each)
+}
+
+// Refusals 1, 2 and 3 of the whole list, 1 of an absent owner, then 12.
+pub(crate) fn check_shared(owners: u32, board: Board, windows: &[u32]) -> Checked
+    ensures { λ r. ⌜ faultOf r ≡ sharedFault owners (boardOf board) (now (windows .entry)) ⌝ }
+{
+    let whole = check_whole(owners, board, windows);
+    let owner = check_owner(board, windows);
+    let sliver = check_slivers(board, windows);
+    whole.or_else(owner.or_else(sliver))
+}
+
+// Writes the windows of the asked owner at the front of out, in pairs.
+fn gather(board: Board, windows: &[u32], out: &mut [u32])
+    requires { ⌜ length (own (boardOf board) (now windows)) ≤ length (now out) ⌝ }
+    ensures { λ _. ⌜ now (out .exit) ≡ written (own (boardOf board) (now (windows .entry))) (now (out .entry)) ⌝ }
+{
+    let owner = board.owner;
+    let count = windows.len() / 3;
+    let mut at = 0;
+    let mut i = 0;
+    while i < count {
+        let here = owned_at(windows, i);
+        if here.owner == owner {
+            out[at] = here.window.start;
+            out[at + 1] = here.window.end;
+            at += 2;
+        }
+        i += 1;
+    }
+}
+
+// The windows of the asked owner, in pairs, at the front of out: how many numbers they have. Refusals 1 2 3, 1 of an absent owner, 12, 8.
+pub fn own_windows(owners: u32, board: Board, windows: &[u32], out: &mut [u32]) -> Amount
+    ensures answer { λ r. ⌜ toldAmount r ≡ ownAnswer owners (boardOf board) (now (windows .entry)) (length (now (out .entry))) ⌝ }
+    ensures buffer { λ _. ⌜ now (out .exit) ≡ ownOut owners (boardOf board) (now (windows .entry)) (now (out .entry)) ⌝ }
+{
+    match check_shared(owners, board, windows) {
+        Checked::Bad(r) => refuse(r, out),
+        Checked::Fine => {
+            let numbers = count_own(board, windows);
+            if out.len() < numbers {
+                refuse(Refusal::Room(numbers as u64), out)
+            } else {
+                gather(board, windows, out);
+                Amount::Of(numbers as u64)
+            }
+        }
+    }
+}
+
+// Writes the pairs as threes of one owner at the front of out.
+fn write_owned(owner: u32, windows: &[u32], out: &mut [u32])
+    requires { ⌜ length (asOwned owner (now windows)) ≤ length (now out) ⌝ }
+    ensures { λ _. ⌜ now (out .exit) ≡ written (asOwned owner (now (windows .entry))) (now (out .entry)) ⌝ }
+{
+    let count = windows.len() / 2;
+    let mut i = 0;
+    while i < count {
+        out[3 * i] = windows[2 * i];
+        out[3 * i + 1] = windows[2 * i + 1];
+        out[3 * i + 2] = owner;
+        i += 1;
+    }
+    if windows.len() % 2 == 1 {
+        out[3 * i] = windows[2 * i];
+    }
+}
+
+// A list of pairs, all read as one owner's, at the front of out: how many numbers the threes have, where a number that is left over stays one. Refusal 8.
+pub fn as_owned(owner: u32, windows: &[u32], out: &mut [u32]) -> Amount
+    ensures answer { λ r. ⌜ toldAmount r ≡ asOwnedAnswer owner (now (windows .entry)) (length (now (out .entry))) ⌝ }
+    ensures buffer { λ _. ⌜ now (out .exit) ≡ asOwnedOut owner (now (windows .entry)) (now (out .entry)) ⌝ }
+{
+    let count = windows.len();
+    let numbers = count / 2 * 3 + count % 2;
+    if out.len() < numbers {
+        refuse(Refusal::Room(numbers as u64), out)
+    } else {
+        write_owned(owner, windows, out);
+        Amount::Of(numbers as u64)
+    }
+}
