@@ -85,7 +85,7 @@ fn bound_on(board: Board, windows: &[u32], tasks: &[u32], index: u32) -> Bound
     }
 }
 
-// The response bound of task `index` under fixed priority, lower index first, on the asked owner's windows. Refusals 1 2 3, 1 of an absent owner, 4 5 7.
+// The response bound of task `index` under fixed priority, lower index first, on the asked owner's windows. Refusals: a table's, then 4 5 7.
 pub fn bound(board: Board, windows: &[u32], tasks: &[u32], index: u32) -> Bound
     ensures { λ r. ⌜ toldBound r ≡ boundFor (boardOf board) (now (windows .entry)) (now (tasks .entry)) index ⌝ }
 {

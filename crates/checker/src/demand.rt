@@ -74,7 +74,7 @@ fn margin_on(board: Board, windows: &[u32], tasks: &[u32], length: u32) -> Margi
     }
 }
 
-// Least supply of the asked owner's windows minus demand, at a length. Refusals 1 2 3, 1 of an absent owner, 4 5 7.
+// Least supply of the asked owner's windows minus demand, at a length. Refusals: a table's, then 4 5 7.
 pub fn margin(board: Board, windows: &[u32], tasks: &[u32], length: u32) -> Margin
     ensures { λ r. ⌜ toldMargin r ≡ marginFor (boardOf board) (now (windows .entry)) (now (tasks .entry)) length ⌝ }
 {

@@ -96,8 +96,8 @@ fn verdict_on(board: Board, windows: &[u32], tasks: &[u32]) -> Verdict
     }
 }
 
-// Whether the group meets its deadlines under earliest deadline first on the asked owner's windows, or the miss. Refusals 1 2 3, 1 of an absent owner,
-// 4 5 6.
+// Whether the group meets its deadlines under earliest deadline first on the asked owner's windows, or the miss. Refusals: a table's,
+// then 4 5 6.
 pub fn verdict(board: Board, windows: &[u32], tasks: &[u32]) -> Verdict
     ensures { λ r. ⌜ toldVerdict r ≡ verdictFor (boardOf board) (now (windows .entry)) (now (tasks .entry)) ⌝ }
 {

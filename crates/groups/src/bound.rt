@@ -24,7 +24,7 @@ fn bound_of(
     records::bound::bound(board, windows, &tasks[..count], index)
 }
 
-// The response bound of task `index` under fixed priority, lower index first. Refusals 1 2 3, 1 of an absent owner, 4 5 7.
+// The response bound of task `index` under fixed priority, lower index first. Refusals: a table's, then 4 5 7.
 pub fn bound(board: Board, windows: &[u32], numbers: &[u32], index: u32) -> Bound
     ensures { λ r. ⌜ toldBound r ≡ boundFor (boardOf board) (now (windows .entry)) (now (numbers .entry)) index ⌝ }
 {

@@ -41,7 +41,7 @@ fn margin_of(
     records::demand::margin(board, windows, &tasks[..count], length)
 }
 
-// Least supply minus demand at a length. Refusals 1 2 3, 1 of an absent owner, 4 5 7.
+// Least supply minus demand at a length. Refusals: a table's, then 4 5 7.
 pub fn margin(board: Board, windows: &[u32], numbers: &[u32], length: u32) -> Margin
     ensures { λ r. ⌜ toldMargin r ≡ marginFor (boardOf board) (now (windows .entry)) (now (numbers .entry)) length ⌝ }
 {

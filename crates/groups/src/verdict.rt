@@ -18,7 +18,7 @@ fn verdict_of(tasks: [Task; Task::MOST + 1], count: usize, board: Board, windows
     records::verdict::verdict(board, windows, &tasks[..count])
 }
 
-// Whether the group meets its deadlines under earliest deadline first, or the miss. Refusals 1 2 3, 1 of an absent owner, 4 5 6.
+// Whether the group meets its deadlines under earliest deadline first, or the miss. Refusals: a table's, then 4 5 6.
 pub fn verdict(board: Board, windows: &[u32], numbers: &[u32]) -> Verdict
     ensures { λ r. ⌜ toldVerdict r ≡ verdictFor (boardOf board) (now (windows .entry)) (now (numbers .entry)) ⌝ }
 {

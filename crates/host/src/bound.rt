@@ -19,7 +19,7 @@ fn bound_answer(b: Bound) -> Answer
     }
 }
 
-// Refusals 1 2 3, 1 of an absent owner, 4 5 7.
+// Refusals: a table's, then 4 5 7.
 #[no_mangle]
 pub extern "C" fn palikudyom_bound(
     board: Board,

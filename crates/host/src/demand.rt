@@ -40,7 +40,7 @@ pub extern "C" fn palikudyom_demand(tasks: &[u32], length: u32) -> Answer
     amount_answer(demand(tasks, length))
 }
 
-// Refusals 1 2 3, 1 of an absent owner, 4 5 7.
+// Refusals: a table's, then 4 5 7.
 #[no_mangle]
 pub extern "C" fn palikudyom_margin(
     board: Board,

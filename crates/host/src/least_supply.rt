@@ -7,7 +7,7 @@ ghost use Rattle.scope.specs.Shared.{leastSupplyFor};
 ghost use Rattle.tables.specs.Told.{boardOf};
 ghost use Rattle.host.specs.Told.{cAmount};
 
-// Refusals 1 2 3, 1 of an absent owner, 7.
+// Refusals: a table's, then 7.
 #[no_mangle]
 pub extern "C" fn palikudyom_least_supply(board: Board, windows: &[u32], length: u32) -> Answer
     ensures { λ r. ⌜ r ≡ cAmount (leastSupplyFor (boardOf board) (now (windows .entry)) length) ⌝ }

@@ -22,7 +22,7 @@ fn delay_answer(d: Delay) -> Answer
     }
 }
 
-// How many critical windows, two numbers each in `out`. Refusals 1 2 3, 1 of an absent owner, 8.
+// How many critical windows, two numbers each in `out`. Refusals: a table's, then 8.
 #[no_mangle]
 pub extern "C" fn palikudyom_critical(board: Board, windows: &[u32], out: &mut [u32]) -> Answer
     ensures answer { λ r. ⌜ r ≡ cAmount (criticalFor (boardOf board) (now (windows .entry)) (length (now (out .entry)))) ⌝ }
@@ -31,7 +31,7 @@ pub extern "C" fn palikudyom_critical(board: Board, windows: &[u32], out: &mut [
     amount_answer(critical(board, windows, out))
 }
 
-// Refusals 1 2 3, 1 of an absent owner.
+// Refusals: a table's.
 #[no_mangle]
 pub extern "C" fn palikudyom_delay(board: Board, windows: &[u32]) -> Answer
     ensures { λ r. ⌜ r ≡ cDelay (delayFor (boardOf board) (now (windows .entry))) ⌝ }
@@ -39,7 +39,7 @@ pub extern "C" fn palikudyom_delay(board: Board, windows: &[u32]) -> Answer
     delay_answer(delay(board, windows))
 }
 
-// Refusals 1 2 3, 1 of an absent owner.
+// Refusals: a table's.
 #[no_mangle]
 pub extern "C" fn palikudyom_outage(board: Board, windows: &[u32]) -> Answer
     ensures { λ r. ⌜ r ≡ cAmount (outageFor (boardOf board) (now (windows .entry))) ⌝ }

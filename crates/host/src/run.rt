@@ -31,7 +31,7 @@ fn ran_answer(r: Ran) -> Answer
     }
 }
 
-// Each job's count goes into `counts`. Refusals 1 2 3, 1 of an absent owner, 4 5 10 11 8.
+// Each job's count goes into `counts`. Refusals: a table's, then 4 5 10 11 8.
 #[no_mangle]
 pub extern "C" fn palikudyom_run(
     board: Board,

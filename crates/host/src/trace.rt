@@ -55,7 +55,7 @@ fn replay_answer(r: Replayed) -> Answer
     }
 }
 
-// A board's trace against the tick machine. Refusals 9, 1 2 3, 1 of an absent owner, 4 5 10 11; 9 and 11 are about the trace.
+// A board's trace against the tick machine. Refusals: 9, a table's, then 4 5 10 11; 9 and 11 are about the trace.
 #[no_mangle]
 pub extern "C" fn palikudyom_replay(
     board: Board,

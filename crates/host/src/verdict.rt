@@ -30,7 +30,7 @@ pub(crate) fn verdict_answer(v: Verdict) -> Answer
     }
 }
 
-// Refusals 1 2 3, 1 of an absent owner, 4 5 6.
+// Refusals: a table's, then 4 5 6.
 #[no_mangle]
 pub extern "C" fn palikudyom_verdict(board: Board, windows: &[u32], tasks: &[u32]) -> Answer
     ensures { λ r. ⌜ r ≡ cVerdict (verdictFor (boardOf board) (now (windows .entry)) (now (tasks .entry))) ⌝ }

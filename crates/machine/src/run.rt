@@ -141,7 +141,7 @@ fn run_on(
 }
 
 // Runs a job list of a group on the asked owner's windows of a shared table, as if they were the table (document 02, request 4), for n ticks:
-// the answer, and one count for each job in the lent buffer. Refusals 1 2 3, 1 of an absent owner, 4 5 10 11 8.
+// the answer, and one count for each job in the lent buffer. Refusals: a table's, then 4 5 10 11 8.
 pub fn run(
     board: Board,
     windows: &[u32],

@@ -7,12 +7,11 @@ use lib.ListN.{length, take, drop}
 use lib.Seq.{take-append-seam}
 use borrow.Author.Tests.{le-ltb}
 use Rattle.scope.specs.Numbers.{written}
-use Rattle.scope.specs.Limits.{teams, mostWindows}
-use Rattle.scope.specs.Windows.{Board}
-use Rattle.scope.specs.Answers.{Answer.given, Answer.refused, unless, roomFault, verdictAnswer}
-use Rattle.scope.specs.Shared.{asOwned, asOwnedAnswer, asOwnedOut, verdictFor}
+use Rattle.scope.specs.Limits.{mostWindows}
+use Rattle.scope.specs.Answers.{Answer.given, Answer.refused, unless, roomFault}
+use Rattle.scope.specs.Shared.{asOwned, asOwnedAnswer, asOwnedOut}
 use Rattle.theory.specs.Answers.{fault-not-fine, unless-given, unless-refused}
-use Rattle.theory.specs.Alone.{owned-length, verdict-entry, one-owner}
+use Rattle.theory.specs.Alone.{owned-length}
 
 module _ (o : ℕ) (ws : List ℕ) (short : length ws ≤ 2 * mostWindows) where
   abbrev threes : List ℕ
@@ -40,9 +39,3 @@ module _ (o : ℕ) (ws : List ℕ) (short : length ws ≤ 2 * mostWindows) where
         few = omega (arith, threes-few, u .1);
         front = rw (is, u .0, ← (u .1)) (take-append-seam threes (drop (length threes) before));
       }
-
--- the verdict of owner 0 on the threes is that on the pairs
-pub verdict-pairs : (frame : ℕ) (ws ts : List ℕ) →
-    verdictFor (record { frame = frame; owner = 0 }) (asOwned 0 ws) ts ≡ verdictAnswer (record { frame = frame; owner = 0 }) ws ts
-unfolding verdictFor
-verdict-pairs frame ws ts = one-owner teams (record { frame = frame; owner = 0 }) (omega arith) ws (verdict-entry ts)

@@ -1,17 +1,19 @@
 -- A plan file part by part: each way in which a reader leaves a part is an answer of the whole
-use mathlib.Core.Path.{_≡_, sym, ap, _∙_}
-use mathlib.Core.List.{List}
-use Prim.Native.Nat.{ℕ, _+_, _*_, _≤_, _<_}
+use mathlib.Core.Path.{_≡_, refl, sym, ap, _∙_}
+use mathlib.Core.List.{List, [], _∷_}
+use Prim.Native.Nat.{ℕ, zero, suc, _+_, _*_, _≤_, _<_}
 use native.Mathlib.Omega.{arith}
 use native.Mathlib.Numerals.{add-one}
 use native.Mathlib.Decide.{le-ind, decLt}
-use lib.ListN.{length, set, take}
-use lib.Seq.{take-suc-set}
+use lib.ListN.{length, getD, set, take}
+use lib.Seq.{take-suc-set, length-take-le}
 use borrow.Author.Tests.{lt-ltb, le-ltb}
-use Rattle.scope.specs.Answers.{Fault.fault, Answer, Answer.given, Answer.refused, verdictAnswer}
+use Rattle.scope.specs.Answers.{Fault.fault, Answer, Answer.given, Answer.refused}
 use Rattle.scope.specs.Plan.{Read, Read.read, Read.bad, readNumber, readNumbers, orNine, asListed, countFault, windowCountFault, taskCountFault}
-use Rattle.scope.specs.Plan.{restFault, countedFrom, listsFrom, planFrom, Plan, planOf, planAnswer}
-use Rattle.theory.specs.Plan.{count-fine}
+use Rattle.scope.specs.Plan.{restFault, Listed, countedFrom, listsFrom, planFrom, Plan, planOf}
+use Rattle.scope.specs.Shared.{asOwned, verdictFor, planBoard, planAnswer}
+use Rattle.theory.specs.Series.{numbers-next}
+use Rattle.theory.specs.Plan.{orNine-given, count-fine}
 use Rattle.tables.specs.declared.answer.Refusal.{Refusal}
 use Rattle.tables.specs.declared.answer.Refusal.the-variants.{Bytes}
 use Rattle.tables.specs.Told.{number, place, no as refusedBy}
@@ -64,43 +66,70 @@ module _ (bytes : List ℕ) (at each least most : ℕ) (r : Refusal) (n next : �
 
 -- ---- the two lists after P, and the end of the file
 
-module _ (bytes : List ℕ) (frame at : ℕ) where
-  pub windows-refused : (r : Refusal) → countedFrom 2 windowCountFault bytes at ≡ refusedBy r → refusedBy r ≡ listsFrom bytes frame at
+module _ (bytes settings : List ℕ) (frame at : ℕ) where
+  pub windows-refused : (r : Refusal) → countedFrom 2 windowCountFault bytes at ≡ refusedBy r → refusedBy r ≡ listsFrom bytes settings frame at
   unfolding listsFrom
   windows-refused r w = rw w
 
   module _ (windows : List ℕ) (mid : ℕ) (w : countedFrom 2 windowCountFault bytes at ≡ asListed windows mid) where
-    pub tasks-refused : (r : Refusal) → countedFrom 3 taskCountFault bytes mid ≡ refusedBy r → refusedBy r ≡ listsFrom bytes frame at
+    pub tasks-refused : (r : Refusal) → countedFrom 3 taskCountFault bytes mid ≡ refusedBy r → refusedBy r ≡ listsFrom bytes settings frame at
     unfolding listsFrom
     tasks-refused r t = rw (w, t)
 
     module _ (tasks : List ℕ) (end : ℕ) (t : countedFrom 3 taskCountFault bytes mid ≡ asListed tasks end) where
-      pub bytes-left : end < length bytes → refused 9 end ≡ listsFrom bytes frame at
+      pub bytes-left : end < length bytes → refused 9 end ≡ listsFrom bytes settings frame at
       unfolding listsFrom restFault
       bytes-left h = rw (w, t, lt-ltb end (length bytes) h)
 
-      pub all-read : length bytes ≤ end → given (record { frame = frame; windows = windows; tasks = tasks }) ≡ listsFrom bytes frame at
+      pub all-read : length bytes ≤ end → given (record { settings = settings; frame = frame; windows = windows; tasks = tasks }) ≡ listsFrom bytes settings frame at
       unfolding listsFrom restFault
       all-read h = rw (w, t, le-ltb end (length bytes) h)
 
--- ---- P, and the plan as a whole
+-- ---- P, after the settings
 
-module _ (bytes : List ℕ) (at : ℕ) where
-  pub frame-bad : (r : Refusal) (o : ℕ) → r ≡ Bytes o → readNumber bytes at ≡ bad o → refusedBy r ≡ planFrom bytes at
+module _ (bytes settings : List ℕ) (at : ℕ) where
+  pub frame-bad : (r : Refusal) (o : ℕ) → r ≡ Bytes o → readNumber bytes at ≡ bad o → refusedBy r ≡ planFrom bytes settings at
   unfolding planFrom
   frame-bad r o is b = bad-nine (readNumber bytes at) _ is b
 
-  pub frame-read : (frame next : ℕ) → readNumber bytes at ≡ read frame next → listsFrom bytes frame next ≡ planFrom bytes at
+  pub frame-read : (frame next : ℕ) → readNumber bytes at ≡ read frame next → listsFrom bytes settings frame next ≡ planFrom bytes settings at
   unfolding planFrom
   frame-read frame next e = rw e
 
--- ---- a plan file, judged
+-- ---- the settings, and the file as a whole
 
-module _ (bytes : List ℕ) where
-  pub plan-refused : (r : Refusal) → planFrom bytes 0 ≡ refusedBy r → refusedBy r ≡ planAnswer bytes
-  unfolding planAnswer planOf
+-- a setting that is there, whatever stands for one that is not
+pub setting-there : (l : List ℕ) (i d e : ℕ) → i < length l → getD l i d ≡ getD l i e
+setting-there [] i d e h = absurd (omega arith)
+setting-there (a ∷ l) zero d e h = refl
+setting-there (a ∷ l) (suc i) d e h = setting-there l i d e (omega arith)
+
+module _ (k : ℕ) (bytes : List ℕ) where
+  pub settings-refused : (r : Refusal) → orNine (readNumbers bytes k 0) asListed ≡ refusedBy r → refusedBy r ≡ planOf k bytes
+  unfolding planOf
+  settings-refused r = go (readNumbers bytes k 0)
+    where
+      go : (x : Read (List ℕ)) → orNine x asListed ≡ refusedBy r → refusedBy r ≡ orNine x (λ settings next. planFrom bytes settings next)
+      go (read l next) e = let z : _≡_ {A = ℕ} 0 1 = cc in absurd (omega arith)
+      go (bad o) e = let x : 9 ≡ number r = cc in let y : o ≡ place r = cc in rw (← x, ← y)
+
+  -- they are the first k numbers of the memory that n were read to, for n is k
+  pub settings-read : (out : List ℕ) (n next : ℕ) → n ≤ length out → orNine (readNumbers bytes k 0) asListed ≡ asListed (take n out) next →
+      planFrom bytes (take k out) next ≡ planOf k bytes
+  unfolding planOf
+  settings-read out n next room e =
+      orNine-given (readNumbers bytes k 0) asListed (record { numbers = take n out; next = next }) e (λ l end is same.
+      let z : _≡_ {A = Listed} (record { numbers = l; next = end }) (record { numbers = take n out; next = next }) = cc in
+      let count : length l ≡ k = numbers-next bytes 0 k l end is .0 in
+      let all : n ≡ k = omega (arith, count, ap (λ (x : Listed). length (x .numbers)) z, length-take-le n out room) in
+      rw (is, ← all) (sym (ap (λ (x : Listed). planFrom bytes (x .numbers) (x .next)) z)))
+
+  -- ---- a plan file, judged
+
+  pub plan-refused : (r : Refusal) → planOf k bytes ≡ refusedBy r → refusedBy r ≡ planAnswer k bytes
+  unfolding planAnswer
   plan-refused r e = rw e
 
-  pub plan-judged : (p : Plan) → planFrom bytes 0 ≡ given p → verdictAnswer (record { frame = p .frame; owner = 0 }) (p .windows) (p .tasks) ≡ planAnswer bytes
-  unfolding planAnswer planOf
+  pub plan-judged : (p : Plan) → planOf k bytes ≡ given p → verdictFor (planBoard p) (asOwned 0 (p .windows)) (p .tasks) ≡ planAnswer k bytes
+  unfolding planAnswer
   plan-judged p e = rw e

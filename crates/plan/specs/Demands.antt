@@ -1,4 +1,5 @@
--- The demands, of what `check_plan` answers. The premises are what it promises, and that the file is a plan
+-- The demands, of what `check_plan` and `check_plan_with_shortest` answer: once, over how many settings the file has. The premises are what they promise, and
+-- that the file is a plan
 use Prim.Native.Nat.{ℕ, _≤_, _<_}
 use mathlib.Core.Path.{_≡_, sym, ap, _∙_}
 use mathlib.Core.Logic.{_↔_}
@@ -15,10 +16,11 @@ use Rattle.scope.specs.Verdict as Verdicts
 use Rattle.scope.specs.Jobs.{Job, jobsOf, taskOf, deadline, badJob}
 use Rattle.scope.specs.Run.{countOf}
 use Rattle.scope.specs.Answers.{Answer.given, Fault.fine, _orElse_, jobListFault, jobFault, roomFault, verdictAnswer}
-use Rattle.scope.specs.Shared.{own, asOwned, verdictFor, runFor, runOutFor}
-use Rattle.theory.specs.Answers.{judged}
+use Rattle.scope.specs.Shared.{own, asOwned, verdictFor, runFor, runOutFor, planAnswer}
+use Rattle.theory.specs.Answers.{window-list-legal}
+use Rattle.theory.specs.PlanBytes.{read-writable}
 use Rattle.theory.specs.Alone.{verdict-entry, own-pairs, one-owner}
-use Rattle.scope.specs.Plan.{Plan, planOf, planAnswer}
+use Rattle.scope.specs.Plan.{Plan, planOf}
 use Rattle.scope.specs.Demands.{LeastMiss, Under, Way, Served}
 use Rattle.tables.specs.declared.board.Board.{Board}
 use Rattle.tables.specs.declared.answer.Verdict.{Verdict}
@@ -31,38 +33,37 @@ use Rattle.machine.specs.Demands.{verdict-meets, verdict-miss, meets-runs, meet
 
 -- the board of a plan, and its windows as the entries take them: its pairs are owner 0's
 abbrev pub askedBoard : Plan → Board
-askedBoard p = record { frame = p .frame; owner = 0 }
+askedBoard p = record { frame = p .frame; owner = 0; shortest = getD (p .settings) 0 1 }
 
 abbrev pub askedWindows : Plan → List ℕ
 askedWindows p = asOwned 0 (p .windows)
 
-module _ (bytes : List ℕ) (p : Plan) (read : planOf bytes ≡ given p) (v : Verdict) (promised : toldVerdict v ≡ planAnswer bytes) where
-  -- a plan that was read is answered as its numbers are
-  pub plan-verdict : toldVerdict v ≡ verdictAnswer (boardOf (askedBoard p)) (p .windows) (p .tasks)
-  unfolding planAnswer
-  plan-verdict = promised ∙ rw read
-
-  -- which is as `verdict` answers owner 0 on them
+module _ (k : ℕ) (bytes : List ℕ) (p : Plan) (read : planOf k bytes ≡ given p) (v : Verdict) (promised : toldVerdict v ≡ planAnswer k bytes) where
+  -- a plan that was read is answered as `verdict` answers owner 0 on its windows
   pub plan-asked : toldVerdict v ≡ verdictFor (boardOf (askedBoard p)) (askedWindows p) (p .tasks)
-  unfolding verdictFor
-  plan-asked = plan-verdict ∙ sym (one-owner teams (boardOf (askedBoard p)) (omega arith) (p .windows) (verdict-entry (p .tasks)))
+  unfolding planAnswer
+  plan-asked = promised ∙ rw read
 
-  -- and owner 0's windows are the plan's
-  plan-own : (w : Verdicts.Verdict) → toldVerdict v ≡ given w → own (boardOf (askedBoard p)) (askedWindows p) ≡ p .windows
-  plan-own w e =
-      own-pairs teams (boardOf (askedBoard p)) (omega arith) (p .windows)
-      (judged (boardOf (askedBoard p)) (p .windows) (p .tasks) w (sym plan-verdict ∙ e) .table .even)
+  -- which are the plan's
+  plan-own : own (boardOf (askedBoard p)) (askedWindows p) ≡ p .windows
+  plan-own =
+      own-pairs teams (boardOf (askedBoard p)) (omega arith) (p .windows) (omega (arith, window-list-legal (p .windows) (read-writable k bytes p read .windowList)))
+
+  -- with a shortest window of 1 they are answered as document 01 has it
+  pub plan-verdict : getD (p .settings) 0 1 ≡ 1 → toldVerdict v ≡ verdictAnswer (boardOf (askedBoard p)) (p .windows) (p .tasks)
+  unfolding verdictFor
+  plan-verdict one = plan-asked ∙ one-owner teams (boardOf (askedBoard p)) (omega arith) (p .windows) one (verdict-entry (p .tasks))
 
   -- (a)
   pub plan-meets : (w : Verdicts.Verdict) → toldVerdict v ≡ given w → (h : ℕ) →
       (v ≡ Meets h) ↔ ((h ≡ cycle (p .frame) (tasksOf (p .tasks)))
       × ((t : ℕ) → demand (tasksOf (p .tasks)) t ≤ leastSupply (suppliedBy (boardOf (askedBoard p)) (p .windows)) (p .frame) t))
-  plan-meets w e = rw (plan-own w e) at (verdict-meets (askedBoard p) (askedWindows p) (p .tasks) v plan-asked w e)
+  plan-meets w e = rw plan-own at (verdict-meets (askedBoard p) (askedWindows p) (p .tasks) v plan-asked w e)
 
   -- (b)
   pub plan-miss : (w : Verdicts.Verdict) → toldVerdict v ≡ given w → (t s d u : ℕ) →
       (v ≡ Miss t s d u) ↔ LeastMiss (suppliedBy (boardOf (askedBoard p)) (p .windows)) (p .frame) (tasksOf (p .tasks)) t s d u
-  plan-miss w e = rw (plan-own w e) at (verdict-miss (askedBoard p) (askedWindows p) (p .tasks) v plan-asked w e)
+  plan-miss w e = rw plan-own at (verdict-miss (askedBoard p) (askedWindows p) (p .tasks) v plan-asked w e)
 
   -- (c)
   pub plan-runs : (h : ℕ) → v ≡ Meets h →
@@ -81,10 +82,10 @@ module _ (bytes : List ℕ) (p : Plan) (read : planOf bytes ≡ given p) (v : Ve
       (j : ℕ) → j < length js → deadline (tasksOf (p .tasks)) js j ≤ n →
       (getD (left (deadline (tasksOf (p .tasks)) js j)) j 0 ≡ 0)
       × (1 ≤ countOf left js n j) × (countOf left js n j ≤ (taskAt (tasksOf (p .tasks)) (taskOf js j)) .D)
-  plan-every h m = rw (plan-own (Verdicts.meets h) (ap toldVerdict m)) at (meets-every (askedBoard p) (askedWindows p) (p .tasks) v plan-asked h m)
+  plan-every h m = rw plan-own at (meets-every (askedBoard p) (askedWindows p) (p .tasks) v plan-asked h m)
 
   -- (d)
   pub plan-starves : (t s d u : ℕ) → v ≡ Miss t s d u →
       (w : Way) → Served (suppliedBy (boardOf (askedBoard p)) (p .windows)) (tasksOf (p .tasks)) w s t → ⊥
   plan-starves t s d u m =
-      rw (plan-own (Verdicts.miss t s d u) (ap toldVerdict m)) at (miss-starves (askedBoard p) (askedWindows p) (p .tasks) v plan-asked t s d u m)
+      rw plan-own at (miss-starves (askedBoard p) (askedWindows p) (p .tasks) v plan-asked t s d u m)

@@ -24,12 +24,12 @@ abbrev pub held : listed.Listed → ℕ
 held (listed.the-variants.Is count next) = count
 held (listed.the-variants.Refused r) = 0
 
--- ---- a plan whose windows and tasks are in lent buffers
+-- ---- a plan with these settings, whose windows and tasks are in lent buffers
 
-abbrev pub toldPlan : readPlan.ReadPlan → (windows tasks : List ℕ) → Answer Plan
-toldPlan (readPlan.the-variants.Is frame w t) windows tasks =
-    given (record { frame = frame; windows = take w windows; tasks = take t tasks })
-toldPlan (readPlan.the-variants.Refused r) windows tasks = no r
+abbrev pub toldPlan : readPlan.ReadPlan → (settings windows tasks : List ℕ) → Answer Plan
+toldPlan (readPlan.the-variants.Is frame w t) settings windows tasks =
+    given (record { settings = settings; frame = frame; windows = take w windows; tasks = take t tasks })
+toldPlan (readPlan.the-variants.Refused r) settings windows tasks = no r
 
 abbrev pub heldWindows : readPlan.ReadPlan → ℕ
 heldWindows (readPlan.the-variants.Is frame w t) = w

@@ -1,13 +1,15 @@
-// A plan file's numbers, or where they are bad. Nothing is judged here but the two counts. Document 01, "The plan file and its line".
+// A plan file's numbers, or where they are bad. Nothing is judged here but the two counts. Document 01, "The plan file and its line"; how many settings stand
+// before P is a parameter.
 use crate::number::Number;
 use crate::number::read_number;
 use tables::answer::Refusal;
 use tables::task::Task;
 use tables::window::Window;
 ghost use mathlib.Core.Path.{_≡_};
-ghost use Prim.Native.Nat.{_*_, _≤_};
-ghost use lib.ListN.{length};
-ghost use Rattle.scope.specs.Plan.{orNine, asListed, readNumbers, countFault, countedFrom, listsFrom, planFrom};
+ghost use mathlib.Core.List.{List};
+ghost use Prim.Native.Nat.{ℕ, _*_, _≤_};
+ghost use lib.ListN.{length, take};
+ghost use Rattle.scope.specs.Plan.{orNine, asListed, readNumbers, countFault, countedFrom, listsFrom, planFrom, planOf};
 ghost use Rattle.tables.specs.declared.answer.Refusal.the-variants.{Bytes};
 ghost use Rattle.tables.specs.Told.{number, place};
 ghost use Rattle.plan.specs.Told.{toldListed, held, toldPlan, heldWindows, heldTasks, Room};
@@ -85,7 +87,7 @@ fn read_counted(
     }
 }
 
-// Windows and tasks, to the end of the file, after P.
+// Windows and tasks, to the end of the file, after P; whatever the settings are.
 fn read_lists(
     bytes: &[u8],
     frame: u32,
@@ -94,7 +96,8 @@ fn read_lists(
     tasks: &mut [u32],
 ) -> ReadPlan
     requires { ⌜ Room (now windows) (now tasks) ⌝ }
-    ensures answer { λ r. ⌜ toldPlan r (now (windows .exit)) (now (tasks .exit)) ≡ listsFrom (now (bytes .entry)) frame at ⌝ }
+    ensures answer { λ r. ⌜ ((settings : List ℕ) →
+        toldPlan r settings (now (windows .exit)) (now (tasks .exit)) ≡ listsFrom (now (bytes .entry)) settings frame at) ⌝ }
     ensures room { λ r. ⌜ (heldWindows r ≤ length (now (windows .entry))) × (heldTasks r ≤ length (now (tasks .entry))) ⌝ }
 {
     match read_counted(bytes, at, 2, 1, Window::MOST, Refusal::WindowList, windows) {
@@ -120,14 +123,33 @@ fn read_lists(
     }
 }
 
-// The numbers of a plan from an offset on, to the end of the file. What a form of the file has before P is read first.
-pub(crate) fn read_plan(bytes: &[u8], at: usize, windows: &mut [u32], tasks: &mut [u32]) -> ReadPlan
+// P, windows and tasks from an offset on, to the end of the file; whatever the settings are.
+fn read_from(bytes: &[u8], at: usize, windows: &mut [u32], tasks: &mut [u32]) -> ReadPlan
     requires { ⌜ Room (now windows) (now tasks) ⌝ }
-    ensures answer { λ r. ⌜ toldPlan r (now (windows .exit)) (now (tasks .exit)) ≡ planFrom (now (bytes .entry)) at ⌝ }
+    ensures answer { λ r. ⌜ ((settings : List ℕ) →
+        toldPlan r settings (now (windows .exit)) (now (tasks .exit)) ≡ planFrom (now (bytes .entry)) settings at) ⌝ }
     ensures room { λ r. ⌜ (heldWindows r ≤ length (now (windows .entry))) × (heldTasks r ≤ length (now (tasks .entry))) ⌝ }
 {
     match read_number(bytes, at) {
         Number::Bad(offset) => ReadPlan::Refused(nine(offset)),
         Number::Is { value, next } => read_lists(bytes, value, next, windows, tasks),
+    }
+}
+
+// The numbers of a plan file with k settings, which go to the front of their buffer.
+pub(crate) fn read_plan(
+    bytes: &[u8],
+    k: usize,
+    settings: &mut [u32],
+    windows: &mut [u32],
+    tasks: &mut [u32],
+) -> ReadPlan
+    requires { ⌜ (k ≤ length (now settings)) × Room (now windows) (now tasks) ⌝ }
+    ensures answer { λ r. ⌜ toldPlan r (take k (now (settings .exit))) (now (windows .exit)) (now (tasks .exit)) ≡ planOf k (now (bytes .entry)) ⌝ }
+    ensures room { λ r. ⌜ (heldWindows r ≤ length (now (windows .entry))) × (heldTasks r ≤ length (now (tasks .entry))) ⌝ }
+{
+    match read_numbers(bytes, 0, k, settings) {
+        Listed::Refused(refusal) => ReadPlan::Refused(refusal),
+        Listed::Is { count: _, next } => read_from(bytes, next, windows, tasks),
     }
 }

@@ -6,7 +6,7 @@ use lib.ListN.{length, take}
 use borrow.Author.Tests.{le-ltb}
 use Rattle.scope.specs.Numbers.{written}
 use Rattle.scope.specs.Answers.{roomFault}
-use Rattle.scope.specs.Plan.{planAnswer}
+use Rattle.scope.specs.Shared.{planAnswer}
 use Rattle.scope.specs.Line.{bytes, line, lineAnswer, lineOut}
 use Rattle.scope.specs.Examples.{Reply.text, reply, table, examples, row}
 use Rattle.theory.specs.Applied.{w6-file}
@@ -20,11 +20,11 @@ abbrev printed : List ℕ
 printed = bytes "MISS length 6 start 2 demand 3 supply 2\n"
 
 -- a row of the table
-w6-line : line (planAnswer w6-file) ≡ printed
+w6-line : line (planAnswer 0 w6-file) ≡ printed
 unfolding reply table
-w6-line = let e : text (line (planAnswer w6-file)) ≡ text printed = row table examples "W6, its line" in cc
+w6-line = let e : text (line (planAnswer 0 w6-file)) ≡ text printed = row table examples "W6, its line" in cc
 
-pub w6-printed : (v : Verdict) → toldVerdict v ≡ planAnswer w6-file → (out left : List ℕ) (r : Amount) → 40 ≤ length out →
+pub w6-printed : (v : Verdict) → toldVerdict v ≡ planAnswer 0 w6-file → (out left : List ℕ) (r : Amount) → 40 ≤ length out →
     toldAmount r ≡ lineAnswer (toldVerdict v) (length out) → left ≡ lineOut (toldVerdict v) out →
     (r ≡ Of 40) × (take 40 left ≡ printed)
 unfolding lineAnswer lineOut roomFault written

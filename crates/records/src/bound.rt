@@ -20,7 +20,7 @@ fn bound_of(board: Board, windows: &[u32], flat: Flat, index: u32) -> Bound
     checker::bound::bound(board, windows, &numbers[..n], index)
 }
 
-// The response bound of task `index` under fixed priority, lower index first. Refusals 1 2 3, 1 of an absent owner, 4 (only of too many records) 5 7.
+// The response bound of task `index` under fixed priority, lower index first. Refusals: a table's, then 4 (only of too many records) 5 7.
 pub fn bound(board: Board, windows: &[u32], tasks: &[Task], index: u32) -> Bound
     ensures { λ r. ⌜ toldBound r ≡ boundFor (boardOf board) (now (windows .entry)) (numbersOf (now (tasks .entry))) index ⌝ }
 {

@@ -89,7 +89,7 @@ fn margin_of(board: Board, windows: &[u32], flat: Flat, length: u32) -> Margin
     checker::demand::margin(board, windows, &numbers[..n], length)
 }
 
-// Least supply minus demand at a length. Refusals 1 2 3, 1 of an absent owner, 4 (only of too many records) 5 7.
+// Least supply minus demand at a length. Refusals: a table's, then 4 (only of too many records) 5 7.
 pub fn margin(board: Board, windows: &[u32], tasks: &[Task], length: u32) -> Margin
     ensures { λ r. ⌜ toldMargin r ≡ marginFor (boardOf board) (now (windows .entry)) (numbersOf (now (tasks .entry))) length ⌝ }
 {

@@ -32,7 +32,7 @@ fn run_of(
 }
 
 // Runs a job list of a group on a table for n ticks: the answer, and one count for each job in the lent buffer.
-// Refusals 1 2 3, 1 of an absent owner, 4 (only of too many records) 5 10 11 8.
+// Refusals: a table's, then 4 (only of too many records) 5 10 11 8.
 pub fn run(
     board: Board,
     windows: &[u32],

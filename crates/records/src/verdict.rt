@@ -20,7 +20,7 @@ fn verdict_of(board: Board, windows: &[u32], flat: Flat) -> Verdict
     checker::verdict::verdict(board, windows, &numbers[..n])
 }
 
-// Whether the group meets its deadlines under earliest deadline first, or the miss. Refusals 1 2 3, 1 of an absent owner, 4 (only of too many records) 5 6.
+// Whether the group meets its deadlines under earliest deadline first, or the miss. Refusals: a table's, then 4 (only of too many records) 5 6.
 pub fn verdict(board: Board, windows: &[u32], tasks: &[Task]) -> Verdict
     ensures { λ r. ⌜ toldVerdict r ≡ verdictFor (boardOf board) (now (windows .entry)) (numbersOf (now (tasks .entry))) ⌝ }
 {

@@ -175,7 +175,7 @@ fn replay_fitting(
     replay_jobs(board, windows, tasks, trace, ticks, &jobs[..m])
 }
 
-// Replays a trace, any bytes at all, on the asked owner's windows and a group of tasks. Refusals 9, 1 2 3, 1 of an absent owner, 4 5 10 11; 11 names the
+// Replays a trace, any bytes at all, on the asked owner's windows and a group of tasks. Refusals: 9, a table's, then 4 5 10 11; 11 names the
 // record.
 pub fn replay(board: Board, windows: &[u32], tasks: &[u32], trace: &[u8]) -> Replayed
     ensures { λ r. ⌜ toldReplayed r ≡ replayFor (boardOf board) (now (windows .entry)) (now (tasks .entry)) (now (trace .entry)) ⌝ }

@@ -196,7 +196,7 @@ fn check_slivers(board: Board, windows: &[u32]) -> Checked
     range.or_else(each)
 }
 
-// Refusals 1, 2 and 3 of the whole list, 1 of an absent owner, then 12.
+// The refusals of a table, in this order: 1, 2 and 3 of the whole list, 1 of an absent owner, 12.
 pub(crate) fn check_shared(owners: u32, board: Board, windows: &[u32]) -> Checked
     ensures { λ r. ⌜ faultOf r ≡ sharedFault owners (boardOf board) (now (windows .entry)) ⌝ }
 {
@@ -226,7 +226,7 @@ fn gather(board: Board, windows: &[u32], out: &mut [u32])
     }
 }
 
-// The windows of the asked owner, in pairs, at the front of out: how many numbers they have. Refusals 1 2 3, 1 of an absent owner, 12, 8.
+// The windows of the asked owner, in pairs, at the front of out: how many numbers they have. Refusals: a table's, then 8.
 pub fn own_windows(owners: u32, board: Board, windows: &[u32], out: &mut [u32]) -> Amount
     ensures answer { λ r. ⌜ toldAmount r ≡ ownAnswer owners (boardOf board) (now (windows .entry)) (length (now (out .entry))) ⌝ }
     ensures buffer { λ _. ⌜ now (out .exit) ≡ ownOut owners (boardOf board) (now (windows .entry)) (now (out .entry)) ⌝ }

@@ -14,7 +14,7 @@ use Rattle.supply.specs.Outage.{no-supply, some-supply, no-greater, star
 
 -- who asks: owner 0 of X's table, owner 1 of the lab's
 abbrev board : ℕ → Board
-board o = record { frame = 8; owner = o }
+board o = record { frame = 8; owner = o; shortest = 1 }
 
 x-outage : outageFor (boardOf (board 0)) XShared ≡ given 3
 unfolding reply table

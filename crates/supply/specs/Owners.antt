@@ -6,11 +6,11 @@ use Prim.Native.Nat.{ℕ}
 use Rattle.scope.specs.Limits.{teams}
 use Rattle.scope.specs.Windows.{suppliedBy}
 use Rattle.scope.specs.Answers.{Fault.fine, Answer.given, tableFault, suppliedAnswer}
-use Rattle.scope.specs.Shared.{own, wholeFault, absentOwnerFault, sharedFault, suppliedFor}
+use Rattle.scope.specs.Shared.{own, wholeFault, sharedFault, suppliedFor}
 use Rattle.scope.specs.Examples.{XShared}
 use Rattle.scope.specs.Computing.{everything}
-use Rattle.theory.specs.Answers.{orElse-fine, unless-given}
-use Rattle.theory.specs.Shared.{asked-given, one-owner-a-tick}
+use Rattle.theory.specs.Answers.{unless-given}
+use Rattle.theory.specs.Shared.{shared-parts, asked-given, one-owner-a-tick}
 use Rattle.tables.specs.declared.board.Board.{Board}
 use Rattle.tables.specs.declared.answer.Supplied.{Supplied}
 use Rattle.tables.specs.declared.answer.Supplied.the-variants.{Is}
@@ -23,8 +23,7 @@ module _ (b : Board) (ws : List ℕ) (k : ℕ) (x : Supplied) (told : toldSuppli
   answers = asked-given teams (boardOf b) ws (λ l. suppliedAnswer (boardOf b) l k) true (sym told ∙ ap toldSupplied is)
 
   whole : wholeFault teams (boardOf b) ws ≡ fine
-  unfolding sharedFault
-  whole = orElse-fine (wholeFault teams (boardOf b) ws) (absentOwnerFault (boardOf b) ws) (answers .0) .0
+  whole = shared-parts teams (boardOf b) ws (answers .0) .0
 
   on : suppliedBy (boardOf b) (own (boardOf b) ws) k ≡ true
   unfolding suppliedAnswer
@@ -36,7 +35,7 @@ one-owner-answered b c ws k x y framed told is told′ is′ =
     one-owner-a-tick teams (boardOf b) (boardOf c) ws (whole b ws k x told is) framed k (on b ws k x told is) (on c ws k y told′ is′)
 
 -- tick 2 of X's table is owner 1's
-tick-two : (x : Supplied) → toldSupplied x ≡ suppliedFor (boardOf (record { frame = 8; owner = 0 })) XShared 2 → x ≡ Is true → _≡_ {A = ℕ} 0 1
+tick-two : (x : Supplied) → toldSupplied x ≡ suppliedFor (boardOf (record { frame = 8; owner = 0; shortest = 1 })) XShared 2 → x ≡ Is true → _≡_ {A = ℕ} 0 1
 unfolding everything
 tick-two x told is =
-    one-owner-answered (record { frame = 8; owner = 0 }) (record { frame = 8; owner = 1 }) XShared 2 x (Is true) refl told is refl refl
+    one-owner-answered (record { frame = 8; owner = 0; shortest = 1 }) (record { frame = 8; owner = 1; shortest = 1 }) XShared 2 x (Is true) refl told is refl refl

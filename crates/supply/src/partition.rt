@@ -120,7 +120,7 @@ fn critical_on(board: Board, windows: &[u32], out: &mut [u32]) -> Amount
     }
 }
 
-// The critical partition of the asked owner's windows. Refusals 1 2 3, 1 of an absent owner, 8.
+// The critical partition of the asked owner's windows. Refusals: a table's, then 8.
 pub fn critical(board: Board, windows: &[u32], out: &mut [u32]) -> Amount
     ensures answer { λ r. ⌜ toldAmount r ≡ criticalFor (boardOf board) (now (windows .entry)) (length (now (out .entry))) ⌝ }
     ensures buffer { λ r. ⌜ now (out .exit) ≡ criticalOutFor (boardOf board) (now (windows .entry)) (now (out .entry)) ⌝ }
@@ -171,7 +171,7 @@ fn delay_on(board: Board, windows: &[u32]) -> Delay
     Delay::Of { delay, per_frame }
 }
 
-// The delay, with A beside it. Refusals 1 2 3, 1 of an absent owner.
+// The delay, with A beside it. Refusals: a table's.
 pub fn delay(board: Board, windows: &[u32]) -> Delay
     ensures { λ r. ⌜ toldDelay r ≡ delayFor (boardOf board) (now (windows .entry)) ⌝ }
 {
@@ -217,7 +217,7 @@ fn outage_of(board: Board, windows: &[u32]) -> u32
     larger(most, gap)
 }
 
-// The longest outage over endless frames. Refusals 1 2 3, 1 of an absent owner.
+// The longest outage over endless frames. Refusals: a table's.
 pub fn outage(board: Board, windows: &[u32]) -> Amount
     ensures { λ r. ⌜ toldAmount r ≡ outageFor (boardOf board) (now (windows .entry)) ⌝ }
 {

@@ -111,7 +111,7 @@ pub fn least_in(board: Board, windows: &[u32], length: u32) -> Amount
     }
 }
 
-// Whether a tick is supplied to the asked owner. Refusals 1 2 3, 1 of an absent owner.
+// Whether a tick is supplied to the asked owner. Refusals: a table's.
 pub fn supplied(board: Board, windows: &[u32], tick: u32) -> Supplied
     ensures { λ r. ⌜ toldSupplied r ≡ suppliedFor (boardOf board) (now (windows .entry)) tick ⌝ }
 {
@@ -122,7 +122,7 @@ pub fn supplied(board: Board, windows: &[u32], tick: u32) -> Supplied
     }
 }
 
-// The least supply of a length. Refusals 1 2 3, 1 of an absent owner, 7.
+// The least supply of a length. Refusals: a table's, then 7.
 pub fn least_supply(board: Board, windows: &[u32], length: u32) -> Amount
     ensures { λ r. ⌜ toldAmount r ≡ leastSupplyFor (boardOf board) (now (windows .entry)) length ⌝ }
 {

@@ -4,8 +4,8 @@ use Prim.Native.Nat.{ℕ}
 use native.Mathlib.Omega.{arith}
 use lib.Seq.{length-take-le}
 use Rattle.scope.specs.Shared.{verdictFor}
-use Rattle.tables.specs.Told.{toldAmount}
-use Rattle.plan.proofs.OwnedLaws.{not-refused, Held, held, verdict-pairs}
+use Rattle.tables.specs.Told.{boardOf, toldAmount}
+use Rattle.plan.proofs.OwnedLaws.{not-refused, Held, held}
 use borrow.Author.Needs.{needs}
 use Rattle.plan.proofs.check.verdict_of.Statement.{statement}
 use Rattle.plan.proofs.check.verdict_of.Tie as tie
@@ -53,8 +53,7 @@ returns c =
 returns-2 : tie.Need-returns-2
 returns-2 c =
     let a = c .before .before .before .before .before .before .before .before .before .before .args in
-    c .verdict .ensures ∙ ap (λ (l : List ℕ). verdictFor (record { frame = a .frame; owner = 0 }) l (a .tasks .now)) (held-at (c .before .before) .front)
-    ∙ verdict-pairs (a .frame) (a .windows .now) (a .tasks .now)
+    c .verdict .ensures ∙ ap (λ (l : List ℕ). verdictFor (boardOf (a .board)) l (a .tasks .now)) (held-at (c .before .before) .front)
 
 pub verdict-of-spec : {M : Type 1} → statement M
 verdict-of-spec =

@@ -43,7 +43,7 @@ returns c =
     let e = d .before .before .before in
     let w = told-at toldListed _ (e .before .before .before .before .read-counted .ensures .0) (e .w .given .1) in
     let t = told-at toldListed _ (d .read-counted2 .ensures .0) (c .before .before .before .t .given .1) in
-    (ap no (c .nine .ensures) ∙ bytes-left _ _ _ _ _ w _ _ t (c .before .if1 .taken), (search needs, search needs))
+    (λ s. ap no (c .nine .ensures) ∙ bytes-left _ s _ _ _ _ w _ _ t (c .before .if1 .taken), (search needs, search needs))
 
 same-length-3 : tie.Need-same-length-3
 same-length-3 c = search needs
@@ -51,7 +51,7 @@ same-length-3 c = search needs
 returns-2 : tie.Need-returns-2
 returns-2 c =
     let w = told-at toldListed _ (c .before .before .before .before .before .read-counted .ensures .0) (c .before .refusal .given .1) in
-    (windows-refused _ _ _ (c .before .refusal .given .0 .0) w, (search needs, search needs))
+    (λ s. windows-refused _ s _ _ (c .before .refusal .given .0 .0) w, (search needs, search needs))
 
 same-length-4 : tie.Need-same-length-4
 same-length-4 c = search needs
@@ -65,7 +65,7 @@ returns-3 c =
     let e = d .before .before .before in
     let w = told-at toldListed _ (e .before .before .before .before .read-counted .ensures .0) (e .w .given .1) in
     let t = told-at toldListed _ (d .read-counted2 .ensures .0) (c .before .refusal2 .given .1) in
-    (tasks-refused _ _ _ _ _ w (c .before .refusal2 .given .0 .0) t, (search needs, search needs))
+    (λ s. tasks-refused _ s _ _ _ _ w (c .before .refusal2 .given .0 .0) t, (search needs, search needs))
 
 same-length-6 : tie.Need-same-length-6
 same-length-6 c = search needs
@@ -80,7 +80,7 @@ returns-4 c =
     let f = e .before .before .before .before in
     let w = told-at toldListed _ (f .read-counted .ensures .0) (e .w .given .1) in
     let t = told-at toldListed _ (d .read-counted2 .ensures .0) (c .before .before .t .given .1) in (
-      all-read _ _ _ _ _ w _ _ t (c .if1 .left),
+      λ s. all-read _ s _ _ _ _ w _ _ t (c .if1 .left),
       (rw (e .w .given .1) at (f .read-counted .ensures .1), rw (c .before .before .t .given .1) at (d .read-counted2 .ensures .1)),
     )
 

@@ -1,58 +1,64 @@
-use mathlib.Core.Path.{sym, ap, _∙_}
-use Rattle.plan.specs.Told.{toldNumber}
-use Rattle.plan.proofs.ReadLaws.{frame-bad, frame-read}
+use mathlib.Core.Path.{sym, _∙_}
+use Rattle.plan.specs.Told.{toldListed}
+use Rattle.plan.proofs.ReadLaws.{told-at, settings-refused, settings-read}
 use borrow.Author.Needs.{needs}
 use Rattle.plan.proofs.read.read_plan.Statement.{statement}
 use Rattle.plan.proofs.read.read_plan.Tie as tie
 use Rattle.plan.proofs.read.read_plan.Reads as reads
 use Rattle.plan.proofs.read.read_plan.Lts as lts
-use Rattle.plan.proofs.number.read_number.Reads as read-number-reads
-use Rattle.plan.proofs.read.nine.Reads as nine-reads
-use Rattle.plan.proofs.read.read_lists.Reads as read-lists-reads
+use Rattle.plan.proofs.read.read_from.Reads as read-from-reads
+use Rattle.plan.proofs.read.read_numbers.Reads as read-numbers-reads
 
-read-number-requires : tie.Need-read-number-requires
-read-number-requires c κs = search needs
+read-numbers-requires : tie.Need-read-numbers-requires
+read-numbers-requires c κs = search needs
 
-enum-known-offset : tie.Need-enum-known-offset
-enum-known-offset c = search needs
+enum-known-refusal : tie.Need-enum-known-refusal
+enum-known-refusal c = search needs
 
-nine-requires : tie.Need-nine-requires
-nine-requires c κs = search needs
+enum-known-next : tie.Need-enum-known-next
+enum-known-next c = search needs
 
-enum-known-value : tie.Need-enum-known-value
-enum-known-value c = search needs
-
-read-lists-requires : tie.Need-read-lists-requires
-read-lists-requires c κs = search needs
-
-returns : tie.Need-returns
-returns c =
-    let e = sym (c .before .before .before .before .read-number .ensures) ∙ ap toldNumber (c .before .before .offset .given .1) in
-    (frame-bad _ _ _ _ (c .nine .ensures) e, (search needs, search needs))
+read-from-requires : tie.Need-read-from-requires
+read-from-requires c κs = search needs
 
 same-length : tie.Need-same-length
 same-length c = search needs
 
+returns : tie.Need-returns
+returns c =
+    let e = told-at toldListed _ (c .before .before .before .before .before .read-numbers .ensures .0) (c .before .refusal .given .1) in
+    (settings-refused _ _ (c .before .refusal .given .0 .0) e, (search needs, search needs))
+
 same-length-2 : tie.Need-same-length-2
 same-length-2 c = search needs
+
+same-length-3 : tie.Need-same-length-3
+same-length-3 c = search needs
+
+same-length-4 : tie.Need-same-length-4
+same-length-4 c = search needs
 
 returns-2 : tie.Need-returns-2
 returns-2 c =
     let d = c .before .before .before .before .before .before .before .before in
-    let e = sym (d .before .before .read-number .ensures) ∙ ap toldNumber (d .value .given .1) in
-    let r = c .before .before .before .before .read-lists .ensures in
-    (r .0 ∙ frame-read _ _ _ _ e, r .1)
+    let n = d .before .before .before .before .read-numbers in
+    let r = c .before .before .before .before .read-from .ensures in
+    let e = told-at toldListed _ (n .ensures .0) (d .next .given .1) in
+    let room = rw (d .next .given .1) at (n .ensures .1) in
+    let fits = rw (sym (n .kept .1 .1 .1 .0)) at room in
+    (r .0 _ ∙ settings-read _ _ _ _ _ fits e, r .1)
 
 pub read-plan-spec : {M : Type 1} → statement M
 read-plan-spec =
     tie.close
     (tie.spec
-    read-number-requires
-    enum-known-offset
-    nine-requires
-    enum-known-value
-    read-lists-requires
-    returns
+    read-numbers-requires
+    enum-known-refusal
+    enum-known-next
+    read-from-requires
     same-length
+    returns
     same-length-2
+    same-length-3
+    same-length-4
     returns-2)

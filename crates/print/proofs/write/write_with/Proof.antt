@@ -9,10 +9,10 @@ use native.Mathlib.Omega.{arith}
 use borrow.Author.Needs.{needs}
 use Rattle.print.proofs.PutLaws.{put-length, front}
 use Rattle.print.proofs.WriteLaws.{listsFault, lists-bad, lists-fine, lists-short}
-use Rattle.print.proofs.write.write_plan.Statement.{statement}
-use Rattle.print.proofs.write.write_plan.Tie as tie
-use Rattle.print.proofs.write.write_plan.Reads as reads
-use Rattle.print.proofs.write.write_plan.Lts as lts
+use Rattle.print.proofs.write.write_with.Statement.{statement}
+use Rattle.print.proofs.write.write_with.Tie as tie
+use Rattle.print.proofs.write.write_with.Reads as reads
+use Rattle.print.proofs.write.write_with.Lts as lts
 use Rattle.tables.proofs.answer.Checked.or_else.Reads as or-else-reads
 use Rattle.tables.proofs.task.check_task_list.Reads as check-task-list-reads
 use Rattle.tables.proofs.window.check_window_list.Reads as check-window-list-reads
@@ -20,7 +20,7 @@ use Rattle.print.proofs.text.deliver.Reads as deliver-reads
 use Rattle.print.proofs.write.put_plan.Reads as put-plan-reads
 
 abbrev planAt : tie.After-or-else → Plan
-planAt c = let a = c .before .before .before .before .before .before .args in record { frame = a .frame; windows = a .windows .now; tasks = a .tasks .now }
+planAt c = let a = c .before .before .before .before .before .before .before .args in record { settings = a .settings .now; frame = a .frame; windows = a .windows .now; tasks = a .tasks .now }
 
 -- what the checks of the two lists find
 checked : (c : tie.After-or-else) → faultOf (c .or-else .result) ≡ listsFault (planAt c)
@@ -49,7 +49,7 @@ slice-aggregate-put-plan : tie.Need-slice-aggregate-put-plan
 slice-aggregate-put-plan c = search needs
 
 put-plan-requires : tie.Need-put-plan-requires
-put-plan-requires c κs = let h = lists-short (planAt (c .before .before .before)) (fine-at (c .before)) in (h .0, h .1, omega arith)
+put-plan-requires c κs = let h = lists-short (planAt (c .before .before .before)) (fine-at (c .before)) in ((c .before .before .before .before .before .before .before .before .before .before .pre, h .0, h .1), omega arith)
 
 array-share-prefix-text : tie.Need-array-share-prefix-text
 array-share-prefix-text c = search needs
@@ -64,7 +64,7 @@ returns : tie.Need-returns
 unfolding writeAnswer writeOut
 returns c =
     let d = c .before .before .before in
-    let room = length (d .before .before .before .before .before .before .args .out .now) in
+    let room = length (d .before .before .before .before .before .before .before .args .out .now) in
     let e = lists-bad (planAt d) room (sym (checked d) ∙ ap faultOf (c .before .r .given .1)) in
     (refused-by _ _ e, kept-by _ _ _ e)
 
@@ -76,11 +76,11 @@ unfolding writeAnswer writeOut
 returns-2 c =
     let d = c .before .before .before .before .before .before .before .before in
     let p = c .before .before .before .before .before .before .put-plan .ensures in
-    let room = length (d .before .before .before .before .before .before .before .before .args .out .now) in
+    let room = length (d .before .before .before .before .before .before .before .before .before .args .out .now) in
     rw (lists-fine (planAt (d .before .before)) room (fine-at d), sym (front (omega (arith, p .1)) (p .0))) (c .before .before .deliver .ensures)
 
-pub write-plan-spec : {M : Type 1} → statement M
-write-plan-spec =
+pub write-with-spec : {M : Type 1} → statement M
+write-with-spec =
     tie.close
     (tie.spec
     check-window-list-requires
