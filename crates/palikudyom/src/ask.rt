@@ -1,5 +1,6 @@
 // Answers a stream of queries on standard input, a line each: docs/ASK.md.
 use crate::asked::Asked;
+use crate::asked::settings;
 use crate::entries;
 use crate::input;
 use crate::lines;
@@ -45,15 +46,10 @@ fn over_table(stream: &[u8], from: Cursor, asked: Asked) -> Cursor {
     }
 }
 
-// After code 16: how many settings, which is one, the owner; then a query over a table.
+// After code 16: the settings, then a query over a table.
 fn on_board(stream: &[u8], from: Cursor) -> Cursor {
-    let settings = any(stream, from);
-    let after = settings.after;
-    if after.good && settings.value != 1 {
-        return bad(from.at);
-    }
-    let owner = any(stream, after);
-    over_table(stream, owner.after, Asked::shared(owner.value))
+    let settings = settings(stream, from);
+    over_table(stream, settings.after, settings.asked)
 }
 
 // One query: without a table, under code 16, or over a table by itself, where an unknown code ends too, and one that can't be read, which is 0 here.
@@ -64,9 +60,10 @@ fn query(stream: &[u8], from: Cursor) -> Cursor {
     let asked = Asked::alone(entry);
     match entry {
         5 => entries::demand(stream, after, asked, false),
-        10 => entries::plan(stream, after),
+        10 => entries::plan(stream, after, false),
         11 => entries::demand(stream, after, asked, true),
         16 => on_board(stream, after),
+        18 => entries::plan(stream, after, true),
         _ => over_table(stream, from, asked),
     }
 }

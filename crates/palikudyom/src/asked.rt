@@ -1,4 +1,7 @@
 // How a query is asked: by itself, or under code 16.
+use crate::stream::Cursor;
+use crate::stream::any;
+use crate::stream::bad;
 ghost use Prim.Native.Nat.{_≤_};
 
 // Windows and tasks of the codes 1 to 15 by themselves have at most so many numbers.
@@ -10,6 +13,8 @@ pub(crate) const LATER_NUMBERS: u32 = 400;
 pub(crate) struct Asked {
     // the team that is asked for
     pub owner: u32,
+    // the shortest allowed window
+    pub shortest: u32,
     // whether the windows are in threes; else they are pairs, all of that owner
     pub threes: bool,
     // whether the lists may be longer
@@ -17,19 +22,21 @@ pub(crate) struct Asked {
 }
 
 impl Asked {
-    // A code by itself has pairs, all read as owner 0's.
+    // A code by itself has pairs, all read as owner 0's, and allows every window.
     pub(crate) fn alone(code: u32) -> Asked {
         Asked {
             owner: 0,
+            shortest: 1,
             threes: false,
             later: 15 < code,
         }
     }
 
     // Under code 16 windows have owners.
-    pub(crate) fn shared(owner: u32) -> Asked {
+    pub(crate) fn shared(owner: u32, shortest: u32) -> Asked {
         Asked {
             owner,
+            shortest,
             threes: true,
             later: true,
         }
@@ -41,4 +48,28 @@ impl Asked {
     {
         if self.later { LATER_NUMBERS } else { NUMBERS }
     }
+}
+
+// What stands before a query under code 16.
+pub(crate) struct Settings {
+    pub asked: Asked,
+    pub after: Cursor,
+}
+
+// How many settings, then the settings: the owner, and the shortest allowed window where there are two.
+pub(crate) fn settings(stream: &[u8], from: Cursor) -> Settings {
+    let count = any(stream, from);
+    let owner = any(stream, count.after);
+    let mut shortest = 1;
+    let mut after = owner.after;
+    if count.value == 2 {
+        let second = any(stream, after);
+        shortest = second.value;
+        after = second.after;
+    }
+    if count.after.good && count.value != 1 && count.value != 2 {
+        after = bad(from.at);
+    }
+    let asked = Asked::shared(owner.value, shortest);
+    Settings { asked, after }
 }

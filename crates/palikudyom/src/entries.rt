@@ -3,6 +3,7 @@
 use crate::asked::Asked;
 use crate::asked::LATER_NUMBERS;
 use crate::lines;
+use crate::plan_file::judged;
 use crate::stream::BYTES;
 use crate::stream::Cursor;
 use crate::stream::JOBS;
@@ -18,7 +19,6 @@ use checker::bound;
 use checker::demand;
 use checker::verdict;
 use machine::run;
-use plan::check::check_plan;
 use shared::table::as_owned;
 use supply::partition;
 use tables::answer::Amount;
@@ -116,6 +116,7 @@ fn table_of(stream: &[u8], from: Cursor, asked: Asked, out: &mut [u32]) -> Table
     let board = Board {
         frame: frame.value,
         owner: asked.owner,
+        shortest: asked.shortest,
     };
     let count = windows.count;
     let after = windows.after;
@@ -364,13 +365,13 @@ fn run_into(
 
 // ---- a plan
 
-pub(crate) fn plan(stream: &[u8], from: Cursor) -> Cursor {
+pub(crate) fn plan(stream: &[u8], from: Cursor, with_shortest: bool) -> Cursor {
     let mut plan = plan_bytes();
     let b = bytes(stream, from, BYTES, &mut plan);
     let end = b.after;
     if end.good {
         let count = b.count;
-        lines::verdict(check_plan(&plan[..count]));
+        lines::verdict(judged(&plan[..count], with_shortest));
     }
     end
 }

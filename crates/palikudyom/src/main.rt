@@ -1,5 +1,6 @@
-// Prints the line of a plan file: the file that the argument names, or standard input where there is none or it is `-`. With `--ask` it answers a
-// stream of queries on standard input: docs/ASK.md. With `--replay` it replays a trace on standard input, with `--replay-for` one team's.
+// Prints the line of a plan file: the file that the argument names, or standard input where there is none or it is `-`; with `--with-shortest` standard
+// input is a plan file with the shortest allowed window first. With `--ask` it answers a stream of queries on standard input: docs/ASK.md. With `--replay` it
+// replays a trace on standard input, with `--replay-for` one team's, with `--replay-on` one on a board with its settings.
 mod ask;
 mod asked;
 mod entries;
@@ -9,12 +10,13 @@ mod plan_file;
 mod stream;
 mod trace_file;
 
+use crate::trace_file::Before;
 use libc::STDERR_FILENO;
 use libc::STDIN_FILENO;
 
 fn main() {
     if os::arg_count() < 2 {
-        plan_file::check(STDIN_FILENO, b"standard input");
+        plan_file::check(STDIN_FILENO, b"standard input", false);
         return;
     }
     if os::arg_count() > 2 {
@@ -28,7 +30,11 @@ fn main() {
         return;
     }
     if check::same(&word[..length], b"-") {
-        plan_file::check(STDIN_FILENO, b"standard input");
+        plan_file::check(STDIN_FILENO, b"standard input", false);
+        return;
+    }
+    if check::same(&word[..length], b"--with-shortest") {
+        plan_file::check(STDIN_FILENO, b"standard input", true);
         return;
     }
     if check::same(&word[..length], b"--ask") {
@@ -36,11 +42,15 @@ fn main() {
         return;
     }
     if check::same(&word[..length], b"--replay") {
-        trace_file::replay(false);
+        trace_file::replay(Before::Nothing);
         return;
     }
     if check::same(&word[..length], b"--replay-for") {
-        trace_file::replay(true);
+        trace_file::replay(Before::Owner);
+        return;
+    }
+    if check::same(&word[..length], b"--replay-on") {
+        trace_file::replay(Before::Settings);
         return;
     }
     plan_file::check_named(&word[..length]);

@@ -3,9 +3,20 @@ use crate::input;
 use crate::lines;
 use plan::check::buffer;
 use plan::check::check_plan;
+use plan::check::check_plan_with_shortest;
+use tables::answer::Verdict;
+
+// A plan file has the shortest allowed window first, or it has not.
+pub(crate) fn judged(bytes: &[u8], with_shortest: bool) -> Verdict {
+    if with_shortest {
+        check_plan_with_shortest(bytes)
+    } else {
+        check_plan(bytes)
+    }
+}
 
 // The buffer is enough for any answer: what a longer file has after it is not read.
-pub(crate) fn check(fd: i32, name: &[u8]) {
+pub(crate) fn check(fd: i32, name: &[u8], with_shortest: bool) {
     let mut bytes = buffer();
     let got = input::read_on(fd, &mut bytes);
     if got < 0 {
@@ -13,7 +24,7 @@ pub(crate) fn check(fd: i32, name: &[u8]) {
         return;
     }
     let n = io::count(got, &bytes);
-    if !lines::verdict(check_plan(&bytes[..n])) {
+    if !lines::verdict(judged(&bytes[..n], with_shortest)) {
         os::fail(b"standard output");
     }
 }
@@ -24,6 +35,6 @@ pub(crate) fn check_named(path: &[u8]) {
         os::fail(path);
         return;
     }
-    check(fd, path);
+    check(fd, path, false);
     libc::close(fd);
 }

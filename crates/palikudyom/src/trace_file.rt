@@ -1,6 +1,7 @@
-// Replays a trace from standard input: P, windows and tasks as a query has them, and then the trace's bytes to the end. On a table that teams share
-// the owner's number stands before them.
+// Replays a trace from standard input: P, windows and tasks as a query has them, and then the trace's bytes to the end.
 use crate::asked::Asked;
+use crate::asked::Settings;
+use crate::asked::settings;
 use crate::entries;
 use crate::input;
 use crate::stream::Cursor;
@@ -19,17 +20,40 @@ fn space() -> [u8; MOST]
     [0; MOST]
 }
 
-// Whether the numbers before the trace could be read.
-fn answered(stream: &[u8], shared: bool) -> bool {
-    let start = Cursor { at: 0, good: true };
-    if shared {
-        let owner = any(stream, start);
-        return entries::replay_rest(stream, owner.after, Asked::shared(owner.value));
-    }
-    entries::replay_rest(stream, start, Asked::alone(17))
+// What stands before P: nothing, where the windows are pairs; else they are in threes, after the owner, or after the settings as code 16 has them.
+pub(crate) enum Before {
+    Nothing,
+    Owner,
+    Settings,
 }
 
-pub(crate) fn replay(shared: bool) {
+fn board(stream: &[u8], form: Before) -> Settings {
+    let start = Cursor { at: 0, good: true };
+    match form {
+        Before::Nothing => {
+            let asked = Asked::alone(17);
+            Settings {
+                asked,
+                after: start,
+            }
+        }
+        Before::Owner => {
+            let owner = any(stream, start);
+            let asked = Asked::shared(owner.value, 1);
+            let after = owner.after;
+            Settings { asked, after }
+        }
+        Before::Settings => settings(stream, start),
+    }
+}
+
+// Whether the numbers before the trace could be read.
+fn answered(stream: &[u8], form: Before) -> bool {
+    let board = board(stream, form);
+    entries::replay_rest(stream, board.after, board.asked)
+}
+
+pub(crate) fn replay(form: Before) {
     let mut space = space();
     let got = input::read_on(STDIN_FILENO, &mut space);
     if got < 0 {
@@ -44,7 +68,7 @@ pub(crate) fn replay(shared: bool) {
         return;
     }
     let length = io::count(got, &space);
-    if !answered(&space[..length], shared) {
+    if !answered(&space[..length], form) {
         io::write_all(
             STDERR_FILENO,
             b"palikudyom: the numbers before the trace are damaged\n",
