@@ -1,6 +1,6 @@
 // Answers a stream of queries on standard input, a line each: docs/ASK.md.
 use crate::asked::Asked;
-use crate::asked::settings;
+use crate::asked::read_settings;
 use crate::entries;
 use crate::input;
 use crate::lines;
@@ -48,7 +48,7 @@ fn over_table(stream: &[u8], from: Cursor, asked: Asked) -> Cursor {
 
 // After code 16: the settings, then a query over a table.
 fn on_board(stream: &[u8], from: Cursor) -> Cursor {
-    let settings = settings(stream, from);
+    let settings = read_settings(stream, from);
     over_table(stream, settings.after, settings.asked)
 }
 

@@ -57,7 +57,7 @@ pub(crate) struct Settings {
 }
 
 // How many settings, then the settings: the owner, and the shortest allowed window where there are two.
-pub(crate) fn settings(stream: &[u8], from: Cursor) -> Settings {
+pub(crate) fn read_settings(stream: &[u8], from: Cursor) -> Settings {
     let count = any(stream, from);
     let owner = any(stream, count.after);
     let mut shortest = 1;

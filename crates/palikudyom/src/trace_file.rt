@@ -1,7 +1,7 @@
 // Replays a trace from standard input: P, windows and tasks as a query has them, and then the trace's bytes to the end.
 use crate::asked::Asked;
 use crate::asked::Settings;
-use crate::asked::settings;
+use crate::asked::read_settings;
 use crate::entries;
 use crate::input;
 use crate::stream::Cursor;
@@ -43,7 +43,7 @@ fn board(stream: &[u8], form: Before) -> Settings {
             let after = owner.after;
             Settings { asked, after }
         }
-        Before::Settings => settings(stream, start),
+        Before::Settings => read_settings(stream, start),
     }
 }
 
