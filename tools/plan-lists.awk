@@ -1,6 +1,9 @@
-# The bytes of a plan that the program has read, a number each, to the plan's lists as a query has them. LIST is `table`, the frame and the windows, or
-# `tasks`; each list is how many numbers it has, then the numbers.
-BEGIN { scale = 1 }
+# The bytes of a plan that the program has read, a number each, to the plan's lists as a query has them. LIST is `settings`, the first numbers, SETTINGS of
+# them, `table`, the frame and the windows, or `tasks`; each of the last two lists is how many numbers it has, then the numbers.
+BEGIN {
+    scale = 1
+    read = -SETTINGS
+}
 {
     value += $1 % 128 * scale
     scale *= 128
@@ -11,7 +14,7 @@ BEGIN { scale = 1 }
         value = count = 2 * value
     if (read == 3 + count)
         value *= 3
-    part = read <= 2 + count ? "table" : "tasks"
+    part = read <= 0 ? "settings" : read <= 2 + count ? "table" : "tasks"
     text[part] = text[part] " " sprintf("%.0f", value)
     value = 0
     scale = 1

@@ -1,6 +1,7 @@
 # After text.awk: a plan as text to the numbers of a plan file. Where windows or tasks have owners, or the environment's OWNER asks for one, to the lists
 # of a query instead: `table` and the frame and windows in threes, `tasks` and the tasks of the asked owner. A query takes only so many numbers, so the
-# lists are cut where they have one window or task more than is legal: they are refused for that, whatever follows.
+# lists are cut where they have one window or task more than is legal: they are refused for that, whatever follows. Before either stand the word
+# `shortest` and the shortest allowed window, if the text has one.
 BEGIN {
     owners = ENVIRON["OWNER"] != ""
     keptWindows = 65
@@ -24,6 +25,12 @@ $1 == "frame" {
     frame = numbers(1, "frame TICKS")
     next
 }
+$1 == "shortest" {
+    if (shortest != "")
+        bad("a second shortest")
+    shortest = numbers(1, "shortest TICKS")
+    next
+}
 $1 == "window" {
     pair = owned(2, "window START END")
     windows = windows pair
@@ -41,7 +48,7 @@ $1 == "task" {
         ownTasks = ownTasks task
     next
 }
-{ bad("`" $1 "` is none of frame, window, task") }
+{ bad("`" $1 "` is none of frame, shortest, window, task") }
 
 function least(a, b) {
     return a < b ? a : b
@@ -50,8 +57,10 @@ function least(a, b) {
 END {
     if (frame == "")
         bad("no frame: write `frame TICKS`")
+    if (shortest != "")
+        printf "shortest%s ", shortest
     if (owners)
         print "table" frame " " 3 * least(windowCount + 0, keptWindows) threes " tasks " 3 * least(ownCount + 0, keptTasks) ownTasks
     else
-        print frame " " (windowCount + 0) windows " " (taskCount + 0) tasks
+        print substr(frame, 2) " " (windowCount + 0) windows " " (taskCount + 0) tasks
 }
