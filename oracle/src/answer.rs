@@ -2,8 +2,9 @@
 
 use std::fmt;
 
-/// Document 01, "Refusal numbers". When several hold, the order is 9, 1, 2, 3, 4, 5, 6, 7, 10,
-/// 11, 8: every entry makes the checks it needs one after another in this order.
+/// Document 01, "Refusal numbers", and those that document 02 adds. When several hold, the order
+/// is 9, 1, 2, 3, 12, 4, 5, 6, 7, 10, 11, 8: every entry makes the checks it needs one after another
+/// in this order.
 #[derive(Clone, Copy, Debug, PartialEq, Eq)]
 pub enum Reason {
     WindowList = 1,
@@ -18,6 +19,8 @@ pub enum Reason {
     PlanBytes = 9,
     RunSize = 10,
     Job = 11,
+    /// A window shorter than the shortest allowed one, or no such shortest one.
+    Sliver = 12,
 }
 
 /// A refusal is a reason and a place.

@@ -5,7 +5,8 @@ use crate::table::{LeastSupplies, TableNumbers};
 use crate::tasks::{Task, TaskNumbers};
 
 /// The least t in 1 to D of task `index` with least supply of t at least its own C and the work
-/// of every lower index. Checks 1 to 5, then 7 where the asked task is absent; never 6.
+/// of every lower index. Checks the table and the group, then 7 where the asked task is absent;
+/// never 6.
 pub fn bound(table: &TableNumbers, tasks: &TaskNumbers, index: u64) -> Result<Answer, Refusal> {
     let table = table.check()?;
     let group = tasks.check()?;

@@ -91,7 +91,7 @@ fn any_windows() -> impl Iterator<Item = Query> {
         lists.extend(windows.iter().map(|second| [&first[..], second].concat()));
     }
     let asked = |list: Vec<u64>| {
-        let table = move |owner| shared_table(FRAME_OF_ANY_WINDOWS, list.clone(), owner);
+        let table = move |owner| TableNumbers::threes(FRAME_OF_ANY_WINDOWS, list.clone(), owner);
         (0..=OWNERS).map(move |owner| Query::Outage(table(owner)))
     };
     lists.into_iter().flat_map(asked)
@@ -101,7 +101,7 @@ fn any_windows() -> impl Iterator<Item = Query> {
 /// supplies up to 2P, the outage, the delay, the critical partition and two groups' verdicts.
 fn shared() -> impl Iterator<Item = Query> {
     let asked = |(frame, windows): (u64, Vec<u64>)| {
-        let entries = move |owner| entries(&shared_table(frame, windows.clone(), owner));
+        let entries = move |owner| entries(&TableNumbers::threes(frame, windows.clone(), owner));
         (0..OWNERS).flat_map(entries)
     };
     (1..=MOST_SHARED_FRAME)
@@ -123,14 +123,6 @@ fn entries(table: &TableNumbers) -> Vec<Query> {
     queries.push(verdict(&[1, 4, 3]));
     queries.push(verdict(&[1, 3, 3, 1, 6, 5]));
     queries
-}
-
-fn shared_table(frame: u64, windows: Vec<u64>, owner: u64) -> TableNumbers {
-    TableNumbers {
-        frame,
-        windows,
-        owner: Some(owner),
-    }
 }
 
 /// Each tick is nobody's or begins a window of one owner, or it goes on with the window before.
@@ -276,7 +268,7 @@ mod tests {
                     let ticks = own.flat_map(|w| w[0]..w[1]);
                     let set = ticks.fold(0, |set, tick| set | 1 << tick);
                     let plain = entries(&table_of_ticks(frame, set));
-                    let shared = entries(&shared_table(frame, list.clone(), owner));
+                    let shared = entries(&TableNumbers::threes(frame, list.clone(), owner));
                     for (shared, plain) in shared.iter().zip(&plain) {
                         let line = shared.line();
                         match first_cut {

@@ -3,7 +3,7 @@
 
 use crate::answer::Answer;
 use crate::numbers::encode;
-use crate::plan::plan;
+use crate::plan::{plan, Form};
 use crate::query::{Query, RunNumbers};
 use crate::replay::replay_on_plan;
 use crate::table::TableNumbers;
@@ -36,7 +36,7 @@ fn verdict(group: &[[u64; 3]]) -> String {
     let mut numbers = vec![8, 2, 0, 2, 5, 7, group.len() as u64];
     numbers.extend(group.concat());
     let bytes = crate::numbers::encode(&numbers);
-    assert_eq!(Answer::from(plan(&bytes)).to_string(), line);
+    assert_eq!(plan_line(&bytes), line);
     line
 }
 
@@ -46,7 +46,7 @@ fn bounds(table: &TableNumbers, group: &[[u64; 3]]) -> Vec<String> {
 }
 
 fn plan_line(bytes: &[u8]) -> String {
-    Answer::from(plan(bytes)).to_string()
+    Answer::from(plan(Form::Old, bytes)).to_string()
 }
 
 fn run(group: &[[u64; 3]], ticks: u64, jobs: &[u64], room: u64) -> String {

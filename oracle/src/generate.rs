@@ -6,7 +6,7 @@ use std::collections::BTreeSet;
 use crate::answer::Answer;
 use crate::machine::{Job, MOST_RUN};
 use crate::outages;
-use crate::plan;
+use crate::plan::{self, Form};
 use crate::query::{Query, RunNumbers};
 use crate::random::Random;
 use crate::spoil;
@@ -83,7 +83,9 @@ pub fn steps(query: &Query) -> u64 {
         Query::Verdict(table, tasks) => verdict_steps(table, tasks),
         Query::Bound(table, tasks, index) => bound_steps(table, tasks, *index),
         Query::Run(run) if run.ticks <= MOST_RUN => 18 * run.ticks,
-        Query::Plan(bytes) => plan::read(bytes).map_or(0, |(t, g)| verdict_steps(&t, &g)),
+        Query::Plan(form, bytes) => {
+            plan::read(*form, bytes).map_or(0, |(t, g)| verdict_steps(&t, &g))
+        }
         Query::Replay(_, _, trace) => replay_steps(trace),
         Query::Outage(_) | Query::Demand(..) | Query::Run(_) => 0,
     }
@@ -193,16 +195,20 @@ fn plan_query(r: &mut Random, faults: u64) -> Query {
     lent_plan(r, faults, table, &group)
 }
 
-/// The bytes of a plan file; half of them are damaged.
+/// The bytes of a plan file, with m first where the table has it set; half of them are damaged.
 pub fn lent_plan(r: &mut Random, faults: u64, table: TableNumbers, group: &[[u64; 3]]) -> Query {
-    let TaskNumbers::Triples(tasks) = spoil_sometimes(r, faults, group, false) else {
-        return Query::Plan(Vec::new());
+    let (form, mut numbers) = match table.shortest {
+        None => (Form::Old, Vec::new()),
+        Some(shortest) => (Form::WithShortest, vec![shortest]),
     };
-    let mut numbers = vec![table.frame, table.windows.len() as u64 / 2];
+    let TaskNumbers::Triples(tasks) = spoil_sometimes(r, faults, group, false) else {
+        return Query::Plan(form, Vec::new());
+    };
+    numbers.extend([table.frame, table.windows.len() as u64 / 2]);
     numbers.extend(table.windows);
     numbers.push(tasks.len() as u64 / 3);
     numbers.extend(tasks);
-    Query::Plan(spoil::plan_bytes(r, numbers))
+    Query::Plan(form, spoil::plan_bytes(r, form, numbers))
 }
 
 fn run_query(r: &mut Random, faults: u64) -> Query {

@@ -56,7 +56,7 @@ fn plain_queries(r: &mut Random, most_steps: u64) -> Vec<Query> {
         })
         .collect();
     // A damaged plan may be another plan, with more steps.
-    let is_plan = |query: &Query| matches!(query, Query::Plan(_));
+    let is_plan = |query: &Query| matches!(query, Query::Plan(..));
     queries.retain(|query| !is_plan(query) || generate::steps(query) <= most_steps);
     queries
 }
@@ -231,7 +231,7 @@ mod tests {
                 Err(refusal) => refused_table(lent, refusal, false),
             },
             Query::Verdict(lent, tasks) => verdicts(lent, tasks),
-            Query::Plan(bytes) => match plan::read(bytes) {
+            Query::Plan(form, bytes) => match plan::read(*form, bytes) {
                 Ok((lent, tasks)) => verdicts(&lent, &tasks),
                 Err(_) => vec![("9 of a plan", true)],
             },

@@ -32,8 +32,8 @@ pub struct Run {
     pub completions: Vec<Completion>,
 }
 
-/// Runs `ticks` ticks and writes one count per job to the lent buffer. Checks 1 to 5, then 10,
-/// 11 and 8; never 6.
+/// Runs `ticks` ticks and writes one count per job to the lent buffer. Checks the table and the
+/// group, then 10, 11 and 8; never 6.
 pub fn run(
     table: &TableNumbers,
     tasks: &TaskNumbers,

@@ -1,11 +1,12 @@
-//! The independent second program of Palikudyom: document 01 and requests 1, 2 and 4 of document
-//! 02, read from scratch, by brute force. Request 3 makes the first program faster and changes no
-//! answer: this one goes on to try every start, and `oracle large` asks where that counts.
+//! The independent second program of Palikudyom: document 01 and requests 1, 2, 4 and 5 of
+//! document 02, read from scratch, by brute force. Request 3 makes the first program faster and
+//! changes no answer: this one goes on to try every start, and `oracle large` asks where that
+//! counts.
 //!
-//! To believe its answers, read `numbers`, `answer`, `table`, `owners`, `tasks`, `verdict`,
-//! `bound`, `machine`, `plan`, `trace` and `replay`, in this order, and `examples` and
-//! `owner_examples`, which are the documents' own and some worked out by hand; then `query` and
-//! `stream`, which are docs/ASK.md's.
+//! To believe its answers, read `numbers`, `answer`, `table`, `owners`, `shortest`, `tasks`,
+//! `verdict`, `bound`, `machine`, `plan`, `trace` and `replay`, in this order, and `examples`,
+//! `owner_examples` and `shortest_examples`, which are the documents' own and some worked out by
+//! hand; then `query` and `stream`, which are docs/ASK.md's.
 //! The other files make streams (`generate`, `outages`, `traces`, `teams`, `large` with `frames`,
 //! `tight` and `edge_jobs`, `spoil`, `batch`, `enumerate`, `random`, `text`) and compare
 //! (`compare`): a fault there can hide a difference in the first program but can't change an
@@ -32,6 +33,9 @@ mod plan;
 mod query;
 mod random;
 mod replay;
+mod shortest;
+#[cfg(test)]
+mod shortest_examples;
 mod spoil;
 mod stream;
 mod table;
@@ -46,9 +50,13 @@ mod verdict;
 use std::io::{self, Read, Write};
 use std::process::ExitCode;
 
+use plan::Form;
+
 const USAGE: &str = "\
 usage: oracle answer < stream       answer a query stream, a line each
-       oracle plan < file           print the line of a plan file
+       oracle plan [SETTINGS] < file
+                                    print the line of a plan file; SETTINGS is how many numbers
+                                    stand before P: 0 or none given, the old form; 1, m first
        oracle replay TRACEFILE PLANFILE
                                     print the line of a trace on a plan's table and group
        oracle encode < text         make a stream of decimal numbers and xHH bytes
@@ -90,9 +98,10 @@ fn run(words: &[&str]) -> Result<ExitCode, String> {
                 write_output(format!("{line}\n").as_bytes())?;
             }
         }
-        ["plan"] => {
-            let answer = answer::Answer::from(plan::plan(&read_input(u64::MAX)?));
-            write_output(format!("{answer}\n").as_bytes())?;
+        ["plan"] => print_plan(Form::Old)?,
+        ["plan", settings] => {
+            let form = Form::of_settings(number(settings)?);
+            print_plan(form.ok_or_else(|| USAGE.to_string())?)?;
         }
         ["replay", trace, plan] => {
             let (trace, plan) = (read_file(trace)?, read_file(plan)?);
@@ -123,6 +132,11 @@ fn run(words: &[&str]) -> Result<ExitCode, String> {
         _ => return Err(USAGE.to_string()),
     }
     Ok(ExitCode::SUCCESS)
+}
+
+fn print_plan(form: Form) -> Result<(), String> {
+    let answer = answer::Answer::from(plan::plan(form, &read_input(u64::MAX)?));
+    write_output(format!("{answer}\n").as_bytes())
 }
 
 fn large(steps: u64, seed: &str, count: &str, command: &[&str]) -> Result<ExitCode, String> {

@@ -9,11 +9,7 @@ use crate::table::TableNumbers;
 use crate::tasks::TaskNumbers;
 
 fn shared(frame: u64, windows: &[[u64; 3]], owner: u64) -> TableNumbers {
-    TableNumbers {
-        frame,
-        windows: windows.concat(),
-        owner: Some(owner),
-    }
+    TableNumbers::threes(frame, windows.concat(), owner)
 }
 
 /// X is owner 0's; owner 1 has the other ticks, 2 to 4 and 7: every window touches the next.
@@ -265,11 +261,7 @@ fn an_owner_without_a_window() {
 fn refusals_of_a_shared_table_in_order() {
     let bad_tasks = TaskNumbers::Triples(vec![0; 4]);
     let asked = |frame, windows: &[u64], owner| {
-        let table = TableNumbers {
-            frame,
-            windows: windows.to_vec(),
-            owner: Some(owner),
-        };
+        let table = TableNumbers::threes(frame, windows.to_vec(), owner);
         let margin = Query::Margin(table.clone(), bad_tasks.clone(), 1_000_001).line();
         let bytes = vec![0, 9, 1, 1, 1, 0, 0];
         let replay = Query::Replay(table.clone(), bad_tasks.clone(), bytes).line();

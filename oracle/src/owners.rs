@@ -10,7 +10,7 @@ pub const OWNERS: u64 = 2;
 /// of the whole list, with the owners 0 to `owners` - 1; then "an entry asked for an owner with no
 /// window, or for no such owner, answers 1 at place 0, just after 3".
 pub fn table_of(asked: u64, owners: u64, shared: &TableNumbers) -> Result<TableNumbers, Refusal> {
-    shared.check_sizes(3)?;
+    shared.check_sizes()?;
     let windows: Vec<Window> = shared.windows.chunks(3).map(Window::new).collect();
     for (index, window) in windows.iter().enumerate() {
         let previous = index.checked_sub(1).map(|before| &windows[before]);

@@ -1,4 +1,4 @@
-//! The plan file (document 01, "The plan file and its line").
+//! The plan file (document 01, "The plan file and its line"; document 02, request 5).
 
 use crate::answer::{Answer, Reason, Refusal};
 use crate::numbers::Cursor;
@@ -6,17 +6,43 @@ use crate::table::{TableNumbers, MOST_WINDOWS};
 use crate::tasks::{TaskNumbers, MOST_TASKS};
 use crate::verdict::verdict;
 
+/// A plan file's form; its number is how many settings stand before P.
+#[derive(Clone, Copy, Debug, PartialEq, Eq)]
+pub enum Form {
+    /// Document 01's, in which nothing is set.
+    Old = 0,
+    /// Request 5's: "the new form, m first".
+    WithShortest = 1,
+}
+
+impl Form {
+    const ALL: [Form; 2] = [Form::Old, Form::WithShortest];
+
+    pub fn settings(self) -> u64 {
+        self as u64
+    }
+
+    /// The form with so many settings, if there is one.
+    pub fn of_settings(settings: u64) -> Option<Form> {
+        Form::ALL
+            .into_iter()
+            .find(|form| form.settings() == settings)
+    }
+}
+
 /// The verdict of a plan file's bytes.
-pub fn plan(bytes: &[u8]) -> Result<Answer, Refusal> {
-    let (table, tasks) = read(bytes)?;
+pub fn plan(form: Form, bytes: &[u8]) -> Result<Answer, Refusal> {
+    let (table, tasks) = read(form, bytes)?;
     verdict(&table, &tasks)
 }
 
-/// P, window count, windows, task count, tasks. Refusal 9, and the two early answers: "as soon as
-/// it is read, a window count of 0 or over 64 answers 1, and a task count over 32 answers 4; the
-/// rest is not read and no other check comes before."
-pub fn read(bytes: &[u8]) -> Result<(TableNumbers, TaskNumbers), Refusal> {
+/// The form's settings, then P, window count, windows, task count, tasks. Refusal 9, and the two
+/// early answers: "as soon as it is read, a window count of 0 or over 64 answers 1, and a task
+/// count over 32 answers 4; the rest is not read and no other check comes before." So a setting's
+/// own range is judged with the table.
+pub fn read(form: Form, bytes: &[u8]) -> Result<(TableNumbers, TaskNumbers), Refusal> {
     let mut cursor = Cursor::new(bytes);
+    let settings = numbers(&mut cursor, form.settings())?;
     let frame = number(&mut cursor)?;
     let window_count = number(&mut cursor)?;
     let early = window_count == 0 || window_count > MOST_WINDOWS as u64;
@@ -26,10 +52,11 @@ pub fn read(bytes: &[u8]) -> Result<(TableNumbers, TaskNumbers), Refusal> {
     Reason::TaskList.check(task_count > MOST_TASKS as u64, 0)?;
     let tasks = numbers(&mut cursor, 3 * task_count)?;
     Reason::PlanBytes.check(!cursor.at_end(), cursor.offset())?;
-    Ok((
-        TableNumbers::pairs(frame, windows),
-        TaskNumbers::Triples(tasks),
-    ))
+    let table = TableNumbers {
+        shortest: settings.first().copied(),
+        ..TableNumbers::pairs(frame, windows)
+    };
+    Ok((table, TaskNumbers::Triples(tasks)))
 }
 
 fn number(cursor: &mut Cursor) -> Result<u64, Refusal> {

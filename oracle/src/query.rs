@@ -2,9 +2,10 @@
 
 use crate::answer::Answer;
 use crate::numbers::Cursor;
+use crate::plan::{self, Form};
 use crate::table::{self, TableNumbers};
 use crate::tasks::{self, TaskNumbers};
-use crate::{bound, machine, plan, replay, verdict};
+use crate::{bound, machine, replay, verdict};
 
 /// Windows and tasks of codes 1 to 15 alone.
 pub const MOST_OLD_NUMBERS: u64 = 200;
@@ -18,8 +19,8 @@ pub const MOST_TRACE_BYTES: u64 = 20_000;
 
 /// Code 16, "on a board": settings, then a query whose windows are in threes.
 pub const BOARD: u64 = 16;
-/// The one setting there is: the owner asked for.
-const SETTINGS: u64 = 1;
+/// How many settings there may be: the owner asked for, or the owner and m.
+pub const SETTINGS: [u64; 2] = [1, 2];
 /// The codes that may stand under 16.
 pub const ON_A_BOARD: [u64; 13] = [1, 2, 3, 4, 6, 7, 8, 9, 12, 13, 14, 15, 17];
 
@@ -37,7 +38,7 @@ pub enum Query {
     Verdict(TableNumbers, TaskNumbers),
     Bound(TableNumbers, TaskNumbers, u64),
     Run(RunNumbers),
-    Plan(Vec<u8>),
+    Plan(Form, Vec<u8>),
     /// The group in triples; the trace as bytes.
     Replay(TableNumbers, TaskNumbers, Vec<u8>),
 }
@@ -58,32 +59,33 @@ impl Query {
         let first = cursor.offset();
         match cursor.number()? {
             BOARD => {
-                let owner = read_settings(cursor)?;
+                let settings = read_settings(cursor)?;
                 let first = cursor.offset();
                 match cursor.number()? {
                     code if ON_A_BOARD.contains(&code) => {
-                        Query::read_arguments(cursor, code, Some(owner))
+                        Query::read_arguments(cursor, code, &settings)
                     }
                     _ => Err(first),
                 }
             }
-            code @ (1..=15 | 17) => Query::read_arguments(cursor, code, None),
+            code @ (1..=15 | 17 | 18) => Query::read_arguments(cursor, code, &[]),
             _ => Err(first),
         }
     }
 
-    /// What follows a known code, on the windows of an owner or in pairs.
-    fn read_arguments(c: &mut Cursor, code: u64, owner: Option<u64>) -> Result<Query, usize> {
+    /// What follows a known code: with settings the windows are in threes, without in pairs.
+    fn read_arguments(c: &mut Cursor, code: u64, settings: &[u64]) -> Result<Query, usize> {
         let records = (11..=15).contains(&code);
-        let most_numbers = match owner {
-            None if code <= 15 => MOST_OLD_NUMBERS,
+        let most_numbers = match settings {
+            [] if code <= 15 => MOST_OLD_NUMBERS,
             _ => MOST_NEW_NUMBERS,
         };
         let table = |c: &mut Cursor| -> Result<TableNumbers, usize> {
             Ok(TableNumbers {
                 frame: c.number()?,
                 windows: read_list(c, most_numbers)?,
-                owner,
+                owner: settings.first().copied(),
+                shortest: settings.get(1).copied(),
             })
         };
         let tasks = |c: &mut Cursor| match records {
@@ -106,8 +108,9 @@ impl Query {
                 jobs: read_list(c, MOST_JOB_NUMBERS)?,
                 room: c.number_up_to(MOST_ROOM)?,
             }),
-            10 => Query::Plan(read_bytes(c, MOST_PLAN_BYTES)?),
-            _ => Query::Replay(table(c)?, tasks(c)?, read_bytes(c, MOST_TRACE_BYTES)?),
+            10 => Query::Plan(Form::Old, read_bytes(c, MOST_PLAN_BYTES)?),
+            17 => Query::Replay(table(c)?, tasks(c)?, read_bytes(c, MOST_TRACE_BYTES)?),
+            _ => Query::Plan(Form::WithShortest, read_bytes(c, MOST_PLAN_BYTES)?),
         })
     }
 
@@ -123,7 +126,7 @@ impl Query {
             | Query::Bound(table, _, _)
             | Query::Replay(table, _, _) => Some(table),
             Query::Run(run) => Some(&run.table),
-            Query::Demand(..) | Query::Plan(_) => None,
+            Query::Demand(..) | Query::Plan(..) => None,
         }
     }
 
@@ -138,12 +141,19 @@ impl Query {
             | Query::Bound(table, _, _)
             | Query::Replay(table, _, _) => Some(table),
             Query::Run(run) => Some(&mut run.table),
-            Query::Demand(..) | Query::Plan(_) => None,
+            Query::Demand(..) | Query::Plan(..) => None,
         }
     }
 
+    /// The settings of code 16 that it stands under; none where the windows are in pairs.
+    pub fn settings(&self) -> Vec<u64> {
+        let of_table = |table: &TableNumbers| [table.owner, table.shortest];
+        let settings = self.table().map(of_table).unwrap_or_default();
+        settings.into_iter().flatten().collect()
+    }
+
     pub fn is_on_a_board(&self) -> bool {
-        self.table().is_some_and(|table| table.owner.is_some())
+        !self.settings().is_empty()
     }
 
     /// Its own code, which stands under 16 where the windows are in threes.
@@ -158,17 +168,19 @@ impl Query {
             Query::Verdict(_, tasks) => 7 + records_add(tasks),
             Query::Bound(_, tasks, _) => 8 + records_add(tasks),
             Query::Run(run) => 9 + records_add(&run.tasks),
-            Query::Plan(..) => 10,
+            Query::Plan(Form::Old, _) => 10,
             Query::Replay(..) => 17,
+            Query::Plan(Form::WithShortest, _) => 18,
         }
     }
 
     /// Its numbers in the stream, the code first: what `read` reads.
     pub fn numbers(&self) -> Vec<u64> {
-        let mut n = match self.table().and_then(|table| table.owner) {
-            Some(owner) => vec![BOARD, SETTINGS, owner],
-            None => Vec::new(),
-        };
+        let mut n = Vec::new();
+        if self.is_on_a_board() {
+            n.push(BOARD);
+            push_list(&mut n, self.settings().into_iter());
+        }
         n.push(self.code());
         match self {
             Query::Delay(table) | Query::Outage(table) => push_table(&mut n, table),
@@ -196,7 +208,7 @@ impl Query {
                 push_list(&mut n, run.jobs.iter().copied());
                 n.push(run.room);
             }
-            Query::Plan(bytes) => push_bytes(&mut n, bytes),
+            Query::Plan(_, bytes) => push_bytes(&mut n, bytes),
             Query::Replay(table, tasks, trace) => {
                 push_table(&mut n, table);
                 push_tasks(&mut n, tasks);
@@ -226,7 +238,7 @@ impl Query {
                 let r = machine::run(&run.table, &run.tasks, run.ticks, &run.jobs, &mut lent);
                 return with_buffer(r.into(), &lent);
             }
-            Query::Plan(bytes) => plan::plan(bytes),
+            Query::Plan(form, bytes) => plan::plan(*form, bytes),
             Query::Replay(table, tasks, trace) => replay::replay(table, tasks, trace),
         };
         Answer::from(result).to_string()
@@ -238,11 +250,11 @@ fn read_list(cursor: &mut Cursor, limit: u64) -> Result<Vec<u64>, usize> {
     (0..count).map(|_| cursor.number()).collect()
 }
 
-/// The owner asked for. "Another count is a bad query at that number."
-fn read_settings(cursor: &mut Cursor) -> Result<u64, usize> {
+/// As many settings as there may be. "Another count is a bad query at that number."
+fn read_settings(cursor: &mut Cursor) -> Result<Vec<u64>, usize> {
     let first = cursor.offset();
     match cursor.number()? {
-        SETTINGS => cursor.number(),
+        count if SETTINGS.contains(&count) => (0..count).map(|_| cursor.number()).collect(),
         _ => Err(first),
     }
 }

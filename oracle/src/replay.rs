@@ -2,12 +2,12 @@
 
 use crate::answer::{Answer, Completion, Refusal};
 use crate::machine::{self, Miss};
-use crate::plan;
+use crate::plan::{self, Form};
 use crate::table::TableNumbers;
 use crate::tasks::TaskNumbers;
 use crate::trace;
 
-/// Checks 9 of the trace, 1 to 5, then 10 and 11; never 6.
+/// Checks 9 of the trace, the table and the group, then 10 and 11; never 6.
 pub fn replay(table: &TableNumbers, tasks: &TaskNumbers, bytes: &[u8]) -> Result<Answer, Refusal> {
     let records = trace::read(bytes)?;
     let table = table.check()?;
@@ -25,10 +25,10 @@ pub fn replay(table: &TableNumbers, tasks: &TaskNumbers, bytes: &[u8]) -> Result
     Ok(compared(&trace.completions, &completions, miss))
 }
 
-/// The same with the table and the group of a plan file, whose own 9 and early 1 and 4 come
-/// before everything of the trace. No verdict is asked, so there is no 6.
+/// The same with the table and the group of a plan file of the old form, whose own 9 and early 1
+/// and 4 come before everything of the trace. No verdict is asked, so there is no 6.
 pub fn replay_on_plan(plan: &[u8], trace: &[u8]) -> Result<Answer, Refusal> {
-    let (table, tasks) = plan::read(plan)?;
+    let (table, tasks) = plan::read(Form::Old, plan)?;
     replay(&table, &tasks, trace)
 }
 

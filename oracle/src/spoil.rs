@@ -2,6 +2,7 @@
 
 use crate::machine::{Job, MOST_JOBS, MOST_RUN};
 use crate::numbers::{encode, GREATEST};
+use crate::plan::Form;
 use crate::query::{
     Query, RunNumbers, MOST_JOB_NUMBERS, MOST_OLD_NUMBERS, MOST_PLAN_BYTES, MOST_ROOM,
 };
@@ -221,15 +222,18 @@ pub fn group_near_the_greatest_cycle(r: &mut Random, frame: u64) -> Vec<[u64; 3]
     group
 }
 
-/// The bytes of a plan file's numbers, half of them damaged.
-pub fn plan_bytes(r: &mut Random, mut numbers: Vec<u64>) -> Vec<u8> {
-    let windows = numbers[1] as usize;
+/// The bytes of a plan file's numbers, half of them damaged: now and then in the settings of its
+/// form.
+pub fn plan_bytes(r: &mut Random, form: Form, mut numbers: Vec<u64>) -> Vec<u8> {
+    let frame = form.settings() as usize;
+    let window_count = frame + 1;
+    let task_count = window_count + 1 + 2 * numbers[window_count] as usize;
     match r.below(30) {
-        0 => numbers[1] = r.one_of(&[0, 63, 64, 65, 66, GREATEST]),
-        1 if numbers.len() > 2 + 2 * windows => {
-            numbers[2 + 2 * windows] = r.one_of(&[0, 31, 32, 33, 34, GREATEST]);
+        0 => numbers[window_count] = r.one_of(&[0, 63, 64, 65, 66, GREATEST]),
+        1 if numbers.len() > task_count => {
+            numbers[task_count] = r.one_of(&[0, 31, 32, 33, 34, GREATEST]);
         }
-        2 => numbers[0] = r.one_of(&[0, MOST_FRAME + 1, GREATEST]),
+        2 => numbers[frame] = r.one_of(&[0, MOST_FRAME + 1, GREATEST]),
         _ => {}
     }
     let mut bytes = encode(&numbers);
@@ -243,6 +247,10 @@ pub fn plan_bytes(r: &mut Random, mut numbers: Vec<u64>) -> Vec<u8> {
         4 => {
             let index = r.index(numbers.len());
             bytes = with_bad_number(r, &numbers, index);
+        }
+        5 if frame > 0 => {
+            let setting = r.index(frame);
+            bytes = with_bad_number(r, &numbers, setting);
         }
         _ => {}
     }
@@ -353,7 +361,7 @@ pub fn query_at_a_limit(r: &mut Random) -> Query {
         ),
         _ => {
             let bytes = vec![r.one_of(&[1, 2, 0x7f]) as u8; MOST_PLAN_BYTES as usize];
-            Query::Plan(bytes)
+            Query::Plan(Form::Old, bytes)
         }
     }
 }

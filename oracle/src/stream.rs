@@ -74,7 +74,7 @@ mod tests {
 
     #[test]
     fn unknown_codes() {
-        for code in [0, 18, 127, 128, 4_294_967_295] {
+        for code in [0, 19, 127, 128, 4_294_967_295] {
             assert_eq!(answer(&[code, 0, 0]), ["BAD QUERY at 0"]);
         }
     }
@@ -129,11 +129,15 @@ mod tests {
             answer(&[&run[..], &[0, 12_401]].concat()),
             ["BAD QUERY at 11"]
         );
-        let plan = |count| answer(&list(&[10], count, 0, &[]));
-        assert_eq!(plan(4_096), ["REFUSED 1 at 0"]);
-        assert_eq!(plan(4_097), ["BAD QUERY at 1"]);
-        assert_eq!(answer(&[10, 2, 255, 255]), ["REFUSED 9 at 0"]);
-        assert_eq!(answer(&[10, 2, 255, 256]), ["BAD QUERY at 4"]);
+        for code in [10, 18] {
+            let plan = |count| answer(&list(&[code], count, 0, &[]));
+            assert_eq!(plan(4_096), ["REFUSED 1 at 0"]);
+            assert_eq!(plan(4_097), ["BAD QUERY at 1"]);
+            assert_eq!(plan(0), ["REFUSED 9 at 0"]);
+            assert_eq!(answer(&[code, 2, 255, 255]), ["REFUSED 9 at 0"]);
+            assert_eq!(answer(&[code, 2, 255, 256]), ["BAD QUERY at 4"]);
+            assert_eq!(answer(&[code, 2, 255]), ["BAD QUERY at 4"]);
+        }
         let records = |count: u64| {
             let mut numbers = vec![11, count];
             numbers.extend(std::iter::repeat_n(1, 3 * count as usize));
@@ -169,7 +173,8 @@ mod tests {
         assert_eq!(answer(&[29, 8, 2, 0, 8, 0, 0]), ["BAD QUERY at 0"]);
     }
 
-    /// Code 16 has one setting, the owner; m, rule and q come with later requests.
+    /// Code 16 has one setting, the owner, or two, the owner and m; rule and q come with a later
+    /// request.
     #[test]
     fn settings_of_a_board() {
         let full = [4, 8, 3, 0, 8, 1];
@@ -177,7 +182,11 @@ mod tests {
         assert_eq!(of(&[1, 1]), ["OUTAGE 0"]);
         assert_eq!(of(&[1, 0]), ["REFUSED 1 at 0"]);
         assert_eq!(of(&[1, 4_294_967_295]), ["REFUSED 1 at 0"]);
-        for count in [0, 2, 3, 4, 5, 4_294_967_295] {
+        assert_eq!(of(&[2, 1, 8]), ["OUTAGE 0"]);
+        assert_eq!(of(&[2, 1, 9]), ["REFUSED 12 at 0"]);
+        assert_eq!(of(&[2, 1, 4_294_967_295]), ["REFUSED 12 at 64"]);
+        assert_eq!(of(&[2, 0, 8]), ["REFUSED 1 at 0"]);
+        for count in [0, 3, 4, 5, 4_294_967_295] {
             assert_eq!(of(&[count, 1, 1, 1, 0]), ["BAD QUERY at 1"]);
         }
         assert_eq!(answers(&[16]), ["BAD QUERY at 1"]);
@@ -185,7 +194,12 @@ mod tests {
         assert_eq!(answers(&[16, 1]), ["BAD QUERY at 2"]);
         assert_eq!(answers(&[16, 1, 0x80]), ["BAD QUERY at 2"]);
         assert_eq!(answers(&[16, 1, 0]), ["BAD QUERY at 3"]);
-        let second = answer(&[&[5, 0, 0, 16, 2], &full[..]].concat());
+        assert_eq!(answers(&[16, 2]), ["BAD QUERY at 2"]);
+        assert_eq!(answers(&[16, 2, 0]), ["BAD QUERY at 3"]);
+        assert_eq!(answers(&[16, 2, 0, 0x80]), ["BAD QUERY at 3"]);
+        assert_eq!(answers(&[16, 2, 0, 0x81, 0x00]), ["BAD QUERY at 3"]);
+        assert_eq!(answers(&[16, 2, 0, 1]), ["BAD QUERY at 4"]);
+        let second = answer(&[&[5, 0, 0, 16, 3], &full[..]].concat());
         assert_eq!(second, ["DEMAND 0", "BAD QUERY at 4"]);
     }
 
@@ -209,8 +223,10 @@ mod tests {
             (15, &[1, 2, 2, 2, 0, 0, 0], "MET backlog 0 BUFFER"),
             (17, &[0, 0], "SAME"),
         ] {
-            let query = [&[16, 1, 1, code], &table[..], rest].concat();
-            assert_eq!(answer(&query), [line], "{code}");
+            for settings in [&[1, 1][..], &[2, 1, 1], &[2, 1, 8]] {
+                let query = [&[16], settings, &[code], &table, rest].concat();
+                assert_eq!(answer(&query), [line], "{code}");
+            }
         }
         let others = [0, 5, 10, 11, 16].into_iter().chain(18..40);
         for code in others.chain([127, 128, 4_294_967_295]) {
@@ -221,6 +237,11 @@ mod tests {
             assert_eq!(answer(&query), ["BAD QUERY at 4"], "{code}");
             let query = [&[16, 1, 4_294_967_295, code], &table[..]].concat();
             assert_eq!(answer(&query), ["BAD QUERY at 7"], "{code}");
+            // m in one byte, and in three.
+            let query = [&[16, 2, 1, 8, code], &table[..]].concat();
+            assert_eq!(answer(&query), ["BAD QUERY at 4"], "{code}");
+            let query = [&[16, 2, 1, 65_536, code], &table[..]].concat();
+            assert_eq!(answer(&query), ["BAD QUERY at 6"], "{code}");
         }
     }
 
@@ -244,6 +265,9 @@ mod tests {
         let replay = |count| answer(&list(&[16, 1, 0, 17, 8], count, 1, &[0, 0]));
         assert_eq!(replay(400), ["REFUSED 1 at 0"]);
         assert_eq!(replay(401), ["BAD QUERY at 5"]);
+        let with_shortest = |count| answer(&list(&[16, 2, 0, 8, 4, 8], count, 1, &[]));
+        assert_eq!(with_shortest(400), ["REFUSED 1 at 0"]);
+        assert_eq!(with_shortest(401), ["BAD QUERY at 6"]);
         // What stands alone keeps its limits, also after code 16.
         let alone = [&[16, 1, 0, 4, 8, 3, 0, 8, 0, 4, 8, 201][..], &[1; 201]].concat();
         assert_eq!(answer(&alone), ["OUTAGE 0", "BAD QUERY at 11"]);

@@ -1,8 +1,9 @@
 //! The window table and what follows from it alone (document 01, "Tables and sizes" and
-//! "Supply and demand"; document 02, request 1).
+//! "Supply and demand"; document 02, requests 1, 4 and 5).
 
 use crate::answer::{Answer, Reason, Refusal};
 use crate::owners::{self, OWNERS};
+use crate::shortest;
 
 pub const MOST_FRAME: u64 = 65_536;
 pub const MOST_WINDOWS: usize = 64;
@@ -16,6 +17,8 @@ pub struct TableNumbers {
     pub windows: Vec<u64>,
     /// The owner asked for, where the windows are in threes; none where they are in pairs.
     pub owner: Option<u64>,
+    /// m, the shortest allowed window, where it is set.
+    pub shortest: Option<u64>,
 }
 
 /// A legal table, tick by tick.
@@ -34,20 +37,40 @@ impl TableNumbers {
             frame,
             windows,
             owner: None,
+            shortest: None,
         }
     }
 
-    /// Refusals 1, 2 and 3; where teams share the table, then 1 for an owner that has no window.
-    pub fn check(&self) -> Result<Table, Refusal> {
+    /// Windows in threes of start, end and owner, asked for one owner.
+    pub fn threes(frame: u64, windows: Vec<u64>, owner: u64) -> TableNumbers {
+        TableNumbers {
+            owner: Some(owner),
+            ..TableNumbers::pairs(frame, windows)
+        }
+    }
+
+    pub fn numbers_a_window(&self) -> usize {
         match self.owner {
-            Some(owner) => owners::table_of(owner, OWNERS, self)?.check_pairs(),
-            None => self.check_pairs(),
+            Some(_) => 3,
+            None => 2,
         }
     }
 
-    /// Refusals 1 and 2, with so many numbers for each window.
-    pub fn check_sizes(&self, numbers: usize) -> Result<(), Refusal> {
+    /// Refusals 1, 2 and 3; where teams share the table, then 1 for an owner that has no window;
+    /// then 12.
+    pub fn check(&self) -> Result<Table, Refusal> {
+        let table = match self.owner {
+            Some(owner) => owners::table_of(owner, OWNERS, self)?.check_pairs()?,
+            None => self.check_pairs()?,
+        };
+        shortest::check(self)?;
+        Ok(table)
+    }
+
+    /// Refusals 1 and 2.
+    pub fn check_sizes(&self) -> Result<(), Refusal> {
         let count = self.windows.len();
+        let numbers = self.numbers_a_window();
         let bad_list =
             !count.is_multiple_of(numbers) || count == 0 || count / numbers > MOST_WINDOWS;
         Reason::WindowList.check(bad_list, 0)?;
@@ -55,7 +78,7 @@ impl TableNumbers {
     }
 
     fn check_pairs(&self) -> Result<Table, Refusal> {
-        self.check_sizes(2)?;
+        self.check_sizes()?;
         let mut previous_end = None;
         for (index, window) in self.windows.chunks(2).enumerate() {
             let (start, end) = (window[0], window[1]);

@@ -124,11 +124,7 @@ fn other_windows(r: &mut Random, table: &TableNumbers) -> Vec<[u64; 2]> {
 /// One of the queries whose lists or frames are as long as they may be, or nearly.
 pub fn query_at_a_limit(r: &mut Random) -> Query {
     let owner = r.below(2);
-    let shared = |frame, windows: Vec<u64>| TableNumbers {
-        frame,
-        windows,
-        owner: Some(owner),
-    };
+    let shared = |frame, windows: Vec<u64>| TableNumbers::threes(frame, windows, owner);
     let full = shared(4, vec![0, 2, owner, 2, 4, 1 - owner]);
     let numbers = r.one_of(&[201, 390, MOST_NEW_NUMBERS - 1, MOST_NEW_NUMBERS]);
     match r.below(8) {

@@ -5,7 +5,7 @@ use crate::table::{LeastSupplies, TableNumbers};
 use crate::tasks::TaskNumbers;
 
 /// "Meets" with H, or the least length in 1 to H with demand above least supply and the least
-/// start that holds that least supply. Checks 1 to 6.
+/// start that holds that least supply. Checks the table and the group, then 6.
 pub fn verdict(table: &TableNumbers, tasks: &TaskNumbers) -> Result<Answer, Refusal> {
     let table = table.check()?;
     let group = tasks.check()?;
