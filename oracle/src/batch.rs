@@ -56,7 +56,9 @@ fn bad_end(r: &mut Random) -> Vec<u8> {
         }
         1 => {
             let mut cut = encode(&numbers);
-            cut.truncate(1 + r.index(cut.len() - 1));
+            // Often within the settings of code 16.
+            let most = r.one_of(&[6, GREATEST]) as usize;
+            cut.truncate(1 + r.index((cut.len() - 1).min(most)));
             cut
         }
         2..=4 => with_bad_code(r, numbers),
@@ -68,15 +70,22 @@ fn bad_end(r: &mut Random) -> Vec<u8> {
 fn with_bad_code(r: &mut Random, mut numbers: Vec<u64>) -> Vec<u8> {
     match numbers[0] {
         BOARD if r.once_in(2) => {
-            let count = r.one_of(&[0, 0, 2, 2, 3, 4, 4, 5, GREATEST]);
+            let count = r.one_of(&[0, 0, 3, 3, 4, 4, 5, 258, GREATEST]);
+            let settings = 2..2 + numbers[1] as usize;
             numbers[1] = count;
             if count < 6 && r.once_in(2) {
                 // As many settings as it says.
-                numbers.splice(2..3, vec![1; count as usize]);
+                numbers.splice(settings, vec![1; count as usize]);
             }
         }
-        BOARD => numbers[3] = r.one_of(&[0, 5, 10, 11, 16, 18, 20, 23, 24, 28, 30, 129, GREATEST]),
-        _ => numbers[0] = r.one_of(&[0, 18, 26, 127, 128, 255, 256, GREATEST]),
+        BOARD => {
+            let code = 2 + numbers[1] as usize;
+            let others = [
+                0, 5, 10, 11, 16, 18, 18, 19, 20, 23, 24, 28, 30, 129, GREATEST,
+            ];
+            numbers[code] = r.one_of(&others);
+        }
+        _ => numbers[0] = r.one_of(&[0, 19, 26, 127, 128, 255, 256, GREATEST]),
     }
     encode(&numbers)
 }
@@ -84,10 +93,10 @@ fn with_bad_code(r: &mut Random, mut numbers: Vec<u64>) -> Vec<u8> {
 /// A query with a count, a room or a byte over its limit; a third of them are under code 16, where
 /// some codes are bad already.
 fn over_a_limit(r: &mut Random) -> Vec<u8> {
-    let is_on_a_board = r.once_in(3);
-    let (mut numbers, table, most): (Vec<u64>, &[u64], u64) = match is_on_a_board {
-        true => (vec![BOARD, 1, 0], &[8, 3, 0, 8, 0], MOST_NEW_NUMBERS),
-        false => (Vec::new(), &[8, 2, 0, 8], MOST_OLD_NUMBERS),
+    let (mut numbers, table, most): (Vec<u64>, &[u64], u64) = match r.below(6) {
+        0 => (vec![BOARD, 1, 0], &[8, 3, 0, 8, 0], MOST_NEW_NUMBERS),
+        1 => (vec![BOARD, 2, 0, 8], &[8, 3, 0, 8, 0], MOST_NEW_NUMBERS),
+        _ => (Vec::new(), &[8, 2, 0, 8], MOST_OLD_NUMBERS),
     };
     let jobs: &[u64] = &[10, 3, 2, 0, 1];
     let (before, limit): (Vec<u64>, u64) = match r.below(16) {
@@ -106,8 +115,8 @@ fn over_a_limit(r: &mut Random) -> Vec<u8> {
         12 => ([&[17], table].concat(), MOST_NEW_NUMBERS),
         13 => ([&[17], table, &[3, 1, 4, 4]].concat(), 20_000),
         14 => ([&[17], table, &[0, 3, 1, 0]].concat(), 255),
-        _ if r.once_in(2) => (vec![10], 4_096),
-        _ => (vec![10, 3, 8], 255),
+        _ if r.once_in(2) => (vec![r.one_of(&[10, 18])], 4_096),
+        _ => (vec![r.one_of(&[10, 18]), 3, 8], 255),
     };
     let over = r.one_of(&[limit + 1, limit + 1, 2 * limit, GREATEST]);
     numbers.extend(before);

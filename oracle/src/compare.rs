@@ -22,8 +22,8 @@ struct Comparison<'a> {
     command: &'a [&'a str],
     queries: u64,
     differences: u64,
-    /// By whether the query is under code 16, then by its own code.
-    by_code: BTreeMap<(bool, u64), u64>,
+    /// By how many settings of code 16 the query stands under, then by its own code.
+    by_code: BTreeMap<(usize, u64), u64>,
     by_word: BTreeMap<String, u64>,
 }
 
@@ -91,7 +91,7 @@ impl<'a> Comparison<'a> {
         let stream = stream::read(bytes);
         let (own, other) = both_answers(self.command, bytes, &stream)?;
         for query in &stream.queries {
-            let code = (query.is_on_a_board(), query.code());
+            let code = (query.settings().len(), query.code());
             *self.by_code.entry(code).or_default() += 1;
         }
         for line in &own {
@@ -112,8 +112,11 @@ impl<'a> Comparison<'a> {
 
     fn summary(&self) -> io::Result<bool> {
         let mut out = io::stdout().lock();
-        for ((is_on_a_board, code), count) in &self.by_code {
-            let under = if *is_on_a_board { "16, " } else { "" };
+        for ((settings, code), count) in &self.by_code {
+            let under = match settings {
+                0 => String::new(),
+                _ => format!("16 with {settings}, "),
+            };
             writeln!(out, "code {under}{code}: {count}")?;
         }
         for (word, count) in &self.by_word {

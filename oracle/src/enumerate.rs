@@ -1,10 +1,16 @@
 //! Every small table, and every small group on the smaller ones; every small table that two teams
-//! share, and every one of up to two windows that may break every rule; every bad query by a code
-//! or a count of code 16.
+//! share, and every one of up to two windows that may break every rule, without a shortest allowed
+//! window m and with every one that is not far longer than the frame; every short plan file with m
+//! first; every bad query by a code or a count of code 16.
 
+use crate::generate;
 use crate::numbers::encode;
 use crate::owners::OWNERS;
-use crate::query::{Query, BOARD, MOST_NEW_NUMBERS, MOST_OLD_NUMBERS, MOST_RECORDS, ON_A_BOARD};
+use crate::plan::Form;
+use crate::query::{
+    Query, BOARD, MOST_NEW_NUMBERS, MOST_OLD_NUMBERS, MOST_PLAN_BYTES, MOST_RECORDS, ON_A_BOARD,
+};
+use crate::shortest::MOST_SHORTEST;
 use crate::stream::MOST_BYTES;
 use crate::table::TableNumbers;
 use crate::tasks::TaskNumbers;
@@ -16,16 +22,20 @@ const MOST_PERIOD: u64 = 6;
 const MOST_SHARED_FRAME: u64 = 6;
 /// The frame of the windows that may break every rule.
 const FRAME_OF_ANY_WINDOWS: u64 = 3;
+/// Every plan file of up to so many of these bytes: m, P, one window, no task and a byte more.
+const MOST_ANY_BYTES: usize = 7;
+const ANY_BYTES: [u8; 6] = [0, 1, 2, 3, 4, 0x80];
 
-/// Streams of bad queries, then of every small outage, shared table and verdict.
+/// Streams of bad queries, then of every small outage, shared table, plan with m and verdict.
 pub fn streams() -> impl Iterator<Item = Vec<u8>> {
     let bad = bad_queries().into_iter().map(|numbers| encode(&numbers));
     bad.chain(streams_of_queries())
 }
 
 fn streams_of_queries() -> impl Iterator<Item = Vec<u8>> {
-    let shared = any_windows().chain(shared());
-    let queries = outages().chain(shared).chain(verdicts());
+    let shared = any_windows().chain(shared()).chain(with_shortest());
+    let plans = any_plans().chain(plans());
+    let queries = outages().chain(shared).chain(plans).chain(verdicts());
     let mut encoded = queries.map(|query| encode(&query.numbers())).peekable();
     std::iter::from_fn(move || {
         encoded.peek()?;
@@ -37,29 +47,47 @@ fn streams_of_queries() -> impl Iterator<Item = Vec<u8>> {
     })
 }
 
-/// A bad query ends its stream, so each has one of its own: other counts of settings, codes up to
-/// 40 that 16 does not name, and lists over their limits under 16 and alone.
+/// A bad query ends its stream, so each has one of its own: other counts of settings, what is bad
+/// under 16 with one setting and with two, and lists over their limits alone.
 fn bad_queries() -> Vec<Vec<u64>> {
     let mut bad = Vec::new();
-    let full: &[u64] = &[8, 3, 0, 8, 0];
-    let settings: &[u64] = &[BOARD, 1, 0];
-    for count in [0, 2, 3, 4, 5] {
+    for count in [0, 3, 4, 5] {
         let settings = vec![0; count as usize];
-        bad.push([&[BOARD, count], &settings[..], &[4], full].concat());
+        bad.push([&[BOARD, count], &settings[..], &[4], &FULL].concat());
     }
+    for settings in [&[BOARD, 1, 0][..], &[BOARD, 2, 0, 8]] {
+        bad.extend(bad_queries_under(settings));
+    }
+    for code in ON_A_BOARD {
+        let over = match code {
+            17 => MOST_NEW_NUMBERS + 1,
+            _ => MOST_OLD_NUMBERS + 1,
+        };
+        bad.push([&[code, 8, over], &vec![1; over as usize][..]].concat());
+    }
+    for plan in [10, 18] {
+        let over = MOST_PLAN_BYTES + 1;
+        bad.push([&[plan, over], &vec![1; over as usize][..]].concat());
+        bad.push(vec![plan, 3, 1, 256, 1]);
+    }
+    bad
+}
+
+/// A frame and its one window, of owner 0.
+const FULL: [u64; 5] = [8, 3, 0, 8, 0];
+
+/// A query that is cut short, codes up to 40 that 16 does not name, and lists over their limits.
+fn bad_queries_under(settings: &[u64]) -> Vec<Vec<u64>> {
+    let full = &FULL[..];
+    let whole = [settings, &[4], full].concat();
+    let mut bad: Vec<Vec<u64>> = (1..whole.len()).map(|end| whole[..end].to_vec()).collect();
     for code in (0..=40).filter(|code| !ON_A_BOARD.contains(code)) {
         bad.push([settings, &[code], full, &[0; 4]].concat());
     }
     for code in ON_A_BOARD {
         let over = MOST_NEW_NUMBERS + 1;
-        let alone = if code == 17 {
-            over
-        } else {
-            MOST_OLD_NUMBERS + 1
-        };
         let ones = vec![1; over as usize];
         bad.push([settings, &[code, 8, over], &ones].concat());
-        bad.push([&[code, 8, alone], &ones[..]].concat());
         let tasks = match code {
             6..=9 | 17 => over,
             12..=15 => MOST_RECORDS + 1,
@@ -75,9 +103,18 @@ fn outages() -> impl Iterator<Item = Query> {
     tables(MOST_FRAME_OF_OUTAGES).into_iter().map(Query::Outage)
 }
 
-/// The outage, for the owners 0 to 2, of every list of up to two windows with P = 3: starts and
-/// ends from 0 to P + 1, owners from 0 to 2.
+/// The outage, for the owners 0 to 2, of every list of up to two windows with P = 3.
 fn any_windows() -> impl Iterator<Item = Query> {
+    let asked = |list: Vec<u64>| {
+        let table = move |owner| TableNumbers::threes(FRAME_OF_ANY_WINDOWS, list.clone(), owner);
+        (0..=OWNERS).map(move |owner| Query::Outage(table(owner)))
+    };
+    any_lists().into_iter().flat_map(asked)
+}
+
+/// Every list of up to two windows with starts and ends from 0 to P + 1, where P = 3, and with
+/// owners from 0 to 2.
+fn any_lists() -> Vec<Vec<u64>> {
     let edges = 0..=FRAME_OF_ANY_WINDOWS + 1;
     let mut windows = Vec::new();
     for start in edges.clone() {
@@ -90,11 +127,7 @@ fn any_windows() -> impl Iterator<Item = Query> {
         lists.push(first.clone());
         lists.extend(windows.iter().map(|second| [&first[..], second].concat()));
     }
-    let asked = |list: Vec<u64>| {
-        let table = move |owner| TableNumbers::threes(FRAME_OF_ANY_WINDOWS, list.clone(), owner);
-        (0..=OWNERS).map(move |owner| Query::Outage(table(owner)))
-    };
-    lists.into_iter().flat_map(asked)
+    lists
 }
 
 /// What both owners get of every table with P up to 6, cut into windows in every way: the least
@@ -123,6 +156,69 @@ fn entries(table: &TableNumbers) -> Vec<Query> {
     queries.push(verdict(&[1, 4, 3]));
     queries.push(verdict(&[1, 3, 3, 1, 6, 5]));
     queries
+}
+
+/// The outage, and the margin of a group that is not in threes, for the owners 0 to 2, of every
+/// table with P up to 6, cut into windows in every way, and of every list of up to two windows that
+/// may break every rule: with m from 0 to P + 1 and at its limits.
+fn with_shortest() -> impl Iterator<Item = Query> {
+    let shared = (1..=MOST_SHARED_FRAME)
+        .flat_map(|frame| shared_lists(frame).into_iter().map(move |l| (frame, l)));
+    let any = any_lists().into_iter().map(|l| (FRAME_OF_ANY_WINDOWS, l));
+    shared.chain(any).flat_map(|(frame, windows)| {
+        let mut queries = Vec::new();
+        for owner in 0..=OWNERS {
+            for shortest in (0..=frame + 1).chain([MOST_SHORTEST, MOST_SHORTEST + 1]) {
+                let table = TableNumbers {
+                    shortest: Some(shortest),
+                    ..TableNumbers::threes(frame, windows.clone(), owner)
+                };
+                queries.push(Query::Outage(table.clone()));
+                let tasks = TaskNumbers::Triples(vec![1, 4]);
+                queries.push(Query::Margin(table, tasks, 4));
+            }
+        }
+        queries
+    })
+}
+
+/// The verdicts of plan files with m from 0 to P + 1 before every table with P up to 7, with no
+/// task, with a task that is met or missed, with one that breaks its rule, with too long a cycle
+/// and with too many tasks.
+fn plans() -> impl Iterator<Item = Query> {
+    let groups = [
+        vec![],
+        vec![1, 4, 3],
+        vec![1, 4, 5],
+        vec![1, 999_983, 1],
+        [1, 4, 4].repeat(33),
+    ];
+    tables(MOST_FRAME).into_iter().flat_map(move |table| {
+        let mut queries = Vec::new();
+        for shortest in 0..=table.frame + 1 {
+            let table = TableNumbers {
+                shortest: Some(shortest),
+                ..table.clone()
+            };
+            queries.extend(groups.iter().map(|tasks| {
+                let (form, numbers) = generate::plan_numbers(&table, tasks);
+                Query::Plan(form, encode(&numbers))
+            }));
+        }
+        queries
+    })
+}
+
+/// Every plan file with m first of up to 7 bytes, each one of six.
+fn any_plans() -> impl Iterator<Item = Query> {
+    let choices = ANY_BYTES.len();
+    (0..=MOST_ANY_BYTES).flat_map(move |count| {
+        let files = 0..choices.pow(count as u32);
+        files.map(move |file| {
+            let byte = |index: usize| ANY_BYTES[file / choices.pow(index as u32) % choices];
+            Query::Plan(Form::WithShortest, (0..count).map(byte).collect())
+        })
+    })
 }
 
 /// Each tick is nobody's or begins a window of one owner, or it goes on with the window before.
@@ -224,8 +320,9 @@ mod tests {
 
     #[test]
     fn bad_queries_are_bad() {
-        // 5 counts; 41 codes without the 13; 13 tables twice; 9 groups.
-        assert_eq!(bad_queries().len(), 5 + 28 + 26 + 9);
+        // 4 counts; twice 41 codes without the 13, 13 tables and 9 groups; after each number but
+        // the last of 9 and of 10; 13 tables alone; 2 plans twice.
+        assert_eq!(bad_queries().len(), 4 + 2 * (28 + 13 + 9) + 8 + 9 + 13 + 4);
         for numbers in bad_queries() {
             let stream = stream::read(&encode(&numbers));
             assert!(
@@ -248,6 +345,48 @@ mod tests {
         assert_eq!(shared().count() as u64, queries);
         // 5 starts, 5 ends and 3 owners.
         assert_eq!(any_windows().count(), 3 * (1 + 75 + 75 * 75));
+    }
+
+    /// m is one of P + 4 numbers.
+    #[test]
+    fn as_many_with_m_as_there_are() {
+        let shared: usize = (1..)
+            .zip([3, 11, 41, 153, 571, 2_131])
+            .map(|(frame, count)| count * (frame + 4))
+            .sum();
+        let any = (1 + 75 + 75 * 75) * 7;
+        assert_eq!(with_shortest().count(), 3 * 2 * (shared + any));
+        // Sets of P ticks and P + 2 numbers, with five groups.
+        let tables: usize = (1..=7).map(|frame| ((1 << frame) - 1) * (frame + 2)).sum();
+        assert_eq!(plans().count(), 5 * tables);
+        // 6^0 to 6^7, and no file twice.
+        assert_eq!(any_plans().count(), (6usize.pow(8) - 1) / 5);
+        let files: std::collections::BTreeSet<Vec<u64>> =
+            any_plans().map(|query| query.numbers()).collect();
+        assert_eq!(files.len(), any_plans().count());
+    }
+
+    /// Where m is in its range and no window is shorter, it changes nothing. Where it is not, it
+    /// changes only what is answered without it or refused later than a table is.
+    #[test]
+    fn m_refuses_or_changes_nothing() {
+        for query in with_shortest() {
+            let mut without = query.clone();
+            let table = without.table_mut().unwrap();
+            let shortest = table.shortest.take().unwrap();
+            let ticks = |w: &[u64]| w[1].wrapping_sub(w[0]);
+            let first = table.windows.chunks(3).position(|w| ticks(w) < shortest);
+            let place = match shortest {
+                1..=65_536 => first,
+                _ => Some(64),
+            };
+            let is_table_s = table.check().is_err();
+            let line = match place {
+                Some(place) if !is_table_s => format!("REFUSED 12 at {place}"),
+                _ => without.line(),
+            };
+            assert_eq!(query.line(), line, "{query:?}");
+        }
     }
 
     /// Of every way to share a frame, each owner gets what its own ticks get alone; and the legal

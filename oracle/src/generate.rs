@@ -9,6 +9,7 @@ use crate::outages;
 use crate::plan::{self, Form};
 use crate::query::{Query, RunNumbers};
 use crate::random::Random;
+use crate::slivers;
 use crate::spoil;
 use crate::table::{TableNumbers, MOST_FRAME, MOST_WINDOWS};
 use crate::tasks::{least_common_multiple, TaskNumbers};
@@ -35,13 +36,19 @@ pub fn query(r: &mut Random) -> Query {
     if r.once_in(500) {
         return teams::query_at_a_limit(r);
     }
-    let is_shared = r.once_in(3);
+    if r.once_in(200) {
+        return slivers::query_at_a_limit(r);
+    }
+    // A quarter of the queries has m, another one is for one of two teams without it.
+    let kind = r.below(4);
     loop {
         let faults = faults(r);
-        let mut query = any_query(r, faults);
-        if is_shared {
-            query = teams::share(r, faults, query);
-        }
+        let plain = any_query(r, faults);
+        let query = match kind {
+            0 => slivers::with_shortest(r, faults, plain),
+            1 => teams::share(r, faults, plain),
+            _ => plain,
+        };
         if steps(&query) <= allowance {
             return query;
         }
@@ -195,20 +202,26 @@ fn plan_query(r: &mut Random, faults: u64) -> Query {
     lent_plan(r, faults, table, &group)
 }
 
-/// The bytes of a plan file, with m first where the table has it set; half of them are damaged.
+/// The bytes of a plan file; half of them are damaged.
 pub fn lent_plan(r: &mut Random, faults: u64, table: TableNumbers, group: &[[u64; 3]]) -> Query {
+    let TaskNumbers::Triples(tasks) = spoil_sometimes(r, faults, group, false) else {
+        return Query::Plan(Form::Old, Vec::new());
+    };
+    let (form, numbers) = plan_numbers(&table, &tasks);
+    Query::Plan(form, spoil::plan_bytes(r, form, numbers))
+}
+
+/// The form and the numbers of a plan file, with m first where the table has it set.
+pub fn plan_numbers(table: &TableNumbers, tasks: &[u64]) -> (Form, Vec<u64>) {
     let (form, mut numbers) = match table.shortest {
         None => (Form::Old, Vec::new()),
         Some(shortest) => (Form::WithShortest, vec![shortest]),
     };
-    let TaskNumbers::Triples(tasks) = spoil_sometimes(r, faults, group, false) else {
-        return Query::Plan(form, Vec::new());
-    };
     numbers.extend([table.frame, table.windows.len() as u64 / 2]);
-    numbers.extend(table.windows);
+    numbers.extend(&table.windows);
     numbers.push(tasks.len() as u64 / 3);
     numbers.extend(tasks);
-    Query::Plan(form, spoil::plan_bytes(r, form, numbers))
+    (form, numbers)
 }
 
 fn run_query(r: &mut Random, faults: u64) -> Query {

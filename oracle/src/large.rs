@@ -8,6 +8,7 @@ use crate::generate;
 use crate::numbers::GREATEST;
 use crate::query::{Query, MOST_ROOM};
 use crate::random::Random;
+use crate::slivers;
 use crate::spoil;
 use crate::table::{Table, TableNumbers, MOST_FRAME, MOST_LENGTH};
 use crate::tasks::{MOST_TASKS, MOST_TICKS};
@@ -15,15 +16,18 @@ use crate::teams;
 use crate::tight::Ground;
 use crate::traces;
 
-/// Some queries on one table, a third of them on one that it shares with another team. One that
-/// tries every start at every length takes up to `most_steps` such steps, or as many as the frame
-/// `frames::LEAST_FRAME` needs.
+/// Some queries on one table, a third of them on one that it shares with another team, half of
+/// those with a shortest allowed window. One that tries every start at every length takes up to
+/// `most_steps` such steps, or as many as the frame `frames::LEAST_FRAME` needs.
 pub fn queries(r: &mut Random, most_steps: u64) -> Vec<Query> {
     let mut queries = plain_queries(r, most_steps);
     for query in &mut queries {
         if r.once_in(3) {
             let faults = generate::faults(r);
-            let shared = teams::share(r, faults, query.clone());
+            let mut shared = teams::share(r, faults, query.clone());
+            if r.once_in(2) {
+                slivers::set_shortest(r, &mut shared);
+            }
             // The other team's verdict may need more steps.
             let is_verdict = matches!(shared, Query::Verdict(..));
             if !is_verdict || generate::steps(&shared) <= most_steps {
@@ -91,7 +95,7 @@ fn quick(r: &mut Random, legal: &TableNumbers, table: &Table) -> Query {
 /// A query that tries every start at many lengths.
 fn slow(r: &mut Random, legal: &TableNumbers, ground: &mut Ground) -> Query {
     let faults = generate::faults(r);
-    let lent = lent_table(r, faults, legal);
+    let mut lent = lent_table(r, faults, legal);
     match r.below(16) {
         0..=2 => {
             let needed = 2 * ground.critical_windows();
@@ -112,6 +116,9 @@ fn slow(r: &mut Random, legal: &TableNumbers, ground: &mut Ground) -> Query {
         }
         9 => {
             let group = ground.group(r);
+            if r.once_in(2) {
+                lent.shortest = Some(slivers::shortest(r, &lent));
+            }
             generate::lent_plan(r, faults, lent, &group)
         }
         _ => {
@@ -249,6 +256,8 @@ mod tests {
         let place = match refusal.reason as u8 {
             1 => "1",
             2 => "2",
+            12 if refusal.place == MOST_WINDOWS as u64 => "12 of m itself",
+            12 => "12",
             _ if refusal.place == 0 => "3 at 0",
             _ if refusal.place == MOST_WINDOWS as u64 - 1 => "3 at 63",
             _ if refusal.place == last => "3 at the last window",
@@ -642,7 +651,7 @@ mod tests {
     #[test]
     fn every_edge_is_asked() {
         let asked = count_edges(9, 1_000, 4_000_000);
-        assert_eq!(asked.len(), 125, "{asked:#?}");
+        assert_eq!(asked.len(), 127, "{asked:#?}");
     }
 
     /// What asks about many lengths has no more steps than are allowed.

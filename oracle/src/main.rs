@@ -7,8 +7,8 @@
 //! `verdict`, `bound`, `machine`, `plan`, `trace` and `replay`, in this order, and `examples`,
 //! `owner_examples` and `shortest_examples`, which are the documents' own and some worked out by
 //! hand; then `query` and `stream`, which are docs/ASK.md's.
-//! The other files make streams (`generate`, `outages`, `traces`, `teams`, `large` with `frames`,
-//! `tight` and `edge_jobs`, `spoil`, `batch`, `enumerate`, `random`, `text`) and compare
+//! The other files make streams (`generate`, `outages`, `traces`, `teams`, `slivers`, `large` with
+//! `frames`, `tight` and `edge_jobs`, `spoil`, `batch`, `enumerate`, `random`, `text`) and compare
 //! (`compare`): a fault there can hide a difference in the first program but can't change an
 //! answer.
 
@@ -36,6 +36,7 @@ mod replay;
 mod shortest;
 #[cfg(test)]
 mod shortest_examples;
+mod slivers;
 mod spoil;
 mod stream;
 mod table;

@@ -316,8 +316,10 @@ fn plan_files_with_m_first() {
     assert_eq!(second(1), "MEETS cycle 8");
     assert_eq!(second(2), "REFUSED 12 at 1");
     assert_eq!(second(3), "REFUSED 12 at 0");
-    let full = |m| plan_numbers(&[m, 65_536, 1, 0, 65_536, 0]);
-    assert_eq!(full(65_536), "MEETS cycle 65536");
+    // Two ticks of work are due after one.
+    let full = |m| plan_numbers(&[m, 65_536, 1, 0, 65_536, 1, 2, 65_536, 1]);
+    let missed = "MISS length 1 start 0 demand 2 supply 1";
+    assert_eq!(full(65_536), missed);
     assert_eq!(full(65_537), "REFUSED 12 at 64");
 }
 
