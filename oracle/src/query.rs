@@ -20,7 +20,7 @@ pub const MOST_TRACE_BYTES: u64 = 20_000;
 /// Code 16, "on a board": settings, then a query whose windows are in threes.
 pub const BOARD: u64 = 16;
 /// How many settings there may be: the owner asked for, or the owner and m.
-pub const SETTINGS: [u64; 2] = [1, 2];
+const SETTINGS: [u64; 2] = [1, 2];
 /// The codes that may stand under 16.
 pub const ON_A_BOARD: [u64; 13] = [1, 2, 3, 4, 6, 7, 8, 9, 12, 13, 14, 15, 17];
 
