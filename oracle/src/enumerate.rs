@@ -1,7 +1,7 @@
 //! Every small table, and every small group on the smaller ones; every small table that two teams
 //! share, and every one of up to two windows that may break every rule, without a shortest allowed
-//! window m and with every one that is not far longer than the frame; every short plan file with m
-//! first; every bad query by a code or a count of code 16.
+//! window m and with every one that is not far longer than the frame; every short plan file, of the
+//! old form and with m first; every bad query by a code or a count of code 16.
 
 use crate::generate;
 use crate::numbers::encode;
@@ -22,11 +22,11 @@ const MOST_PERIOD: u64 = 6;
 const MOST_SHARED_FRAME: u64 = 6;
 /// The frame of the windows that may break every rule.
 const FRAME_OF_ANY_WINDOWS: u64 = 3;
-/// Every plan file of up to so many of these bytes: m, P, one window, no task and a byte more.
+/// Every plan file of up to so many of these bytes: with m first, one window and no task take six.
 const MOST_ANY_BYTES: usize = 7;
 const ANY_BYTES: [u8; 6] = [0, 1, 2, 3, 4, 0x80];
 
-/// Streams of bad queries, then of every small outage, shared table, plan with m and verdict.
+/// Streams of bad queries, then of every small outage, shared table, plan and verdict.
 pub fn streams() -> impl Iterator<Item = Vec<u8>> {
     let bad = bad_queries().into_iter().map(|numbers| encode(&numbers));
     bad.chain(streams_of_queries())
@@ -209,14 +209,15 @@ fn plans() -> impl Iterator<Item = Query> {
     })
 }
 
-/// Every plan file with m first of up to 7 bytes, each one of six.
+/// Every plan file of up to 7 bytes, each one of six, in both forms.
 fn any_plans() -> impl Iterator<Item = Query> {
     let choices = ANY_BYTES.len();
     (0..=MOST_ANY_BYTES).flat_map(move |count| {
         let files = 0..choices.pow(count as u32);
-        files.map(move |file| {
+        files.flat_map(move |file| {
             let byte = |index: usize| ANY_BYTES[file / choices.pow(index as u32) % choices];
-            Query::Plan(Form::WithShortest, (0..count).map(byte).collect())
+            let bytes: Vec<u8> = (0..count).map(byte).collect();
+            [Form::Old, Form::WithShortest].map(|form| Query::Plan(form, bytes.clone()))
         })
     })
 }
@@ -305,6 +306,7 @@ fn table_of_ticks(frame: u64, set: u64) -> TableNumbers {
 mod tests {
     use super::*;
     use crate::stream;
+    use std::collections::BTreeSet;
 
     #[test]
     fn as_many_as_there_are() {
@@ -359,10 +361,9 @@ mod tests {
         // Sets of P ticks and P + 2 numbers, with five groups.
         let tables: usize = (1..=7).map(|frame| ((1 << frame) - 1) * (frame + 2)).sum();
         assert_eq!(plans().count(), 5 * tables);
-        // 6^0 to 6^7, and no file twice.
-        assert_eq!(any_plans().count(), (6usize.pow(8) - 1) / 5);
-        let files: std::collections::BTreeSet<Vec<u64>> =
-            any_plans().map(|query| query.numbers()).collect();
+        // 6^0 to 6^7, in two forms, and no file twice.
+        assert_eq!(any_plans().count(), 2 * (6usize.pow(8) - 1) / 5);
+        let files: BTreeSet<Vec<u64>> = any_plans().map(|query| query.numbers()).collect();
         assert_eq!(files.len(), any_plans().count());
     }
 

@@ -251,9 +251,8 @@ mod tests {
         let has_sliver = !slivers.is_empty();
         let reason = refusal.reason as u8;
         let count = table.windows.len() / 3;
-        let is_list = table.windows.len() % 3 > 0 || count == 0 || count > 64;
-        let is_absent = reason == 1 && !is_list && table.owner.is_some();
-        let (one, absent) = (reason == 1 && is_list, is_absent);
+        let is_list = !table.windows.len().is_multiple_of(3) || count == 0 || count > 64;
+        let (one, absent) = (reason == 1 && is_list, reason == 1 && !is_list);
         vec![
             ("1 before a sliver", one && has_sliver),
             ("1 before m's range", one && out),
