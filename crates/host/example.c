@@ -1,6 +1,6 @@
 /*
- * Document 01's marked examples on a table that two teams share, the other team's answers, and one refusal of each number, through palikudyom.h: one line
- * an answer. example.query asks the same, line by line, of the second program, and example.stdout is what that one answers.
+ * Document 01's marked examples on a table that two teams share, the other team's answers, one refusal of each number, and a board with a shortest allowed
+ * window, through palikudyom.h: one line an answer. example.query asks the same, line by line, of the second program, and example.stdout is what that one answers.
  */
 #include "palikudyom.h"
 #include <stdio.h>
@@ -11,8 +11,8 @@
 
 /* the table X is owner 0's: a frame of 8 ticks, supplied in 0, 1, 5 and 6. The other ticks are owner 1's */
 #define FRAME 8
-static const struct palikudyom_board FIRST = {FRAME, 0};
-static const struct palikudyom_board SECOND = {FRAME, 1};
+static const struct palikudyom_board FIRST = {FRAME, 0, 1};
+static const struct palikudyom_board SECOND = {FRAME, 1, 1};
 static const uint32_t X[] = {0, 2, 0, 2, 5, 1, 5, 7, 0, 7, 8, 1};
 static const uint32_t LAB[] = {0, 3, 0, 3, 5, 1, 5, 8, 0}; /* document 02, request 1, as owner 1's */
 static const uint32_t PAIRS[] = {0, 2, 5, 7}; /* X as a plan file has it */
@@ -186,17 +186,30 @@ static void second_team(void)
     line("", palikudyom_verdict(SECOND, LIST(X), LIST(W5)));
     line("", palikudyom_verdict(SECOND, LIST(X), LIST(W6)));
     line("", palikudyom_bound(SECOND, LIST(X), LIST(W11), 1));
-    const struct palikudyom_board third = {FRAME, 2};
+    const struct palikudyom_board third = {FRAME, 2, 1};
     line("OUTAGE ", palikudyom_outage(third, LIST(X)));
     const uint32_t first_alone[] = {0, 2, 0};
     line("", palikudyom_verdict(SECOND, LIST(first_alone), NONE));
+}
+
+/* boards that can't use short windows: X's have two ticks each, and owner 1's last window has one */
+static void slivers(void)
+{
+    const uint32_t alone[] = {0, 2, 0, 5, 7, 0};
+    const struct palikudyom_board two = {FRAME, 0, 2};
+    const struct palikudyom_board three = {FRAME, 0, 3};
+    const struct palikudyom_board none = {FRAME, 0, 0};
+    line("", palikudyom_verdict(two, LIST(alone), LIST(W6)));
+    line("", palikudyom_verdict(three, LIST(alone), LIST(W6)));
+    line("OUTAGE ", palikudyom_outage(two, LIST(X))); /* the other team's */
+    line("", palikudyom_delay(none, LIST(alone)));
 }
 
 static void refusals(void)
 {
     const uint32_t pairs[] = {0, 2, 5, 7};
     line("AMOUNT ", palikudyom_least_supply(FIRST, LIST(pairs), 4));
-    const struct palikudyom_board no_frame = {0, 0};
+    const struct palikudyom_board no_frame = {0, 0, 1};
     line("AMOUNT ", palikudyom_least_supply(no_frame, LIST(X), 4));
     const uint32_t touching[] = {0, 2, 0, 2, 4, 0};
     line("", palikudyom_delay(FIRST, LIST(touching)));
@@ -233,6 +246,16 @@ static void traces(void)
     replay(LIST(W7), LIST(against_the_order));
 }
 
+/* the same of a plan that begins with the shortest allowed window */
+static void plan_with_shortest(const uint8_t *bytes, size_t bytes_len)
+{
+    uint8_t out[128];
+    struct palikudyom_answer x = palikudyom_line_with_shortest(bytes, bytes_len, LIST(out));
+    if (x.code == PALIKUDYOM_AMOUNT)
+        printf("%.*s", (int)x.a, (const char *)out);
+    line("", palikudyom_plan_with_shortest(bytes, bytes_len));
+}
+
 static void plans(void)
 {
     uint8_t bytes[64];
@@ -244,12 +267,18 @@ static void plans(void)
         plan(bytes, x.a);
     const uint8_t unfinished[] = {8, 2, 0, 130};
     plan(LIST(unfinished));
+    for (uint32_t shortest = 2; shortest <= 3; shortest++) {
+        x = palikudyom_write_plan_with_shortest(shortest, FRAME, LIST(PAIRS), LIST(W6), LIST(bytes));
+        if (x.code == PALIKUDYOM_AMOUNT)
+            plan_with_shortest(bytes, x.a);
+    }
 }
 
 int main(void)
 {
     examples();
     second_team();
+    slivers();
     refusals();
     traces();
     plans();

@@ -55,6 +55,7 @@ enum palikudyom_code {
  *  10       the job list is not in threes or over 4,096 jobs, or the run is over 1,100,000 ticks; the same of a trace's releases and ticks
  *  11 at j  job j is out of order, of no task, too early after the last of its task, released after the run, or its work is outside 1 to C; of a trace:
  *           record j is against the order of records, or such a release
+ *  12 at i  window i of the whole list, whoever owns it, is shorter than the board allows; at 64 the shortest allowed window is outside 1 to 65,536
  */
 struct palikudyom_answer {
     uint32_t code;
@@ -64,60 +65,67 @@ struct palikudyom_answer {
     uint64_t d;
 };
 
-/* The frame, and the owner that is asked for: 0 or 1. */
+/* The frame, the owner that is asked for, 0 or 1, and the shortest allowed window: 1 allows every window, and 0 is refused. */
 struct palikudyom_board {
     uint32_t frame;
     uint32_t owner;
+    uint32_t shortest;
 };
 
 /*
  * A list is a pointer and how many numbers it has: windows are start, end and owner of each (of a plan start and end, all owner 0's), tasks are work,
  * period and deadline of each, jobs are release tick, task index and work of each. A table may be shared by two teams: what an owner is answered depends
- * on the frame and its own windows, and on the other team's only by the refusals 1 2 3. After each function: what it answers beside REFUSED, and its
- * refusals in the order of its checks; 1* is that of an owner without a window.
+ * on the frame and its own windows, and on the other team's only by the refusals 1 2 3 12. After each function: what it answers beside REFUSED, and its
+ * refusals in the order of its checks; T is a table's: 1 2 3, then 1 of an owner without a window, then 12.
  */
 
-/* The least supply of `length` ticks, over all starts. AMOUNT; 1 2 3 1* 7 */
+/* The least supply of `length` ticks, over all starts. AMOUNT; T 7 */
 struct palikudyom_answer palikudyom_least_supply(struct palikudyom_board board, const uint32_t *windows, size_t windows_len, uint32_t length);
 
-/* The critical partition: how many windows, with start and end of each in `out`, whose rest is kept. AMOUNT; 1 2 3 1* 8 */
+/* The critical partition: how many windows, with start and end of each in `out`, whose rest is kept. AMOUNT; T 8 */
 struct palikudyom_answer palikudyom_critical(struct palikudyom_board board, const uint32_t *windows, size_t windows_len, uint32_t *out, size_t out_len);
 
-/* DELAY; 1 2 3 1* */
+/* DELAY; T */
 struct palikudyom_answer palikudyom_delay(struct palikudyom_board board, const uint32_t *windows, size_t windows_len);
 
-/* The longest outage, over endless frames: the end of one joins the start of the next. AMOUNT; 1 2 3 1* */
+/* The longest outage, over endless frames: the end of one joins the start of the next. AMOUNT; T */
 struct palikudyom_answer palikudyom_outage(struct palikudyom_board board, const uint32_t *windows, size_t windows_len);
 
 /* The demand of the group at `length`. AMOUNT; 4 5 7 */
 struct palikudyom_answer palikudyom_demand(const uint32_t *tasks, size_t tasks_len, uint32_t length);
 
-/* Least supply minus demand at `length`. MARGIN, BELOW; 1 2 3 1* 4 5 7 */
+/* Least supply minus demand at `length`. MARGIN, BELOW; T 4 5 7 */
 struct palikudyom_answer palikudyom_margin(struct palikudyom_board board, const uint32_t *windows, size_t windows_len, const uint32_t *tasks, size_t tasks_len, uint32_t length);
 
-/* Whether the group meets its deadlines under earliest deadline first. MEETS, MISS; 1 2 3 1* 4 5 6 */
+/* Whether the group meets its deadlines under earliest deadline first. MEETS, MISS; T 4 5 6 */
 struct palikudyom_answer palikudyom_verdict(struct palikudyom_board board, const uint32_t *windows, size_t windows_len, const uint32_t *tasks, size_t tasks_len);
 
-/* The response bound of task `index` under fixed priority, lower index first. BOUND, NO_BOUND; 1 2 3 1* 4 5 7 */
+/* The response bound of task `index` under fixed priority, lower index first. BOUND, NO_BOUND; T 4 5 7 */
 struct palikudyom_answer palikudyom_bound(struct palikudyom_board board, const uint32_t *windows, size_t windows_len, const uint32_t *tasks, size_t tasks_len, uint32_t index);
 
-/* Runs a job list for `ticks` ticks, earliest deadline first, with a count for each job in `counts`, whose rest is kept. MET, MISSED; 1 2 3 1* 4 5 10 11 8 */
+/* Runs a job list for `ticks` ticks, earliest deadline first, with a count for each job in `counts`, whose rest is kept. MET, MISSED; T 4 5 10 11 8 */
 struct palikudyom_answer palikudyom_run(struct palikudyom_board board, const uint32_t *windows, size_t windows_len, const uint32_t *tasks, size_t tasks_len, uint32_t ticks,
                                         const uint32_t *jobs, size_t jobs_len, uint32_t *counts, size_t counts_len);
 
-/* A board's trace against that run of its releases. SAME, DIFFERS, TRACE_ENDED, MACHINE_ENDED, TRACE_MISSED; 9 1 2 3 1* 4 5 10 11 */
+/* A board's trace against that run of its releases. SAME, DIFFERS, TRACE_ENDED, MACHINE_ENDED, TRACE_MISSED; 9 T 4 5 10 11 */
 struct palikudyom_answer palikudyom_replay(struct palikudyom_board board, const uint32_t *windows, size_t windows_len, const uint32_t *tasks, size_t tasks_len,
                                            const uint8_t *trace, size_t trace_len);
 
 /* The verdict of a plan file's bytes. MEETS, MISS; 9 (and 1, 4 as soon as a count is read), then 2 3 5 6 */
 struct palikudyom_answer palikudyom_plan(const uint8_t *bytes, size_t bytes_len);
 
-/* The line of that verdict, refused plans too, in `out`, whose rest is kept: how many bytes. AMOUNT; 8 */
-struct palikudyom_answer palikudyom_line(const uint8_t *bytes, size_t bytes_len, uint8_t *out, size_t out_len);
+/* Of a plan file that begins with the shortest allowed window. MEETS, MISS; 9 (and 1, 4 as soon as a count is read), then 2 3 12 5 6 */
+struct palikudyom_answer palikudyom_plan_with_shortest(const uint8_t *bytes, size_t bytes_len);
 
-/* A plan file's bytes in `out`, whose rest is kept: how many. AMOUNT; 1 4 8 */
+/* The line of those verdicts, refused plans too, in `out`, whose rest is kept: how many bytes. AMOUNT; 8 */
+struct palikudyom_answer palikudyom_line(const uint8_t *bytes, size_t bytes_len, uint8_t *out, size_t out_len);
+struct palikudyom_answer palikudyom_line_with_shortest(const uint8_t *bytes, size_t bytes_len, uint8_t *out, size_t out_len);
+
+/* A plan file's bytes, of either form, in `out`, whose rest is kept: how many. AMOUNT; 1 4 8 */
 struct palikudyom_answer palikudyom_write_plan(uint32_t frame, const uint32_t *windows, size_t windows_len, const uint32_t *tasks, size_t tasks_len,
                                                uint8_t *out, size_t out_len);
+struct palikudyom_answer palikudyom_write_plan_with_shortest(uint32_t shortest, uint32_t frame, const uint32_t *windows, size_t windows_len,
+                                                             const uint32_t *tasks, size_t tasks_len, uint8_t *out, size_t out_len);
 
 #ifdef __cplusplus
 }

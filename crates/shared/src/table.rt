@@ -10,13 +10,14 @@ use tables::window::MadeWindow;
 use tables::window::Window;
 use tables::window::check_list;
 ghost use mathlib.Core.Path.{_≡_};
-ghost use Prim.Native.Nat.{_-_, _≤_};
+ghost use Prim.Native.Nat.{_≤_};
+ghost use lib.Dec.{eqb};
 ghost use lib.ListN.{length};
 ghost use Rattle.scope.specs.Numbers.{written};
-ghost use Rattle.scope.specs.Answers.{faultAt};
+ghost use Rattle.scope.specs.Answers.{faultIf, faultAt};
 ghost use Rattle.scope.specs.Shared.{owned, ownedOf, ownedAt, own, follows, ownedLegal, ownedFault, ownedAnswer, wholeFault};
 ghost use Rattle.scope.specs.Shared.{sliver, firstSliver, sliverFault};
-ghost use Rattle.scope.specs.Shared.{absentOwnerFault, sharedFault, ownAnswer, ownOut, asOwned, asOwnedAnswer, asOwnedOut};
+ghost use Rattle.scope.specs.Shared.{sharedFault, ownAnswer, ownOut, asOwned, asOwnedAnswer, asOwnedOut};
 ghost use Rattle.tables.specs.Told.{boardOf, faultOf, toldAmount};
 ghost use Rattle.shared.specs.Told.{ownedBy, toldOwned};
 
@@ -160,11 +161,11 @@ fn count_own(board: Board, windows: &[u32]) -> usize
     numbers
 }
 
-// Refusal 1 of an owner that has no window. One that does not exist has none in a list that keeps rule 3.
-fn check_owner(board: Board, windows: &[u32]) -> Checked
-    ensures { λ r. ⌜ faultOf r ≡ absentOwnerFault (boardOf board) (now (windows .entry)) ⌝ }
+// Refusal 1 of an owner whose windows have so many numbers: none. An owner that does not exist has none in a list that keeps rule 3.
+fn check_present(numbers: usize) -> Checked
+    ensures { λ r. ⌜ faultOf r ≡ faultIf (eqb numbers 0) 1 0 ⌝ }
 {
-    if count_own(board, windows) == 0 {
+    if numbers == 0 {
         return Checked::Bad(Refusal::WindowList);
     }
     Checked::Fine
@@ -196,14 +197,23 @@ fn check_slivers(board: Board, windows: &[u32]) -> Checked
     range.or_else(each)
 }
 
-// The refusals of a table, in this order: 1, 2 and 3 of the whole list, 1 of an absent owner, 12.
-pub(crate) fn check_shared(owners: u32, board: Board, windows: &[u32]) -> Checked
+// The refusals of a table, in this order: 1, 2 and 3 of the whole list, 1 of an absent owner, 12. How many numbers the owner's windows have is counted before.
+fn check_counted(owners: u32, board: Board, windows: &[u32], numbers: usize) -> Checked
+    requires { ⌜ numbers ≡ length (own (boardOf board) (now windows)) ⌝ }
     ensures { λ r. ⌜ faultOf r ≡ sharedFault owners (boardOf board) (now (windows .entry)) ⌝ }
 {
     let whole = check_whole(owners, board, windows);
-    let owner = check_owner(board, windows);
+    let owner = check_present(numbers);
     let sliver = check_slivers(board, windows);
     whole.or_else(owner.or_else(sliver))
+}
+
+// The refusals of a table.
+pub(crate) fn check_shared(owners: u32, board: Board, windows: &[u32]) -> Checked
+    ensures { λ r. ⌜ faultOf r ≡ sharedFault owners (boardOf board) (now (windows .entry)) ⌝ }
+{
+    let numbers = count_own(board, windows);
+    check_counted(owners, board, windows, numbers)
 }
 
 // Writes the windows of the asked owner at the front of out, in pairs.
@@ -231,10 +241,10 @@ pub fn own_windows(owners: u32, board: Board, windows: &[u32], out: &mut [u32]) 
     ensures answer { λ r. ⌜ toldAmount r ≡ ownAnswer owners (boardOf board) (now (windows .entry)) (length (now (out .entry))) ⌝ }
     ensures buffer { λ _. ⌜ now (out .exit) ≡ ownOut owners (boardOf board) (now (windows .entry)) (now (out .entry)) ⌝ }
 {
-    match check_shared(owners, board, windows) {
+    let numbers = count_own(board, windows);
+    match check_counted(owners, board, windows, numbers) {
         Checked::Bad(r) => refuse(r, out),
         Checked::Fine => {
-            let numbers = count_own(board, windows);
             if out.len() < numbers {
                 refuse(Refusal::Room(numbers as u64), out)
             } else {
