@@ -21,7 +21,8 @@ enum {
     MOST_JOBS = 4096,     /* of a run */
     LONGEST_RUN = 1100000,
     RELEASE_BYTES = 10,   /* of a record, at most: kind and task take one each, work three, a stamp five */
-    COMPLETION_BYTES = 7
+    COMPLETION_BYTES = 7,
+    LONGEST_PLAN = 1132
 };
 static const double SHORTEST = 0.05; /* seconds that a measurement takes at least */
 static const double LONG = 0.4;      /* seconds after which a measurement is long */
@@ -42,6 +43,8 @@ struct input {
     uint8_t trace[(RELEASE_BYTES + COMPLETION_BYTES) * MOST_JOBS]; /* of the run of these jobs */
     size_t trace_len;
     uint32_t records;
+    uint8_t plan[LONGEST_PLAN]; /* of the board, the windows, which are owner 0's, and the tasks */
+    size_t plan_len;
 };
 
 /* Entries: each of both sides as a function of an input and a lent buffer of ROOM numbers */
@@ -92,6 +95,11 @@ typedef struct palikudyom_answer ask(const struct input *x, uint32_t *buffer);
     {                                                                                                                   \
         (void)buffer;                                                                                                   \
         return side##_replay(x->board, x->windows, x->windows_len, x->tasks, x->tasks_len, x->trace, x->trace_len);     \
+    }                                                                                                                   \
+    static struct palikudyom_answer side##_asked_for_plan(const struct input *x, uint32_t *buffer)                     \
+    {                                                                                                                   \
+        (void)buffer;                                                                                                   \
+        return side##_plan_with_shortest(x->plan, x->plan_len);                                                         \
     }
 
 SIDE(palikudyom)
@@ -123,6 +131,7 @@ static const struct entry VERDICT = {"verdict", palikudyom_asked_for_verdict, pl
 static const struct entry BOUND = {"bound", palikudyom_asked_for_bound, plain_asked_for_bound};
 static const struct entry RUN = {"run", palikudyom_asked_for_run, plain_asked_for_run};
 static const struct entry REPLAY = {"replay", palikudyom_asked_for_replay, plain_asked_for_replay};
+static const struct entry PLAN = {"plan, m first", palikudyom_asked_for_plan, plain_asked_for_plan};
 static const struct entry LEAST_SUPPLY_BY_TICKS = {"least supply", palikudyom_asked_for_least_supply, plain_asked_for_least_supply_by_ticks};
 static const struct entry RUN_EVERY_TICK = {"run", palikudyom_asked_for_run, plain_asked_for_run_every_tick};
 
@@ -281,7 +290,7 @@ static void early_windows(struct input *x, uint32_t frame, uint32_t count)
 /* two teams by turns, so many windows each, that leave no tick free: owner 1's of `ticks` ticks, who is asked for, end at even distances */
 static void shared_windows(struct input *x, uint32_t frame, uint32_t count, uint32_t ticks)
 {
-    x->board = (struct palikudyom_board){frame, 1};
+    x->board = (struct palikudyom_board){frame, 1, 1};
     for (uint32_t i = 0; i < count; i++) {
         uint32_t end = (i + 1) * (frame / count);
         add_owned(x, i * (frame / count), end - ticks, 0);
@@ -316,14 +325,33 @@ static void release_all(struct input *x, uint32_t ticks)
             }
 }
 
-/* Making traces */
+/* Making plans and traces */
 
-/* in seven-bit groups */
-static void add_number(struct input *x, uint32_t n)
+/* in seven-bit groups, at the end of `len` bytes */
+static void put_number(uint8_t *bytes, size_t *len, uint32_t n)
 {
     for (; 128 <= n; n /= 128)
-        x->trace[x->trace_len++] = n % 128 + 128;
-    x->trace[x->trace_len++] = n;
+        bytes[(*len)++] = n % 128 + 128;
+    bytes[(*len)++] = n;
+}
+
+static void add_number(struct input *x, uint32_t n)
+{
+    put_number(x->trace, &x->trace_len, n);
+}
+
+/* the input's plan, with its shortest allowed window first */
+static void write_plan(struct input *x)
+{
+    put_number(x->plan, &x->plan_len, x->board.shortest);
+    put_number(x->plan, &x->plan_len, x->board.frame);
+    put_number(x->plan, &x->plan_len, x->windows_len / 3);
+    for (size_t i = 0; i < x->windows_len; i++)
+        if (i % 3 != 2)
+            put_number(x->plan, &x->plan_len, x->windows[i]);
+    put_number(x->plan, &x->plan_len, x->tasks_len / 3);
+    for (size_t i = 0; i < x->tasks_len; i++)
+        put_number(x->plan, &x->plan_len, x->tasks[i]);
 }
 
 static void add_release(struct input *x, size_t j, uint32_t stamp)
@@ -596,6 +624,29 @@ static void worst_replay(struct input *x)
     record_run(x);
 }
 
+/* plans whose board allows no shorter window than they have */
+
+static void small_plan(struct input *x)
+{
+    small_verdict(x);
+    x->board.shortest = 2;
+    write_plan(x);
+}
+
+static void typical_plan(struct input *x)
+{
+    typical_verdict(x);
+    x->board.shortest = 62;
+    write_plan(x);
+}
+
+static void worst_plan(struct input *x)
+{
+    worst_verdict(x);
+    x->board.shortest = 1023;
+    write_plan(x);
+}
+
 /*
  * Inputs of the table of two teams. Typical: owner 0, who is asked for, has the windows of the typical inputs above, and gets their answers. Worst: 32
  * windows of each owner, by turns and touching; owner 1 is asked for.
@@ -637,7 +688,7 @@ static void typical_shared_run(struct input *x)
 /* windows of one tick from 0 on; as `early_table` for owner 1 */
 static void early_shared_table(struct input *x)
 {
-    x->board = (struct palikudyom_board){65536, 1};
+    x->board = (struct palikudyom_board){65536, 1, 1};
     for (uint32_t i = 0; i < 64; i++)
         add_owned(x, i, i + 1, i % 2);
 }
@@ -864,6 +915,9 @@ static const struct one_case CASES[] = {
     {&REPLAY, "small", "P 8, 2 windows, 2 tasks, 4 records, 7 ticks", PALIKUDYOM_SAME, 0, small_replay, 0},
     {&REPLAY, "typical", "P 1,000, 8 windows, 8 tasks, 72 records, 9,164 ticks", PALIKUDYOM_SAME, 0, typical_replay, 0},
     {&REPLAY, "worst", "P 65,536, 64 windows, 32 tasks, 8,192 records, 1,100,000 ticks", PALIKUDYOM_SAME, 0, worst_replay, 0},
+    {&PLAN, "small", "m 2, P 8, 2 windows, 2 tasks, meets, H 8", PALIKUDYOM_MEETS, 8, small_plan, 0},
+    {&PLAN, "typical", "m 62, P 1,000, 8 windows, 8 tasks, meets, H 10,000", PALIKUDYOM_MEETS, 10000, typical_plan, 0},
+    {&PLAN, "worst", "m 1,023, P 65,536, 64 windows, 32 tasks, meets, H 983,040, 982,080 asks", PALIKUDYOM_MEETS, 983040, worst_plan, 5},
 };
 
 static const struct one_case SHARED[] = {
@@ -970,6 +1024,13 @@ static void print_figures(double n)
 
 static struct input input; /* the one in use: too large for the stack */
 
+/* nothing yet, and every window is allowed */
+static void clear_input(void)
+{
+    memset(&input, 0, sizeof input);
+    input.board.shortest = 1;
+}
+
 struct pair {
     double proved;
     double plain;
@@ -978,7 +1039,7 @@ struct pair {
 static struct pair time_case(const struct one_case *c)
 {
     struct pair times;
-    memset(&input, 0, sizeof input);
+    clear_input();
     c->make(&input);
     compare(c->entry, c->name, c->code, c->first, &input);
     measure_both(c->entry->proved, c->entry->plain, &input, &times.proved, &times.plain);
@@ -1042,7 +1103,7 @@ static void print_gain(const struct one_case *c, struct pair times, double gaine
 /* the proved replay beside the proved run of the same jobs and ticks */
 static void print_beside_run(const struct one_case *c)
 {
-    memset(&input, 0, sizeof input);
+    clear_input();
     c->make(&input);
     compare(c->entry, c->name, c->code, c->first, &input);
     compare(&RUN, c->name, PALIKUDYOM_MET, 0, &input);
@@ -1064,7 +1125,7 @@ static void print_growth(const struct growth *g)
     double times[LENGTH(g->sizes)];
     size_t count = 0;
     while (count < LENGTH(g->sizes) && g->sizes[count] != 0) {
-        memset(&input, 0, sizeof input);
+        clear_input();
         g->make(&input, g->sizes[count]);
         compare(g->entry, g->words, g->code, 0, &input);
         times[count++] = measure_proved(g->entry, &input);

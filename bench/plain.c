@@ -1,6 +1,6 @@
 /*
- * The yardstick: the proved code's algorithms once more, in plain C. Function by function the loops, checks and scans of crates/tables, supply,
- * checker, jobs, machine and replay, no cleverer and no slower, so that a ratio tells what the proof costs and not what an algorithm costs.
+ * The yardstick: the proved code's algorithms once more, in plain C. Function by function the loops, checks and scans of crates/tables, shared, supply,
+ * checker, jobs, machine, replay and plan, no cleverer and no slower, so that a ratio tells what the proof costs and not what an algorithm costs.
  */
 #include "plain.h"
 #include <stdbool.h>
@@ -13,6 +13,7 @@
 
 enum {
     LONGEST_FRAME = 65536,
+    MOST_SHORTEST = 65536,
     MOST_WINDOWS = 64,
     TEAMS = 2,
     MOST_TASKS = 32,
@@ -24,6 +25,7 @@ enum {
     NO_TASK = 32,
     NO_JOB = 4096,
     MOST_GROUPS = 5,
+    SETTINGS = 1,
     RELEASE = 0 /* kind of a record; a completion is the other */
 };
 
@@ -134,7 +136,7 @@ static struct checked check_table(uint32_t frame, struct list windows)
     return or_else(list, or_else(board, each));
 }
 
-/* Tables: shared.rt. A table is in threes: start, end and owner */
+/* Shared: table.rt. A table is in threes: start, end and owner */
 
 static uint32_t owned_start_of(struct list table, size_t i)
 {
@@ -198,16 +200,41 @@ static size_t count_own(uint32_t owner, struct list table)
     return numbers;
 }
 
-static struct checked check_owner(uint32_t owner, struct list table)
+static struct checked check_shortest(uint32_t shortest)
 {
-    return count_own(owner, table) == 0 ? bad(1, 0) : FINE;
+    return shortest == 0 || MOST_SHORTEST < shortest ? bad(12, MOST_WINDOWS) : FINE;
+}
+
+static bool is_sliver(uint32_t shortest, struct list table, size_t i)
+{
+    uint32_t start = owned_start_of(table, i);
+    uint32_t end = owned_end_of(table, i);
+    uint32_t ticks = start <= end ? end - start : 0;
+    return ticks < shortest;
+}
+
+static struct checked first_sliver(uint32_t shortest, struct list table)
+{
+    size_t count = table.len / 3;
+    for (size_t i = 0; i < count; i++)
+        if (is_sliver(shortest, table, i))
+            return bad(12, i);
+    return FINE;
+}
+
+/* `numbers`: those of the owner's windows */
+static struct checked check_counted(struct palikudyom_board board, struct list table, size_t numbers)
+{
+    struct checked whole = check_whole(board.frame, table);
+    struct checked owner = numbers == 0 ? bad(1, 0) : FINE;
+    struct checked range = check_shortest(board.shortest);
+    struct checked each = first_sliver(board.shortest, table);
+    return or_else(whole, or_else(owner, or_else(range, each)));
 }
 
 static struct checked check_shared(struct palikudyom_board board, struct list table)
 {
-    struct checked whole = check_whole(board.frame, table);
-    struct checked owner = check_owner(board.owner, table);
-    return or_else(whole, owner);
+    return check_counted(board, table, count_own(board.owner, table));
 }
 
 static void gather(uint32_t owner, struct list table, uint32_t *out)
@@ -231,10 +258,10 @@ struct own {
 /* every entry's first step; `room` is for MOST_WINDOWS pairs and is cleared before it is filled, as that of the proved code */
 static struct own own_windows(struct palikudyom_board board, struct list table, uint32_t *room)
 {
-    struct checked shared = check_shared(board, table);
+    size_t numbers = count_own(board.owner, table);
+    struct checked shared = check_counted(board, table, numbers);
     if (is_bad(shared))
         return (struct own){shared, {room, 0}};
-    size_t numbers = count_own(board.owner, table);
     gather(board.owner, table, room);
     return (struct own){FINE, {room, numbers}};
 }
@@ -1072,7 +1099,7 @@ struct palikudyom_answer plain_run_every_tick(struct palikudyom_board board, con
     return is_bad(c) ? refused(c) : run_legal(true, board.frame, own.windows, tasks, ticks, jobs, counts);
 }
 
-/* Traces: number.rt, read.rt */
+/* Plans and traces: number.rt */
 
 /* a lent list of bytes */
 struct bytes {
@@ -1120,6 +1147,8 @@ static struct number read_number(struct bytes bytes, size_t at)
     }
     return no_number(at);
 }
+
+/* Traces: read.rt */
 
 static struct number read_kind(struct bytes bytes, size_t at)
 {
@@ -1397,6 +1426,80 @@ struct palikudyom_answer plain_replay(struct palikudyom_board board, const uint3
     struct palikudyom_answer ran = plain_run(board, at, len, tasks_at, tasks_len, extent.ticks, jobs.at, jobs.len, counts, MOST_JOBS);
     uint32_t last = extent.ticks == 0 ? 0 : extent.ticks - 1;
     return named(ran, last, compare(trace, jobs, counts, last));
+}
+
+/* Plans: read.rt, check.rt */
+
+/* how many numbers were read to a buffer and the offset after them; or the refusal */
+struct listed {
+    struct checked refusal;
+    size_t count;
+    size_t next;
+};
+
+static struct listed no_list(struct checked refusal)
+{
+    return (struct listed){refusal, 0, 0};
+}
+
+static struct listed read_numbers(struct bytes bytes, size_t at, size_t n, uint32_t *out)
+{
+    size_t next = at;
+    for (size_t i = 0; i < n; i++) {
+        struct number number = read_number(bytes, next);
+        if (number.bad)
+            return no_list(bad(9, number.next));
+        out[i] = number.value;
+        next = number.next;
+    }
+    return (struct listed){FINE, n, next};
+}
+
+/* a count from `least` to `most`, then `each` numbers for each */
+static struct listed read_counted(struct bytes bytes, size_t at, size_t each, size_t least, size_t most, uint64_t refusal, uint32_t *out)
+{
+    struct number count = read_number(bytes, at);
+    if (count.bad)
+        return no_list(bad(9, count.next));
+    if (count.value < least || most < count.value)
+        return no_list(bad(refusal, 0));
+    return read_numbers(bytes, count.next, each * count.value, out);
+}
+
+/* the pairs as threes of owner 0 */
+static void as_owned(struct list pairs, uint32_t *out)
+{
+    for (size_t i = 0; i < pairs.len / 2; i++) {
+        out[3 * i] = start_of(pairs, i);
+        out[3 * i + 1] = end_of(pairs, i);
+        out[3 * i + 2] = 0;
+    }
+}
+
+struct palikudyom_answer plain_plan_with_shortest(const uint8_t *bytes_at, size_t bytes_len)
+{
+    struct bytes bytes = {bytes_at, bytes_len};
+    uint32_t settings[SETTINGS] = {0};
+    uint32_t windows[2 * MOST_WINDOWS] = {0};
+    uint32_t tasks[3 * MOST_TASKS] = {0};
+    struct listed first = read_numbers(bytes, 0, SETTINGS, settings);
+    if (is_bad(first.refusal))
+        return refused(first.refusal);
+    struct number frame = read_number(bytes, first.next);
+    if (frame.bad)
+        return refused(bad(9, frame.next));
+    struct listed w = read_counted(bytes, frame.next, 2, 1, MOST_WINDOWS, 1, windows);
+    if (is_bad(w.refusal))
+        return refused(w.refusal);
+    struct listed t = read_counted(bytes, w.next, 3, 0, MOST_TASKS, 4, tasks);
+    if (is_bad(t.refusal))
+        return refused(t.refusal);
+    if (t.next < bytes.len)
+        return refused(bad(9, t.next));
+    uint32_t owned[3 * MOST_WINDOWS] = {0};
+    as_owned((struct list){windows, w.count}, owned);
+    struct palikudyom_board board = {frame.value, 0, settings[0]};
+    return plain_verdict(board, owned, w.count / 2 * 3, tasks, t.count);
 }
 
 END_OF_FILE

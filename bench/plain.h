@@ -1,4 +1,4 @@
-/* The nine timed entries in plain C, as palikudyom.h declares the proved ones: the same arguments, the same answers and the same buffers after a call. */
+/* The ten timed entries in plain C, as palikudyom.h declares the proved ones: the same arguments, the same answers and the same buffers after a call. */
 #ifndef PLAIN_H
 #define PLAIN_H
 
@@ -24,6 +24,8 @@ struct palikudyom_answer plain_run(struct palikudyom_board board, const uint32_t
 
 struct palikudyom_answer plain_replay(struct palikudyom_board board, const uint32_t *windows, size_t windows_len, const uint32_t *tasks, size_t tasks_len,
                                       const uint8_t *trace, size_t trace_len);
+
+struct palikudyom_answer plain_plan_with_shortest(const uint8_t *bytes, size_t bytes_len);
 
 /* The least supply as it was before request 3: every start of a frame is tried, and each tick is looked for in all windows. */
 struct palikudyom_answer plain_least_supply_by_ticks(struct palikudyom_board board, const uint32_t *windows, size_t windows_len, uint32_t length);

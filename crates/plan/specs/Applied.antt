@@ -16,6 +16,7 @@ use Rattle.scope.specs.Plan.{Plan, planOf}
 use Rattle.scope.specs.Demands.{LeastMiss, Way, Served}
 use Rattle.scope.specs.Examples.{X, on, onAtLeast}
 use Rattle.scope.specs.Computing.{everything}
+use Rattle.theory.specs.Shortest.{PlanTwelve}
 use Rattle.theory.specs.Applied.{w6, w7, w13, w6-misses, w7-meets, w6-plan, w6-file, w6-reads}
 use Rattle.tables.specs.declared.answer.Verdict.{Verdict}
 use Rattle.tables.specs.declared.answer.Refusal.the-variants.{Sliver}
@@ -25,7 +26,7 @@ use Rattle.tables.specs.Determined.{verdict-determined}
 use Rattle.machine.specs.declared.run.Ran.{Ran}
 use Rattle.machine.specs.declared.run.Ran.the-variants.{Met}
 use Rattle.machine.specs.Told.{toldRan}
-use Rattle.plan.specs.Demands.{plan-verdict, plan-meets, plan-miss, plan-runs, plan-starves}
+use Rattle.plan.specs.Demands.{plan-verdict, plan-meets, plan-miss, plan-runs, plan-starves, plan-sliver}
 
 abbrev w7-plan : Plan
 w7-plan = record { settings = []; frame = 8; windows = X; tasks = w7 }
@@ -75,9 +76,9 @@ module _ (v : Verdict) (promised : toldVerdict v ≡ planAnswer 1 (2 ∷ w7-file
   carried-first = plan-meets 1 (2 ∷ w7-file) first-plan first-read v promised (Verdicts.meets 8) (ap toldVerdict let-in-first) 8 .0 let-in-first .1
 
 -- and with 3 first, where X's windows are slivers
-sliver-first : (v : Verdict) → toldVerdict v ≡ planAnswer 1 (3 ∷ w7-file) → v ≡ Refused (Sliver 0)
+sliver-first : (v : Verdict) → toldVerdict v ≡ planAnswer 1 (3 ∷ w7-file) → PlanTwelve 1 (3 ∷ w7-file) 0
 unfolding everything
-sliver-first v promised = verdict-determined v (Refused (Sliver 0)) promised
+sliver-first v promised = plan-sliver 1 (3 ∷ w7-file) v promised 0 .0 (verdict-determined v (Refused (Sliver 0)) promised)
 
 module _ (v : Verdict) (promised : toldVerdict v ≡ planAnswer 0 w6-file) where
   turned-away : v ≡ Miss 6 2 3 2

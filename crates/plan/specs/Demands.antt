@@ -20,12 +20,15 @@ use Rattle.scope.specs.Shared.{own, asOwned, verdictFor, runFor, runOutFor, pla
 use Rattle.theory.specs.Answers.{window-list-legal}
 use Rattle.theory.specs.PlanBytes.{read-writable}
 use Rattle.theory.specs.Alone.{verdict-entry, own-pairs, one-owner}
+use Rattle.theory.specs.Shortest.{PlanTwelve, plan-twelve}
 use Rattle.scope.specs.Plan.{Plan, planOf}
 use Rattle.scope.specs.Demands.{LeastMiss, Under, Way, Served}
 use Rattle.tables.specs.declared.board.Board.{Board}
+use Rattle.tables.specs.declared.answer.Refusal.the-variants.{Sliver}
 use Rattle.tables.specs.declared.answer.Verdict.{Verdict}
-use Rattle.tables.specs.declared.answer.Verdict.the-variants.{Meets, Miss}
+use Rattle.tables.specs.declared.answer.Verdict.the-variants.{Meets, Miss, Refused}
 use Rattle.tables.specs.Told.{boardOf, toldVerdict}
+use Rattle.tables.specs.Determined.{verdict-determined}
 use Rattle.machine.specs.declared.run.Ran.{Ran}
 use Rattle.machine.specs.declared.run.Ran.the-variants.{Met}
 use Rattle.machine.specs.Told.{toldRan}
@@ -89,3 +92,11 @@ module _ (k : ℕ) (bytes : List ℕ) (p : Plan) (read : planOf k bytes ≡ give
       (w : Way) → Served (suppliedBy (boardOf (askedBoard p)) (p .windows)) (tasksOf (p .tasks)) w s t → ⊥
   plan-starves t s d u m =
       rw plan-own at (miss-starves (askedBoard p) (askedWindows p) (p .tasks) v plan-asked t s d u m)
+
+-- request 5: 12 exactly when the file reads to a plan whose windows are slivers, or whose shortest window is out of its range
+pub plan-sliver : (k : ℕ) (bytes : List ℕ) (v : Verdict) → toldVerdict v ≡ planAnswer k bytes → (p : ℕ) → (v ≡ Refused (Sliver p)) ↔ PlanTwelve k bytes p
+plan-sliver k bytes v promised p =
+    let twelve = plan-twelve k bytes p in (
+      λ e. twelve .0 (sym promised ∙ ap toldVerdict e),
+      λ t. verdict-determined v (Refused (Sliver p)) (promised ∙ twelve .1 t),
+    )

@@ -48,7 +48,7 @@ use Rattle.theory.specs.Replays.{replay-given, same-completions, FirstPa
 use Rattle.theory.specs.Recorded.{recorded-same, recorded-met, recorded-missed}
 use Rattle.theory.specs.Shared.{one-owner-a-tick, no-such-owner}
 use Rattle.theory.specs.Alone.{verdict-entry, run-out-entry, teamsFault, alone, WholeRefusal, whole-refusal, Told, told-apart, own-alone, one-owner, replay-alone, replay-one-owner}
-use Rattle.theory.specs.Shortest.{verdict-known, Twelve, exactly-twelve, one-answer, never-twelve, smaller-same, replay-smaller, PlanTwelve, plan-twelve}
+use Rattle.theory.specs.Shortest.{verdict-known, Twelve, exactly-twelve, one-answer, never-twelve, smaller-same, replay-smaller, TraceTwelve, replay-twelve, PlanTwelve, plan-twelve}
 use Rattle.theory.specs.Shortest.{withSettings, smaller-plan, old-form}
 use Rattle.theory.specs.PlanBytes.{Writable, plan-length, round-trip, left-over, only-bytes}
 
@@ -552,6 +552,10 @@ x-at-one = one-answer teams (onFor 8 1) XShared refl refused (λ l. verdictAnswe
 trace-smaller : replayFor (onAtLeast 8 0 2) (asOwned 0 X) w7 trace ≡ replayFor (on 8) (asOwned 0 X) w7 trace
 unfolding everything
 trace-smaller = replay-smaller (onAtLeast 8 0 2) (on 8) (asOwned 0 X) w7 trace refl refl (omega arith) (omega arith) (λ p e. fault-not-fine (sym e))
+
+trace-sliver : TraceTwelve (onAtLeast 8 0 3) (asOwned 0 X) trace 0
+unfolding everything
+trace-sliver = replay-twelve (onAtLeast 8 0 3) (asOwned 0 X) w7 trace 0 .0 refl
 
 -- W6's file, with m = 1 before it, with m = 2 as with m = 1, and with m = 3
 w6-old-form : planAnswer 1 (1 ∷ w6-file) ≡ planAnswer 0 w6-file

@@ -21,7 +21,7 @@ use Rattle.scope.specs.Answers.{roomFault, jobListFault, jobFault, criticalOf, 
 use Rattle.scope.specs.Answers.{suppliedAnswer, leastSupplyAnswer, criticalAnswer, delayAnswer, outageAnswer, marginAnswer, verdictAnswer, boundAnswer, runAnswer}
 use Rattle.scope.specs.Plan.{Read, Read.read, Read.bad, readNumber, readNumbers, orNine, past, andThen, Plan, windowCountFault, taskCountFault, restFault, countedFrom, listsFrom, planFrom, planOf, numberBytesWithin, numberBytes}
 use Rattle.scope.specs.Plan.{numbersBytes, planBytes}
-use Rattle.scope.specs.Trace.{Record, timed, traceOf, ticksOf, releases, badRecord}
+use Rattle.scope.specs.Trace.{Stamped, Record, timed, traceOf, ticksOf, releases, badRecord}
 use Rattle.scope.specs.Replay.{extentFault, recordFault, replayFault, recordsAnswer}
 use Rattle.scope.specs.Shared.{ownedOf, windowsFor, own, ownedListFault, ownedFault, badOwned, ownedLegal, wholeFault, absentOwnerFault, sliverFault, sharedFault}
 use Rattle.scope.specs.Shared.{asOwned, unlessRefused, askedFor, verdictFor, recordsFor, replayFor, planBoard, planAnswer}
@@ -283,6 +283,25 @@ pub replay-smaller : (b c : Board) (ws ts bytes : List ℕ) → b .frame ≡ c .
 unfolding replayFor recordsFor
 replay-smaller b c ws ts bytes framed owner least less spared =
     or-nine (traceOf bytes) _ _ (λ rs next. smaller-same teams b c ws framed owner least less (records-entry ts (timed rs)) spared)
+
+-- a trace is refused by 12 exactly when its bytes read to records and the list of windows is
+pub record TraceTwelve (b : Board) (ws bytes : List ℕ) (p : ℕ) : Type 0 where
+  pub records : List Stamped
+  pub end : ℕ
+  pub reads : traceOf bytes ≡ read records end
+  pub twelve : Twelve teams b ws p
+
+pub replay-twelve : (b : Board) (ws ts bytes : List ℕ) (p : ℕ) → (replayFor b ws ts bytes ≡ refused 12 p) ↔ TraceTwelve b ws bytes p
+unfolding replayFor recordsFor
+replay-twelve b ws ts bytes p = (go (traceOf bytes) refl, λ t. rw (t .reads) (exactly (t .records) .1 (t .twelve)))
+  where
+    exactly : (rs : List Stamped) → (askedFor teams b ws refused (λ l. recordsAnswer b l ts (timed rs)) ≡ refused 12 p) ↔ Twelve teams b ws p
+    exactly rs = exactly-twelve teams b ws _ (records-known b ts (timed rs)) p
+
+    go : (r : Read (List Stamped)) → traceOf bytes ≡ r → orNine r (λ rs end. askedFor teams b ws refused (λ l. recordsAnswer b l ts (timed rs))) ≡ refused 12 p →
+        TraceTwelve b ws bytes p
+    go (read rs end) e f = record { records = rs; end = end; reads = e; twelve = exactly rs .0 f }
+    go (bad o) e f = let z : _≡_ {A = ℕ} 9 12 = cc in absurd (omega arith)
 
 -- ---- plan files
 
