@@ -142,14 +142,27 @@ static void replay(const uint32_t *tasks, size_t tasks_len, const uint8_t *trace
     line("", palikudyom_replay(FIRST, LIST(X), tasks, tasks_len, trace, trace_len));
 }
 
-/* the line of a plan, as text and by its answer */
+/* the line of a plan, as the text in `out` and by its answer */
+static void both(struct palikudyom_answer text, const uint8_t *out, struct palikudyom_answer x)
+{
+    if (text.code == PALIKUDYOM_AMOUNT)
+        printf("%.*s", (int)text.a, (const char *)out);
+    line("", x);
+}
+
 static void plan(const uint8_t *bytes, size_t bytes_len)
 {
     uint8_t out[128];
-    struct palikudyom_answer x = palikudyom_line(bytes, bytes_len, LIST(out));
-    if (x.code == PALIKUDYOM_AMOUNT)
-        printf("%.*s", (int)x.a, (const char *)out);
-    line("", palikudyom_plan(bytes, bytes_len));
+    struct palikudyom_answer text = palikudyom_line(bytes, bytes_len, LIST(out));
+    both(text, out, palikudyom_plan(bytes, bytes_len));
+}
+
+/* of one that begins with the shortest allowed window */
+static void plan_with_shortest(const uint8_t *bytes, size_t bytes_len)
+{
+    uint8_t out[128];
+    struct palikudyom_answer text = palikudyom_line_with_shortest(bytes, bytes_len, LIST(out));
+    both(text, out, palikudyom_plan_with_shortest(bytes, bytes_len));
 }
 
 static void examples(void)
@@ -244,16 +257,6 @@ static void traces(void)
     replay(LIST(W7), LIST(another_kind));
     const uint8_t against_the_order[] = {0, 1, 2, 100, 0, 0, 1, 100};
     replay(LIST(W7), LIST(against_the_order));
-}
-
-/* the same of a plan that begins with the shortest allowed window */
-static void plan_with_shortest(const uint8_t *bytes, size_t bytes_len)
-{
-    uint8_t out[128];
-    struct palikudyom_answer x = palikudyom_line_with_shortest(bytes, bytes_len, LIST(out));
-    if (x.code == PALIKUDYOM_AMOUNT)
-        printf("%.*s", (int)x.a, (const char *)out);
-    line("", palikudyom_plan_with_shortest(bytes, bytes_len));
 }
 
 static void plans(void)

@@ -14,6 +14,35 @@ use crate::trace_file::Before;
 use libc::STDERR_FILENO;
 use libc::STDIN_FILENO;
 
+// What the one argument asks for: one of the words, or the file that it names.
+fn answer(word: &[u8]) {
+    if check::same(word, b"-") {
+        plan_file::check(STDIN_FILENO, b"standard input", false);
+        return;
+    }
+    if check::same(word, b"--with-shortest") {
+        plan_file::check(STDIN_FILENO, b"standard input", true);
+        return;
+    }
+    if check::same(word, b"--ask") {
+        ask::answer_stream();
+        return;
+    }
+    if check::same(word, b"--replay") {
+        trace_file::replay(Before::Nothing);
+        return;
+    }
+    if check::same(word, b"--replay-for") {
+        trace_file::replay(Before::Owner);
+        return;
+    }
+    if check::same(word, b"--replay-on") {
+        trace_file::replay(Before::Settings);
+        return;
+    }
+    plan_file::check_named(word);
+}
+
 fn main() {
     if os::arg_count() < 2 {
         plan_file::check(STDIN_FILENO, b"standard input", false);
@@ -29,29 +58,5 @@ fn main() {
         os::fail(b"palikudyom: the file's name");
         return;
     }
-    if check::same(&word[..length], b"-") {
-        plan_file::check(STDIN_FILENO, b"standard input", false);
-        return;
-    }
-    if check::same(&word[..length], b"--with-shortest") {
-        plan_file::check(STDIN_FILENO, b"standard input", true);
-        return;
-    }
-    if check::same(&word[..length], b"--ask") {
-        ask::answer_stream();
-        return;
-    }
-    if check::same(&word[..length], b"--replay") {
-        trace_file::replay(Before::Nothing);
-        return;
-    }
-    if check::same(&word[..length], b"--replay-for") {
-        trace_file::replay(Before::Owner);
-        return;
-    }
-    if check::same(&word[..length], b"--replay-on") {
-        trace_file::replay(Before::Settings);
-        return;
-    }
-    plan_file::check_named(&word[..length]);
+    answer(&word[..length]);
 }

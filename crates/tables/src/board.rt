@@ -2,6 +2,8 @@ use crate::answer::Checked;
 use crate::answer::Refusal;
 use crate::window::Window;
 ghost use mathlib.Core.Path.{_≡_};
+ghost use mathlib.Core.Bool.{_||_};
+ghost use lib.Dec.{ltb, eqb};
 ghost use Rattle.scope.specs.Answers.{frameFault, shortestFault, boardAnswer};
 ghost use Rattle.tables.specs.Told.{boardOf, faultOf, toldBoard};
 
@@ -44,15 +46,18 @@ impl Board {
     }
 }
 
+// Whether a number is not 1 to `most`.
+fn out_of_range(n: u32, most: u32) -> bool
+    ensures { λ r. ⌜ r ≡ (eqb n 0 || ltb most n) ⌝ }
+{
+    n == 0 || most < n
+}
+
 // Refusal 2.
 pub fn check_frame(board: Board) -> Checked
     ensures { λ r. ⌜ faultOf r ≡ frameFault (boardOf board) ⌝ }
 {
-    let frame = board.frame;
-    if frame == 0 {
-        return Checked::Bad(Refusal::Frame);
-    }
-    if Board::LONGEST < frame {
+    if out_of_range(board.frame, Board::LONGEST) {
         return Checked::Bad(Refusal::Frame);
     }
     Checked::Fine
@@ -62,12 +67,8 @@ pub fn check_frame(board: Board) -> Checked
 pub fn check_shortest(board: Board) -> Checked
     ensures { λ r. ⌜ faultOf r ≡ shortestFault (boardOf board) ⌝ }
 {
-    let shortest = board.shortest;
     let place = Window::MOST as u64;
-    if shortest == 0 {
-        return Checked::Bad(Refusal::Sliver(place));
-    }
-    if Board::MOST_SHORTEST < shortest {
+    if out_of_range(board.shortest, Board::MOST_SHORTEST) {
         return Checked::Bad(Refusal::Sliver(place));
     }
     Checked::Fine
