@@ -381,9 +381,9 @@ mod tests {
                 1..=65_536 => first,
                 _ => Some(64),
             };
-            let is_table_s = table.check().is_err();
+            let refused_without_m = table.check().is_err();
             let line = match place {
-                Some(place) if !is_table_s => format!("REFUSED 12 at {place}"),
+                Some(place) if !refused_without_m => format!("REFUSED 12 at {place}"),
                 _ => without.line(),
             };
             assert_eq!(query.line(), line, "{query:?}");

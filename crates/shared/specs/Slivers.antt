@@ -9,7 +9,7 @@ use Rattle.scope.specs.Limits.{teams}
 use Rattle.scope.specs.Windows as Windows
 use Rattle.scope.specs.Answers.{Answer, Answer.refused, verdictAnswer}
 use Rattle.scope.specs.Shared.{asOwned, askedFor, verdictFor}
-use Rattle.scope.specs.Examples.{X}
+use Rattle.scope.specs.Examples.{X, XShared}
 use Rattle.scope.specs.Computing.{everything}
 use Rattle.theory.specs.Alone.{Entry, verdict-entry}
 use Rattle.theory.specs.Shortest.{Known, verdict-known, Twelve, exactly-twelve, smaller-answer}
@@ -51,14 +51,14 @@ module _ (b : Board) (ws ts : List ℕ) (v : Verdict) (promised : toldVerdict v 
   verdict-smaller =
       smaller-answered toldVerdict Refused (λ r. refl) verdict-determined (λ d l. verdictAnswer d l ts) b (verdict-known (boardOf b) ts) ws v promised (verdict-entry ts)
 
--- ---- at X, whose windows have two ticks each
+-- ---- at X, whose windows have two ticks each, and the rest of its frame as owner 1's, who has one of one tick, window 3
 
 abbrev board : ℕ → Board
 board m = record { frame = 8; owner = 0; shortest = m }
 
-x-refused : (v : Verdict) → toldVerdict v ≡ verdictFor (boardOf (board 3)) (asOwned 0 X) w6 → Twelve teams (boardOf (board 3)) (asOwned 0 X) 0
+x-refused : (v : Verdict) → toldVerdict v ≡ verdictFor (boardOf (board 2)) XShared w6 → Twelve teams (boardOf (board 2)) XShared 3
 unfolding everything
-x-refused v promised = verdict-sliver (board 3) (asOwned 0 X) w6 v promised 0 .0 (verdict-determined v (Refused (Sliver 0)) promised)
+x-refused v promised = verdict-sliver (board 2) XShared w6 v promised 3 .0 (verdict-determined v (Refused (Sliver 3)) promised)
 
 x-smaller : (v w : Verdict) → toldVerdict v ≡ verdictFor (boardOf (board 2)) (asOwned 0 X) w6 → toldVerdict w ≡ verdictFor (boardOf (board 1)) (asOwned 0 X) w6 →
     (v ≡ w) × (w ≡ Miss 6 2 3 2)

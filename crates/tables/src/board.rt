@@ -37,9 +37,9 @@ impl Board {
             owner,
             shortest,
         };
-        let ticks = check_frame(board);
-        let least = check_shortest(board);
-        match ticks.or_else(least) {
+        let framed = check_frame(board);
+        let ranged = check_shortest(board);
+        match framed.or_else(ranged) {
             Checked::Fine => MadeBoard::Is(board),
             Checked::Bad(r) => MadeBoard::Refused(r),
         }

@@ -102,21 +102,16 @@ records-entry ts rs = record { checks = λ b ws n p e. rw e; by-frame = λ b c w
 unfoldable pub teamsFault : ℕ → Board → List ℕ → Fault
 teamsFault owners b ws = wholeFault owners b ws orElse sliverFault b ws
 
-module _ (owners : ℕ) (b : Board) (ws : List ℕ) where
-  teams-parts : teamsFault owners b ws ≡ fine → (wholeFault owners b ws ≡ fine) × (sliverFault b ws ≡ fine)
-  unfolding teamsFault
-  teams-parts e = orElse-fine (wholeFault owners b ws) (sliverFault b ws) e
-
 -- of a list without one of them only 1 for an absent owner is left
 shared-absent : (owners : ℕ) (b : Board) (ws : List ℕ) → teamsFault owners b ws ≡ fine → sharedFault owners b ws ≡ absentOwnerFault b ws
-unfolding sharedFault
-shared-absent owners b ws e = let p = teams-parts owners b ws e in rw (p .0, p .1) (last (absentOwnerFault b ws))
+unfolding teamsFault sharedFault
+shared-absent owners b ws e = let p = orElse-fine (wholeFault owners b ws) (sliverFault b ws) e in rw (p .0, p .1) (last (absentOwnerFault b ws))
   where
     last : (f : Fault) → (f orElse fine) ≡ f
     last fine = refl
     last (fault n p) = refl
 
-absent-same : (b c : Board) (ws vs : List ℕ) → own b ws ≡ own c vs → absentOwnerFault b ws ≡ absentOwnerFault c vs
+pub absent-same : (b c : Board) (ws vs : List ℕ) → own b ws ≡ own c vs → absentOwnerFault b ws ≡ absentOwnerFault c vs
 unfolding absentOwnerFault
 absent-same b c ws vs same = ap (λ (l : List ℕ). faultIf (eqb (length l) 0) 1 0) same
 

@@ -49,7 +49,8 @@ use Rattle.theory.specs.Recorded.{recorded-same, recorded-met, recorded-
 use Rattle.theory.specs.Shared.{one-owner-a-tick, no-such-owner}
 use Rattle.theory.specs.Alone.{verdict-entry, run-out-entry, teamsFault, alone, WholeRefusal, whole-refusal, Told, told-apart, own-alone, one-owner, replay-alone, replay-one-owner}
 use Rattle.theory.specs.Shortest.{verdict-known, Twelve, exactly-twelve, one-answer, never-twelve, smaller-same, replay-smaller, TraceTwelve, replay-twelve, PlanTwelve, plan-twelve}
-use Rattle.theory.specs.Shortest.{withSettings, smaller-plan, old-form}
+use Rattle.theory.specs.Shortest.{own-twelve, own-smaller, smaller-plan, old-form, old-refused}
+use Rattle.theory.specs.Forms.{withSettings, refused-behind}
 use Rattle.theory.specs.PlanBytes.{Writable, plan-length, round-trip, left-over, only-bytes}
 
 abbrev pub w6 : List ℕ
@@ -290,10 +291,13 @@ w6-only bytes u e = only-bytes 0 bytes w6-plan e u ∙ w6-bytes
 w6-left-over : (b : ℕ) (rest : List ℕ) → planOf 0 (w6-file ++ (b ∷ rest)) ≡ refused 9 13
 w6-left-over b rest = rw w6-bytes at (left-over w6-plan w6-writable b rest)
 
--- of which a read of 1,128 bytes tells as much as a read of all
-w6-first-bytes : (b : ℕ) (rest : List ℕ) → planAnswer 0 (take (suc (mostPlanBytes 0)) (w6-file ++ (b ∷ rest))) ≡ refused 9 13
+-- of which a read of 1,133 bytes tells as much as a read of all, whichever form the file has
+w6-first-bytes : (b : ℕ) (rest : List ℕ) → planAnswer 0 (take (suc (mostPlanBytes mostSettings)) (w6-file ++ (b ∷ rest))) ≡ refused 9 13
 unfolding planAnswer
-w6-first-bytes b rest = first-answer (w6-file ++ (b ∷ rest)) (suc (mostPlanBytes 0)) 0 (omega arith) ∙ rw (w6-left-over b rest)
+w6-first-bytes b rest = first-answer (w6-file ++ (b ∷ rest)) (suc (mostPlanBytes mostSettings)) 0 (omega arith) ∙ rw (w6-left-over b rest)
+
+any-first-bytes : (bytes : List ℕ) → planAnswer mostSettings (take (suc (mostPlanBytes mostSettings)) bytes) ≡ planAnswer mostSettings bytes
+any-first-bytes bytes = first-answer bytes (suc (mostPlanBytes mostSettings)) mostSettings (omega arith)
 
 -- a plan as long as a plan can be: every number but the two counts takes five bytes
 longest : Plan
@@ -491,18 +495,18 @@ trace-alone =
 
 -- tick 2 is owner 1's, so it is not owner 0's
 tick-of-one : suppliedBy (on 8) (own (on 8) XShared) 2 ≡ true → ⊥
-unfolding everything teamsFault
+unfolding everything
 tick-of-one e = let z : _≡_ {A = ℕ} 0 1 = one-owner-a-tick teams (on 8) (onFor 8 1) XShared refl refl 2 e refl in omega arith
 
 -- there is no owner 2
 third-refused : sharedFault teams (onFor 8 2) XShared ≡ fault 1 0
-unfolding everything teamsFault
+unfolding everything
 third-refused = no-such-owner teams (onFor 8 2) XShared refl (omega arith)
 
 -- a list in which the other team's window is empty is told apart, by 3 at that window
 other-empty : Told teams (on 8) (0 ∷ 2 ∷ 0 ∷ []) (verdictFor (on 8) (0 ∷ 2 ∷ 0 ∷ []) []) refused
     ⊎ Told teams (on 8) (0 ∷ 2 ∷ 0 ∷ 4 ∷ 4 ∷ 1 ∷ []) (verdictFor (on 8) (0 ∷ 2 ∷ 0 ∷ 4 ∷ 4 ∷ 1 ∷ []) []) refused
-unfolding everything teamsFault
+unfolding everything
 other-empty =
     told-apart (verdict-entry []) teams (on 8) (on 8) (0 ∷ 2 ∷ 0 ∷ []) (0 ∷ 2 ∷ 0 ∷ 4 ∷ 4 ∷ 1 ∷ []) refl refl
     (λ e. let z : _≡_ {A = ℕ} 0 1 = cc in omega arith)
@@ -531,15 +535,37 @@ x-range =
     (record { whole = refl; present = refl; at = inl (inl refl, refl) })
 
 -- a list in which the other team has a sliver is told apart, by 12 at that window
-other-sliver : WholeRefusal 2 12 1
+other-sliver : Told teams (onAtLeast 8 0 2) (0 ∷ 2 ∷ 0 ∷ []) (verdictFor (onAtLeast 8 0 2) (0 ∷ 2 ∷ 0 ∷ []) []) refused
+    ⊎ Told teams (onAtLeast 8 0 2) (0 ∷ 2 ∷ 0 ∷ 4 ∷ 5 ∷ 1 ∷ []) (verdictFor (onAtLeast 8 0 2) (0 ∷ 2 ∷ 0 ∷ 4 ∷ 5 ∷ 1 ∷ []) []) refused
+unfolding everything
+other-sliver =
+    told-apart (verdict-entry []) teams (onAtLeast 8 0 2) (onAtLeast 8 0 2) (0 ∷ 2 ∷ 0 ∷ []) (0 ∷ 2 ∷ 0 ∷ 4 ∷ 5 ∷ 1 ∷ []) refl refl
+    (λ e. let z : _≡_ {A = ℕ} 0 1 = cc in omega arith)
+
+at-its-sliver : WholeRefusal 2 12 1
 unfolding everything teamsFault
-other-sliver = whole-refusal teams (onAtLeast 8 0 2) (0 ∷ 2 ∷ 0 ∷ 4 ∷ 5 ∷ 1 ∷ []) 12 1 refl
+at-its-sliver = whole-refusal teams (onAtLeast 8 0 2) (0 ∷ 2 ∷ 0 ∷ 4 ∷ 5 ∷ 1 ∷ []) 12 1 refl
 
 -- windows of two ticks and more are answered as on a board that allows every window, and there 12 never comes
 x-smaller : verdictFor (onAtLeast 8 0 2) (asOwned 0 X) w6 ≡ verdictFor (on 8) (asOwned 0 X) w6
 unfolding everything
 x-smaller =
     smaller-same teams (onAtLeast 8 0 2) (on 8) (asOwned 0 X) refl refl (omega arith) (omega arith) (verdict-entry w6) (λ p e. fault-not-fine (sym e))
+
+-- W13's counts too, and the windows by themselves
+w13-smaller : runOutFor (onAtLeast 8 0 2) (asOwned 0 X) w7 10 w13 (9 ∷ 9 ∷ 9 ∷ []) ≡ runOutFor (on 8) (asOwned 0 X) w7 10 w13 (9 ∷ 9 ∷ 9 ∷ [])
+unfolding everything
+w13-smaller =
+    smaller-same teams (onAtLeast 8 0 2) (on 8) (asOwned 0 X) refl refl (omega arith) (omega arith) (run-out-entry w7 10 w13 (9 ∷ 9 ∷ 9 ∷ []))
+    (λ p e. fault-not-fine (sym e))
+
+x-own-smaller : ownAnswer teams (onAtLeast 8 0 2) (asOwned 0 X) 4 ≡ ownAnswer teams (on 8) (asOwned 0 X) 4
+unfolding everything
+x-own-smaller = own-smaller teams (onAtLeast 8 0 2) (on 8) (asOwned 0 X) refl refl (omega arith) (omega arith) (λ p e. fault-not-fine (sym e)) 4 [] .0
+
+x-own-sliver : Twelve teams (onAtLeast 8 0 2) XShared 3
+unfolding everything
+x-own-sliver = own-twelve teams (onAtLeast 8 0 2) XShared 4 3 .0 refl
 
 x-never : (p : ℕ) → verdictFor (on 8) XShared w6 ≡ refused 12 p → ⊥
 unfolding verdictFor
@@ -559,8 +585,16 @@ trace-sliver = replay-twelve (onAtLeast 8 0 3) (asOwned 0 X) w7 trace 0 .0 refl
 
 -- W6's file, with m = 1 before it, with m = 2 as with m = 1, and with m = 3
 w6-old-form : planAnswer 1 (1 ∷ w6-file) ≡ planAnswer 0 w6-file
-unfolding greatest
-w6-old-form = old-form w6-file w6-plan (up-to-greatest 255 w6-file (omega arith)) w6-reads
+w6-old-form = old-form w6-file w6-plan w6-reads
+
+-- a file with a byte left over: its offset is one later
+w6-old-left-over : (b : ℕ) (rest : List ℕ) → planAnswer 1 (1 ∷ (w6-file ++ (b ∷ rest))) ≡ refused 9 14
+w6-old-left-over b rest = old-refused (w6-file ++ (b ∷ rest)) 9 13 (w6-left-over b rest)
+
+-- a file with 65 windows: 1 as soon as it is read, whatever stands before, two bytes of m = 200 here
+early-behind : planAnswer 1 (200 ∷ 1 ∷ 0 ∷ 65 ∷ []) ≡ refused 1 0
+unfolding everything
+early-behind = refused-behind (200 ∷ []) (0 ∷ 65 ∷ []) (up-to-greatest mostNumber (200 ∷ []) (omega arith)) 1 0 refl
 
 w6-smaller-plan : planAnswer 1 (planBytes (withSettings (2 ∷ []) w6-plan)) ≡ planAnswer 1 (planBytes (withSettings (1 ∷ []) w6-plan))
 unfolding everything

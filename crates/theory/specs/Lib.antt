@@ -40,6 +40,7 @@ pub mod Recorded
 pub mod Shared
 pub mod Slivers
 pub mod Alone
+pub mod Forms
 pub mod Shortest
 pub mod Refused
 pub mod Applied

@@ -1,11 +1,11 @@
 -- Document 02, request 5, of what the entries answer: 12 exactly when, that m = 1 refuses nothing, and that what is not refused at m is answered the same at
 -- every smaller m; of plan files too
 use mathlib.Core.Path.{_≡_, refl, sym, ap, _∙_}
-use mathlib.Core.Bool.{Bool, true, false, _||_}
+use mathlib.Core.Bool.{Bool, true, false, cond, _||_}
 use mathlib.Core.Logic.{_↔_}
 use mathlib.Core.Option.{Option, none, some}
-use mathlib.Core.List.{List, [], _∷_, _++_}
-use Prim.Native.Nat.{ℕ, _*_, _≤_, _<_}
+use mathlib.Core.List.{List, [], _∷_}
+use Prim.Native.Nat.{ℕ, _+_, _*_, _≤_}
 use native.Mathlib.Omega.{arith}
 use lib.Dec.{leb, ltb, eqb}
 use lib.ListN.{length}
@@ -24,13 +24,14 @@ use Rattle.scope.specs.Plan.{numbersBytes, planBytes}
 use Rattle.scope.specs.Trace.{Stamped, Record, timed, traceOf, ticksOf, releases, badRecord}
 use Rattle.scope.specs.Replay.{extentFault, recordFault, replayFault, recordsAnswer}
 use Rattle.scope.specs.Shared.{ownedOf, windowsFor, own, ownedListFault, ownedFault, badOwned, ownedLegal, wholeFault, absentOwnerFault, sliverFault, sharedFault}
-use Rattle.scope.specs.Shared.{asOwned, unlessRefused, askedFor, verdictFor, recordsFor, replayFor, planBoard, planAnswer}
-use Rattle.theory.specs.Answers.{fault-not-fine, orElse-fine, unless-refused}
-use Rattle.theory.specs.Shared.{asked-fine, asked-refused}
+use Rattle.scope.specs.Shared.{ownFault, ownAnswer, ownOut, asOwned, unlessRefused, askedFor, verdictFor, recordsFor, replayFor, planBoard, planAnswer}
+use Rattle.theory.specs.Answers.{fault-not-fine, unless-refused}
+use Rattle.theory.specs.Shared.{asked-refused}
 use Rattle.theory.specs.Slivers.{Sliver, sliver-exactly, sliver-twelve, one-tick, smaller-fine}
-use Rattle.theory.specs.Alone.{Entry, teamsFault, alone, records-entry, verdict-entry, or-nine}
+use Rattle.theory.specs.Alone.{Entry, absent-same, records-entry, verdict-entry, or-nine}
 use Rattle.theory.specs.Seven.{UpTo, up-to-greatest}
-use Rattle.theory.specs.PlanBytes.{Writable, round-trip, read-writable, read-settings, only-bytes}
+use Rattle.theory.specs.Forms.{withSettings, refused-behind, judged-behind}
+use Rattle.theory.specs.PlanBytes.{Writable, round-trip, read-settings}
 
 -- ---- document 01's checks give the numbers 1 to 11
 
@@ -110,70 +111,80 @@ record-base : (ts : List Task) (rs : List Record) → Base (recordFault ts rs)
 unfolding recordFault
 record-base ts rs = base-at 11 (badRecord ts rs) (omega arith)
 
--- an entry that refuses by these numbers only
+-- an entry that does not refuse by 12 itself
 abbrev pub Known : {A : Type 0} → (List ℕ → Answer A) → Type 0
-Known entry = (l : List ℕ) (n p : ℕ) → entry l ≡ refused n p → n ≤ 11
+Known entry = (l : List ℕ) (p : ℕ) → entry l ≡ refused 12 p → ⊥
+
+-- such are those that refuse by document 01's numbers only
+below : {A : Type 0} (entry : List ℕ → Answer A) → ((l : List ℕ) (n p : ℕ) → entry l ≡ refused n p → n ≤ 11) → Known entry
+below entry h l p e = omega (arith, h l 12 p e)
 
 module _ (b : Board) where
   pub supplied-known : (k : ℕ) → Known (λ l. suppliedAnswer b l k)
   unfolding suppliedAnswer
-  supplied-known k l n p e = table-base b l n p (unless-refused (tableFault b l) _ n p e)
+  supplied-known k = below _ (λ l n p e. table-base b l n p (unless-refused (tableFault b l) _ n p e))
 
   pub least-supply-known : (t : ℕ) → Known (λ l. leastSupplyAnswer b l t)
   unfolding leastSupplyAnswer
-  least-supply-known t l n p e = table-else b l (lengthFault t) (length-base t) n p (unless-refused (tableFault b l orElse lengthFault t) _ n p e)
+  least-supply-known t = below _ (λ l n p e. table-else b l (lengthFault t) (length-base t) n p (unless-refused (tableFault b l orElse lengthFault t) _ n p e))
 
   pub critical-known : (room : ℕ) → Known (λ l. criticalAnswer b l room)
   unfolding criticalAnswer criticalFault
-  critical-known room l n p e =
-      table-else b l (roomFault (length (criticalOf b l)) room) (room-base (length (criticalOf b l)) room) n p (unless-refused (criticalFault b l room) _ n p e)
+  critical-known room =
+      below _ (λ l n p e.
+      table-else b l (roomFault (length (criticalOf b l)) room) (room-base (length (criticalOf b l)) room) n p (unless-refused (criticalFault b l room) _ n p e))
 
   pub delay-known : Known (delayAnswer b)
   unfolding delayAnswer
-  delay-known l n p e = table-base b l n p (unless-refused (tableFault b l) _ n p e)
+  delay-known = below _ (λ l n p e. table-base b l n p (unless-refused (tableFault b l) _ n p e))
 
   pub outage-known : Known (outageAnswer b)
   unfolding outageAnswer
-  outage-known l n p e = table-base b l n p (unless-refused (tableFault b l) _ n p e)
+  outage-known = below _ (λ l n p e. table-base b l n p (unless-refused (tableFault b l) _ n p e))
 
   pub margin-known : (ts : List ℕ) (t : ℕ) → Known (λ l. marginAnswer b l ts t)
   unfolding marginAnswer
-  margin-known ts t l n p e =
+  margin-known ts t =
+      below _ (λ l n p e.
       table-else b l (groupFault ts orElse lengthFault t) (group-else ts (lengthFault t) (length-base t)) n p
-      (unless-refused (tableFault b l orElse groupFault ts orElse lengthFault t) _ n p e)
+      (unless-refused (tableFault b l orElse groupFault ts orElse lengthFault t) _ n p e))
 
   pub verdict-known : (ts : List ℕ) → Known (λ l. verdictAnswer b l ts)
   unfolding verdictAnswer
-  verdict-known ts l n p e =
+  verdict-known ts =
+      below _ (λ l n p e.
       let cycled = cycleFault b (tasksOf ts) in
       table-else b l (groupFault ts orElse cycled) (group-else ts cycled (cycle-base b (tasksOf ts))) n p
-      (unless-refused (tableFault b l orElse groupFault ts orElse cycled) _ n p e)
+      (unless-refused (tableFault b l orElse groupFault ts orElse cycled) _ n p e))
 
   pub bound-known : (ts : List ℕ) (i : ℕ) → Known (λ l. boundAnswer b l ts i)
   unfolding boundAnswer
-  bound-known ts i l n p e =
+  bound-known ts i =
+      below _ (λ l n p e.
       let absent = absentFault (tasksOf ts) i in
       table-else b l (groupFault ts orElse absent) (group-else ts absent (absent-base (tasksOf ts) i)) n p
-      (unless-refused (tableFault b l orElse groupFault ts orElse absent) _ n p e)
+      (unless-refused (tableFault b l orElse groupFault ts orElse absent) _ n p e))
 
   pub run-known : (ts : List ℕ) (ticks : ℕ) (js : List ℕ) (room : ℕ) → Known (λ l. runAnswer b l ts ticks js room)
   unfolding runAnswer runFault
-  run-known ts ticks js room l n p e =
+  run-known ts ticks js room =
+      below _ (λ l n p e.
       let each = jobFault (tasksOf ts) ticks (jobsOf js) in
       let output = roomFault (length (jobsOf js)) room in
       let jobs = jobListFault ticks js orElse each orElse output in
       table-else b l (groupFault ts orElse jobs)
       (group-else ts jobs (base-else (jobListFault ticks js) (each orElse output) (jobs-base ticks js)
       (base-else each output (job-base (tasksOf ts) ticks (jobsOf js)) (room-base (length (jobsOf js)) room)))) n p
-      (unless-refused (runFault b l ts ticks js room) _ n p e)
+      (unless-refused (runFault b l ts ticks js room) _ n p e))
 
   pub records-known : (ts : List ℕ) (rs : List Record) → Known (λ l. recordsAnswer b l ts rs)
   unfolding recordsAnswer replayFault
-  records-known ts rs l n p e =
+  records-known ts rs =
+      below _ (λ l n p e.
       let each = recordFault (tasksOf ts) rs in
       table-else b l (groupFault ts orElse extentFault rs orElse each)
       (group-else ts (extentFault rs orElse each) (base-else (extentFault rs) each (extent-base rs) (record-base (tasksOf ts) rs))) n p
-      (unless-refused (replayFault b l ts rs) _ n p e)
+      (unless-refused (replayFault b l ts rs) _ n p e))
 
 -- ---- 12, exactly when: the list has no fault 1, 2 or 3, the owner has a window, and m is out of its range or some window shorter than m
 
@@ -210,7 +221,7 @@ module _ (owners : ℕ) (b : Board) (ws : List ℕ) where
   exactly-twelve entry is p = (go (sharedFault owners b ws) refl, λ t. asked-refused owners b ws refused entry (twelve-shared p t))
     where
       go : (f : Fault) → sharedFault owners b ws ≡ f → unlessRefused f refused (entry (own b ws)) ≡ refused 12 p → Twelve p
-      go fine s e = absurd (omega (arith, is (own b ws) 12 p e))
+      go fine s e = absurd (is (own b ws) p e)
       go (fault n q) s e = let x : n ≡ 12 = cc in let y : q ≡ p = cc in shared-twelve p (rw (← x, ← y) s)
 
   -- ---- m = 1 refuses nothing: only what request 4 refuses is refused
@@ -246,13 +257,11 @@ module _ (owners : ℕ) (b c : Board) (ws : List ℕ) (framed : b .frame ≡ c .
   unfolding wholeFault frameFault ownedFault badOwned ownedLegal
   whole-same = ap (λ (P : ℕ). wholeFault owners (record { frame = P; owner = 0; shortest = 1 }) ws) framed
 
-  absent-same : absentOwnerFault b ws ≡ absentOwnerFault c ws
-  unfolding absentOwnerFault
-  absent-same = ap (λ (o : ℕ). absentOwnerFault (record { frame = 0; owner = o; shortest = 1 }) ws) owner
-
   smaller-fault : ((p : ℕ) → sharedFault owners b ws ≡ fault 12 p → ⊥) → sharedFault owners b ws ≡ sharedFault owners c ws
   unfolding sharedFault
-  smaller-fault spared = rw (← whole-same, ← absent-same) (go (wholeFault owners b ws) (absentOwnerFault b ws) (sliverFault b ws) refl refl refl)
+  smaller-fault spared =
+      let mine : own b ws ≡ own c ws = ap (λ (o : ℕ). windowsFor o (ownedOf ws)) owner in
+      rw (← whole-same, ← absent-same b c ws ws mine) (go (wholeFault owners b ws) (absentOwnerFault b ws) (sliverFault b ws) refl refl refl)
     where
       go : (f g h : Fault) → wholeFault owners b ws ≡ f → absentOwnerFault b ws ≡ g → sliverFault b ws ≡ h →
           (f orElse g orElse h) ≡ (f orElse g orElse sliverFault c ws)
@@ -275,6 +284,33 @@ module _ (owners : ℕ) (b c : Board) (ws : List ℕ) (framed : b .frame ≡ c .
       ((p : ℕ) → askedFor owners b ws refused (entry b) ≡ refused 12 p → ⊥) →
       askedFor owners b ws refused (entry b) ≡ askedFor owners c ws refused (entry c)
   smaller-answer {A} {entry} is spared = smaller-same is (λ p s. spared p (asked-refused owners b ws refused (entry b) s))
+
+-- ---- an owner's windows by themselves, whose memory may be too short
+
+pub own-twelve : (owners : ℕ) (b : Board) (ws : List ℕ) (room p : ℕ) → (ownAnswer owners b ws room ≡ refused 12 p) ↔ Twelve owners b ws p
+unfolding ownAnswer ownFault roomFault
+own-twelve owners b ws room p = (only, λ t. rw (twelve-shared owners b ws p t))
+  where
+    short : (t : Bool) → unless (faultIf t 8 (length (own b ws))) (length (own b ws)) ≡ refused 12 p → ⊥
+    short true e = let z : _≡_ {A = ℕ} 8 12 = cc in omega arith
+    short false e = let z : _≡_ {A = ℕ} 0 1 = cc in omega arith
+
+    go : (f : Fault) → sharedFault owners b ws ≡ f → unless (f orElse faultIf (ltb room (length (own b ws))) 8 (length (own b ws))) (length (own b ws)) ≡ refused 12 p →
+        Twelve owners b ws p
+    go fine s e = absurd (short (ltb room (length (own b ws))) e)
+    go (fault n q) s e = let x : n ≡ 12 = cc in let y : q ≡ p = cc in shared-twelve owners b ws p (rw (← x, ← y) s)
+
+    only : ownAnswer owners b ws room ≡ refused 12 p → Twelve owners b ws p
+    only e = go (sharedFault owners b ws) refl e
+
+pub own-smaller : (owners : ℕ) (b c : Board) (ws : List ℕ) → b .frame ≡ c .frame → b .owner ≡ c .owner → 1 ≤ c .shortest → c .shortest ≤ b .shortest →
+    ((p : ℕ) → sharedFault owners b ws ≡ fault 12 p → ⊥) →
+    (room : ℕ) (out : List ℕ) → (ownAnswer owners b ws room ≡ ownAnswer owners c ws room) × (ownOut owners b ws out ≡ ownOut owners c ws out)
+unfolding ownAnswer ownOut ownFault
+own-smaller owners b c ws framed owner least less spared room out =
+    let mine : own b ws ≡ own c ws = ap (λ (o : ℕ). windowsFor o (ownedOf ws)) owner in
+    let same = smaller-fault owners b c ws framed owner least less spared in
+    (rw (same, mine), rw (same, mine))
 
 -- ---- traces, whose bytes are refused by 9 before any table
 
@@ -355,15 +391,7 @@ plan-twelve k bytes p = (
     }
     go (refused m o) r e = let x : m ≡ 12 = cc in absurd (omega (arith, plan-base k bytes m o r))
 
--- a plan with other settings
-abbrev pub withSettings : List ℕ → Plan → Plan
-withSettings l p = record { settings = l; frame = p .frame; windows = p .windows; tasks = p .tasks }
-
 module _ (p : Plan) (w : Writable p) where
-  written-answer : planAnswer (length (p .settings)) (planBytes p) ≡ verdictFor (planBoard p) (asOwned 0 (p .windows)) (p .tasks)
-  unfolding planAnswer
-  written-answer = rw (round-trip p w)
-
   writable-with : (l : List ℕ) → UpTo mostNumber l → Writable (withSettings l p)
   writable-with l u = record { settings = u; frame = w .frame; windows = w .windows; tasks = w .tasks; windowList = w .windowList; taskList = w .taskList }
 
@@ -377,18 +405,22 @@ module _ (p : Plan) (w : Writable p) where
       (smaller-answer teams (planBoard (withSettings (m ∷ []) p)) (planBoard (withSettings (n ∷ []) p)) (asOwned 0 (p .windows)) refl refl least less
       (verdict-entry (p .tasks)) (λ q e. spared q (rw (round-trip (withSettings (m ∷ []) p) (writable-with (m ∷ []) u)) e)))
 
--- an old file is answered as the same bytes with m = 1 before them
-pub old-form : (bytes : List ℕ) (p : Plan) → UpTo 255 bytes → planOf 0 bytes ≡ given p → planAnswer 1 (1 ∷ bytes) ≡ planAnswer 0 bytes
-unfolding planAnswer planBytes numbersBytes numberBytes numberBytesWithin greatest
-old-form bytes p u e =
-    let none : p .settings ≡ [] = empty (p .settings) (read-settings 0 bytes p e) in
-    let w = read-writable 0 bytes p e in
-    let back : planOf 1 (planBytes (withSettings (1 ∷ []) p)) ≡ given (withSettings (1 ∷ []) p) =
-    round-trip (withSettings (1 ∷ []) p) (writable-with p w (1 ∷ []) (up-to-greatest mostNumber (1 ∷ []) (omega arith))) in
-    let front : planBytes (withSettings (1 ∷ []) p) ≡ 1 ∷ planBytes (withSettings [] p) = refl in
-    let same : planBytes (withSettings [] p) ≡ bytes = ap (λ (l : List ℕ). planBytes (withSettings l p)) (sym none) ∙ sym (only-bytes 0 bytes p e u) in
-    rw (e, ← same, ← front, back, none)
-  where
-    empty : (l : List ℕ) → length l ≡ 0 → l ≡ []
-    empty [] z = refl
-    empty (a ∷ l) z = absurd (omega arith)
+-- an old file is answered as the same bytes with m = 1 before them, and what is no plan of the old form is refused as there, 9 one byte later
+module _ (bytes : List ℕ) where
+  one-first : UpTo mostNumber (1 ∷ [])
+  unfolding greatest
+  one-first = up-to-greatest mostNumber (1 ∷ []) (omega arith)
+
+  pub old-form : (p : Plan) → planOf 0 bytes ≡ given p → planAnswer 1 (1 ∷ bytes) ≡ planAnswer 0 bytes
+  unfolding planAnswer numbersBytes numberBytes numberBytesWithin
+  old-form p e =
+      let none : p .settings ≡ [] = empty (p .settings) (read-settings 0 bytes p e) in
+      judged-behind (1 ∷ []) bytes one-first p e ∙ rw (e, none)
+    where
+      empty : (l : List ℕ) → length l ≡ 0 → l ≡ []
+      empty [] z = refl
+      empty (a ∷ l) z = absurd (omega arith)
+
+  pub old-refused : (n o : ℕ) → planOf 0 bytes ≡ refused n o → planAnswer 1 (1 ∷ bytes) ≡ refused n (cond (eqb n 9) (1 + o) o)
+  unfolding numbersBytes numberBytes numberBytesWithin
+  old-refused n o e = refused-behind (1 ∷ []) bytes one-first n o e

@@ -1,5 +1,5 @@
 -- Document 02, request 5: which lists of windows are refused for a sliver, at which place, and that a smaller shortest window refuses no more
-use mathlib.Core.Path.{_≡_, refl, sym, ap, _∙_}
+use mathlib.Core.Path.{_≡_, refl, sym, ap}
 use mathlib.Core.Bool.{Bool, true, false, _||_, or-true}
 use mathlib.Core.Logic.{_⊎_, inl, inr, _↔_}
 use mathlib.Core.Option.{Option, none, some}
@@ -12,8 +12,8 @@ use borrow.Author.Tests.{ltb-true, ltb-false, lt-ltb, le-ltb, eqb-true, eqb-fals
 use Rattle.scope.specs.Numbers.{first, IsFirst}
 use Rattle.scope.specs.Limits.{mostShortest}
 use Rattle.scope.specs.Windows.{Board}
-use Rattle.scope.specs.Answers.{Fault, Fault.fine, Fault.fault, faultIf, faultAt, _orElse_, shortestFault}
-use Rattle.scope.specs.Shared.{Owned, ownedOf, ownedAt, wholeFault, sliver, firstSliver, sliverFault}
+use Rattle.scope.specs.Answers.{Fault.fine, Fault.fault, faultIf, faultAt, _orElse_, shortestFault}
+use Rattle.scope.specs.Shared.{ownedOf, ownedAt, wholeFault, sliver, firstSliver, sliverFault}
 use Rattle.theory.specs.Numbers.{or-neither, least-is, first-none, none-first, first-some}
 use Rattle.theory.specs.Answers.{fault-not-fine, faultIf-fine, faultAt-fine, orElse-fine}
 use Rattle.theory.specs.Shared.{startAt, endAt, whole}

@@ -7,7 +7,6 @@ use lib.ListN.{length}
 use Rattle.scope.specs.Shared.{owned, ownedOf, ownedAt, sliver, firstSliver}
 use Rattle.theory.specs.Lists.{pieces-length}
 use Rattle.tables.specs.Told.{boardOf}
-use Rattle.shared.specs.Told.{ownedBy}
 use Rattle.tables.proofs.FaultLaws.{found-at, found-nowhere}
 use borrow.Author.Needs.{needs}
 use Rattle.shared.proofs.table.first_sliver.Statement.{statement}

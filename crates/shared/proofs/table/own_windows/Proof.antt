@@ -1,7 +1,6 @@
 use mathlib.Core.Path.{_≡_, sym, ap, _∙_}
 use native.Mathlib.Omega.{arith}
 use lib.ListN.{length}
-use Prim.Native.Nat.{_≤_, _<_}
 use Rattle.scope.specs.Answers.{Fault.fine, Answer.given, Answer.refused}
 use Rattle.scope.specs.Shared.{own, sharedFault, ownFault, ownAnswer, ownOut}
 use Rattle.tables.specs.Told.{boardOf, faultOf}

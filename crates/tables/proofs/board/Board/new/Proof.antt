@@ -1,7 +1,7 @@
 use mathlib.Core.Path.{_≡_, sym, ap, ap₂, _∙_}
 use Rattle.scope.specs.Windows.{Board}
 use Rattle.scope.specs.Answers.{_orElse_, frameFault, shortestFault, boardAnswer}
-use Rattle.tables.specs.Told.{boardOf, faultOf}
+use Rattle.tables.specs.Told.{faultOf}
 use Rattle.tables.proofs.FaultLaws.{refused-by, given-by}
 use borrow.Author.Needs.{needs}
 use Rattle.tables.proofs.board.Board.new.Statement.{statement}
