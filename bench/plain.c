@@ -222,14 +222,23 @@ static struct checked first_sliver(uint32_t shortest, struct list table)
     return FINE;
 }
 
+/* of a list without 1 2 3, in which every window has a tick */
+static struct checked check_slivers(uint32_t shortest, struct list table)
+{
+    if (shortest == 1)
+        return FINE;
+    struct checked range = check_shortest(shortest);
+    struct checked each = first_sliver(shortest, table);
+    return or_else(range, each);
+}
+
 /* `numbers`: those of the owner's windows */
 static struct checked check_counted(struct palikudyom_board board, struct list table, size_t numbers)
 {
     struct checked whole = check_whole(board.frame, table);
     struct checked owner = numbers == 0 ? bad(1, 0) : FINE;
-    struct checked range = check_shortest(board.shortest);
-    struct checked each = first_sliver(board.shortest, table);
-    return or_else(whole, or_else(owner, or_else(range, each)));
+    struct checked both = or_else(whole, owner);
+    return is_bad(both) ? both : check_slivers(board.shortest, table);
 }
 
 static struct checked check_shared(struct palikudyom_board board, struct list table)

@@ -14,7 +14,7 @@ ghost use Prim.Native.Nat.{_≤_};
 ghost use lib.Dec.{eqb};
 ghost use lib.ListN.{length};
 ghost use Rattle.scope.specs.Numbers.{written};
-ghost use Rattle.scope.specs.Answers.{faultIf, faultAt};
+ghost use Rattle.scope.specs.Answers.{Fault.fine, faultIf, faultAt};
 ghost use Rattle.scope.specs.Shared.{owned, ownedOf, ownedAt, own, follows, ownedLegal, ownedFault, ownedAnswer, wholeFault};
 ghost use Rattle.scope.specs.Shared.{sliver, firstSliver, sliverFault};
 ghost use Rattle.scope.specs.Shared.{sharedFault, ownAnswer, ownOut, asOwned, asOwnedAnswer, asOwnedOut};
@@ -188,10 +188,14 @@ fn first_sliver(board: Board, windows: &[u32]) -> Checked
     Checked::Fine
 }
 
-// Refusal 12: the range of the shortest allowed window before any window.
-fn check_slivers(board: Board, windows: &[u32]) -> Checked
+// Refusal 12 of a list without 1 2 3: the range of the shortest allowed window before any window. Where that is 1, no window is looked at: each has a tick.
+fn check_slivers(owners: u32, board: Board, windows: &[u32]) -> Checked
+    requires { ⌜ wholeFault owners (boardOf board) (now windows) ≡ fine ⌝ }
     ensures { λ r. ⌜ faultOf r ≡ sliverFault (boardOf board) (now (windows .entry)) ⌝ }
 {
+    if board.shortest == 1 {
+        return Checked::Fine;
+    }
     let range = check_shortest(board);
     let each = first_sliver(board, windows);
     range.or_else(each)
@@ -204,8 +208,10 @@ fn check_counted(owners: u32, board: Board, windows: &[u32], numbers: usize) -> 
 {
     let whole = check_whole(owners, board, windows);
     let owner = check_present(numbers);
-    let sliver = check_slivers(board, windows);
-    whole.or_else(owner.or_else(sliver))
+    match whole.or_else(owner) {
+        Checked::Bad(r) => Checked::Bad(r),
+        Checked::Fine => check_slivers(owners, board, windows),
+    }
 }
 
 // The refusals of a table.
