@@ -50,7 +50,7 @@ unless fine a = given a
 unless (fault number place) a = refused number place
 
 -- a refusal writes nothing
-abbrev pub unlessKept : Fault → List ℕ → List ℕ → List ℕ
+abbrev pub unlessKept : {A : Type 0} → Fault → List A → List A → List A
 unlessKept fine new old = new
 unlessKept (fault number place) new old = old
 

@@ -27,6 +27,9 @@ use Rattle.scope.specs.Shared.{sliver, firstSliver, sliverFault, sharedF
 use Rattle.scope.specs.Shared.{ownedAnswer, ownFault, ownAnswer, ownOut, asOwnedAnswer, asOwnedOut}
 use Rattle.scope.specs.Shared.{askedFor, suppliedFor, leastSupplyFor, criticalFor, criticalOutFor, delayFor, outageFor, marginFor, verdictFor, boundFor}
 use Rattle.scope.specs.Shared.{runFor, runOutFor, recordsFor, replayFor, planAnswer}
+use Rattle.scope.specs.Summary.{summaryOf, makeFault, makeAnswer, makeOut, begins, summaryFault, ticksBefore, leastFrom, leastFromAnswer, marginFrom}
+use Rattle.scope.specs.Summary.{lengthsFault, marginsFault, marginsAnswer, marginsOut, makeFor, makeOutFor, leastFromFor, marginsFor, marginsOutFor}
+use Rattle.scope.specs.Summary.{edited, indexFault, countFault, editFault, editAnswer, editWindows, editSummary}
 use Rattle.scope.specs.Demands.{dueWithin, fullJobsIn, fullJobs, givenTo}
 
 unfoldable pub numbers·compute : Unit {0}
@@ -93,6 +96,14 @@ unfoldable pub sharedAnswers·compute : Unit {0}
 unfolding suppliedFor leastSupplyFor criticalFor criticalOutFor delayFor outageFor marginFor verdictFor boundFor runFor runOutFor recordsFor replayFor planAnswer
 sharedAnswers·compute = tt
 
+unfoldable pub summaries·compute : Unit {0}
+unfolding summaryOf makeFault makeAnswer makeOut begins summaryFault ticksBefore leastFrom leastFromAnswer marginFrom lengthsFault marginsFault marginsAnswer marginsOut makeFor makeOutFor leastFromFor marginsFor marginsOutFor
+summaries·compute = tt
+
+unfoldable pub edits·compute : Unit {0}
+unfolding edited indexFault countFault editFault editAnswer editWindows editSummary
+edits·compute = tt
+
 unfoldable pub demands·compute : Unit {0}
 unfolding dueWithin fullJobsIn fullJobs givenTo
 demands·compute = tt
@@ -106,5 +117,5 @@ unfolding tableFaults·compute groupFaults·compute constructors·compute tableA
 answers·compute = tt
 
 unfoldable pub everything : Unit {0}
-unfolding amounts·compute answers·compute reading·compute writing·compute traces·compute replays·compute demands·compute sharedFaults·compute sharedAnswers·compute
+unfolding amounts·compute answers·compute reading·compute writing·compute traces·compute replays·compute demands·compute sharedFaults·compute sharedAnswers·compute summaries·compute edits·compute
 everything = tt

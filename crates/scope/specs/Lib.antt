@@ -16,6 +16,7 @@ pub mod Line
 pub mod Trace
 pub mod Replay
 pub mod Shared
+pub mod Summary
 pub mod Demands
 pub mod Computing
 pub mod Examples

@@ -96,5 +96,5 @@ unfoldable pub badCount : ℕ → ℕ → List ℕ → Bool
 badCount k most l = not (eqb (length l % k) 0) || ltb most (length l / k)
 
 -- a lent buffer with a list written at its front; the rest of the buffer stays
-unfoldable pub written : List ℕ → List ℕ → List ℕ
+unfoldable pub written : {A : Type 0} → List A → List A → List A
 written l buffer = l ++ drop (length l) buffer

@@ -134,7 +134,7 @@ unfoldable pub askedFor : {R : Type 0} → ℕ → Board → List ℕ → (ℕ �
 askedFor owners b ws refusal entry = unlessRefused (sharedFault owners b ws) refusal (entry (own b ws))
 
 -- an answer is refused, a lent buffer is kept
-abbrev pub kept : List ℕ → ℕ → ℕ → List ℕ
+abbrev pub kept : {A : Type 0} → List A → ℕ → ℕ → List A
 kept out number place = out
 
 unfoldable pub suppliedFor : Board → List ℕ → ℕ → Answer Bool
