@@ -9,6 +9,8 @@ pub mod Finer
 pub mod MaximalRuns
 pub mod Partition
 pub mod Delay
+pub mod Pieces
+pub mod Lags
 pub mod Tasks
 pub mod Cycle
 pub mod Horizon
