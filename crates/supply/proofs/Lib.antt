@@ -1,3 +1,4 @@
 pub mod PositionLaws
 pub mod SupplyLaws
+pub mod PieceLaws
 pub mod PartitionLaws

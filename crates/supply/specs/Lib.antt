@@ -1,4 +1,5 @@
 pub mod Positions
+pub mod Ahead
 pub mod Marks
 pub mod Refused
 pub mod Outage

@@ -1,6 +1,6 @@
 -- What the code knows of its positions in the endless row of windows
 use Prim.Native.Nat.{ℕ, _+_, _-_, _*_, _/_, _≤_}
-use mathlib.Core.Bool.{cond}
+use mathlib.Core.Bool.{true, false, cond}
 use mathlib.Core.List.{List}
 use lib.Dec.{ltb}
 use lib.ListN.{length}
@@ -11,6 +11,7 @@ use Rattle.theory.specs.Answers.{LegalTable}
 use Rattle.theory.specs.Rows as rows
 use Rattle.theory.specs.Rows.{startOf, endOf, table-row}
 use Rattle.supply.specs.declared.row.Position.{Position}
+use Rattle.supply.specs.declared.row.Ticks.{Ticks}
 
 -- the first window of the first frame
 abbrev pub first : Position
@@ -29,6 +30,10 @@ following b ws p =
     let n : ℕ = p .before + (endOf ws (p .index) - startOf ws (p .index)) in
     cond (ltb (p .index + 1) (length ws / 2)) (record { index = p .index + 1; base = p .base; before = n })
     (record { index = 0; base = p .base + b .frame; before = n })
+
+-- the ticks from x on up to the next edge: those before the window of a position, or those that are left of it
+unfoldable pub ticksFrom : List ℕ → Position → ℕ → Ticks
+ticksFrom ws p x = cond (ltb x (opens ws p)) (record { on = false; far = opens ws p - x }) (record { on = true; far = closes ws p - x })
 
 -- a position in the row of a legal table, whose numbers are small
 pub record Stands (b : Board) (ws : List ℕ) (p : Position) : Type 0 where

@@ -1,3 +1,4 @@
+use crate::pieces::larger;
 use crate::supply::least_at_ends;
 use shared::table::Owned;
 use shared::table::own_windows;
@@ -9,7 +10,7 @@ use tables::board::Board;
 use tables::window::Window;
 use tables::window::window_at;
 ghost use mathlib.Core.Path.{_≡_};
-ghost use Prim.Native.Nat.{_+_, _-_, _<_, _≤_, max};
+ghost use Prim.Native.Nat.{_+_, _-_, _<_, _≤_};
 ghost use lib.ListN.{length};
 ghost use Rattle.scope.specs.Limits.{mostFrame};
 ghost use Rattle.scope.specs.Numbers.{bit, written};
@@ -180,12 +181,6 @@ pub fn delay(board: Board, windows: &[u32]) -> Delay
         Amount::Refused(r) => Delay::Refused(r),
         Amount::Of(n) => delay_on(board, &own[..n as usize]),
     }
-}
-
-fn larger(a: u32, b: u32) -> u32
-    ensures { λ r. ⌜ r ≡ max a b ⌝ }
-{
-    if a < b { b } else { a }
 }
 
 // The gap from the end of the last window to the first one's start in the next frame.

@@ -7,7 +7,7 @@ ghost use lib.ListN.{length};
 ghost use Rattle.scope.specs.Limits.{mostFrame};
 ghost use Rattle.scope.specs.Windows.{windowsOf, windowAt};
 ghost use Rattle.tables.specs.Told.{boardOf, windowOf};
-ghost use Rattle.supply.specs.Positions.{first, opens, closes, following, Stands, Behind};
+ghost use Rattle.supply.specs.Positions.{first, opens, closes, following, ticksFrom, Stands, Behind};
 
 // Window `index` of the frame that begins at tick `base`, with the supplied ticks before that window.
 pub(crate) struct Position {
@@ -98,4 +98,32 @@ pub(crate) fn upto(windows: &[u32], position: Position, x: u32) -> u32
         return before;
     }
     before + (x - start)
+}
+
+// Ticks that are all supplied or all unsupplied, and how many.
+pub(crate) struct Ticks {
+    pub on: bool,
+    pub far: u32,
+}
+
+// The ticks from x on up to the next edge, from the position of the first window that ends after x.
+pub(crate) fn ticks_after(windows: &[u32], position: Position, x: u32) -> Ticks
+    requires { ⌜ (position .index < length (now windows) / 2) × (opens (now windows) position ≤ 4 * mostFrame) × (closes (now windows) position ≤ 4 * mostFrame)
+        × (x ≤ closes (now windows) position) ⌝ }
+    ensures { λ r. ⌜ r ≡ ticksFrom (now (windows .entry)) position x ⌝ }
+{
+    let base = position.base;
+    let window = window_of(windows, position.index);
+    let start = base + window.start;
+    let end = base + window.end;
+    if x < start {
+        return Ticks {
+            on: false,
+            far: start - x,
+        };
+    }
+    Ticks {
+        on: true,
+        far: end - x,
+    }
 }

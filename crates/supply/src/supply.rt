@@ -28,20 +28,20 @@ pub(crate) struct Least {
     pub whole: u32,
 }
 
-fn lesser(a: u32, b: u32) -> u32
+pub(crate) fn lesser(a: u32, b: u32) -> u32
     ensures { λ r. ⌜ r ≡ min a b ⌝ }
 {
     if b < a { b } else { a }
 }
 
 // A start that is tried, and the supplied ticks before it.
-struct Start {
-    tick: u32,
-    before: u32,
+pub(crate) struct Start {
+    pub tick: u32,
+    pub before: u32,
 }
 
 // The start that is tried for a window, where `earlier` ticks are supplied before it: the window's end.
-fn start_after(window: Window, earlier: u32) -> Start
+pub(crate) fn start_after(window: Window, earlier: u32) -> Start
     requires { ⌜ (window .start ≤ window .end) × (earlier + (window .end - window .start) ≤ mostFrame) ⌝ }
     ensures { λ r. ⌜ (r .tick ≡ window .end) × (r .before ≡ earlier + (window .end - window .start)) ⌝ }
 {

@@ -12,7 +12,7 @@ use Rattle.supply.proofs.partition.outage_of.Tie as tie
 use Rattle.supply.proofs.partition.outage_of.Reads as reads
 use Rattle.supply.proofs.partition.outage_of.Lts as lts
 use Rattle.supply.proofs.partition.joined.Reads as joined-reads
-use Rattle.supply.proofs.partition.larger.Reads as larger-reads
+use Rattle.supply.proofs.pieces.larger.Reads as larger-reads
 use Rattle.tables.proofs.window.window_at.Reads as window-at-reads
 
 abbrev Inv-loop : tie.InvT-loop

@@ -1,16 +1,14 @@
 use mathlib.Core.Path.{_≡_, ap, _∙_}
 use native.Mathlib.Omega.{arith}
 use Prim.Native.Nat.{ℕ, _+_, _-_, _/_, _≤_, _<_}
-use lib.ListN as lists
 use borrow.Author.Needs.{needs}
-use Rattle.scope.specs.Limits.{mostFrame}
 use Rattle.scope.specs.Ticks.{supply}
-use Rattle.scope.specs.Windows.{Board, Window, suppliedBy}
-use Rattle.theory.specs.Ticks.{supply-le}
+use Rattle.scope.specs.Windows.{suppliedBy}
 use Rattle.theory.specs.Answers.{LegalTable}
 use Rattle.tables.specs.Told.{boardOf, windowOf}
+use Rattle.supply.specs.Positions.{Behind}
 use Rattle.supply.proofs.PositionLaws.{small, upto-is}
-use Rattle.supply.proofs.SupplyLaws.{Tried, tried-none, window-in, still-behind, before-start, here, tried-next, all-tried}
+use Rattle.supply.proofs.SupplyLaws.{Tried, Known, tried-none, still-behind, known, here, passed-next, tried-next, all-tried}
 use Rattle.supply.proofs.supply.least_at_ends.Statement.{statement}
 use Rattle.supply.proofs.supply.least_at_ends.Tie as tie
 use Rattle.supply.proofs.supply.least_at_ends.Reads as reads
@@ -38,58 +36,30 @@ loop-holds c = let ok = c .before .before .pre .0 in (ok, tried-none _ _ ok _ _ 
 window-at-requires : tie.Need-window-at-requires Inv-loop μ-loop
 window-at-requires c κs = search needs
 
--- what is known of the window that is read, whose end is tried as a start
-record Known (b : Board) (t earlier : ℕ) (w : Window) : Type 0 where
-  pub order : w .start ≤ w .end
-  pub inside : w .end ≤ b .frame
-  pub passed : earlier + (w .end - w .start) ≤ b .frame
-  pub frame-most : b .frame ≤ mostFrame
-  pub short : t ≤ b .frame
-
-known : (c : tie.After-window-at Inv-loop μ-loop) →
-    let a = c .before .before .before .before .before .args in
-    Known (boardOf (a .board)) (a .length) (c .before .before .loop .earlier) (windowOf (c .window-at .result))
-known c =
-    let e = c .before .before .before .before .before in
-    let l = c .before .before .loop in
-    let b = boardOf (e .args .board) in
-    let ws = e .args .windows .now in
-    let w = windowOf (c .window-at .result) in
-    let read = c .window-at .ensures in
-    let h : l .i < lists.length ws / 2 = omega arith in
-    let inside = window-in b ws (l .inv .0) (e .args .length) (l .i) (l .least) (l .earlier) (l .position) (l .inv .1) h w read in
-    record {
-      order = inside .0;
-      inside = inside .1;
-      passed = omega (
-        arith,
-        inside .1,
-        before-start b ws (l .inv .0) (e .args .length) (l .i) (l .least) (l .earlier) (l .position) (l .inv .1) h w read,
-        supply-le (suppliedBy b ws) 0 (w .end),
-      );
-      frame-most = l .inv .0 .frame-most;
-      short = e .pre .1;
-    }
+-- what is known of the window that is read
+known-at : (c : tie.After-window-at Inv-loop μ-loop) →
+    Known (boardOf (c .before .before .before .before .before .args .board)) (c .before .before .loop .earlier) (windowOf (c .window-at .result))
+known-at c = let l = c .before .before .loop in known _ _ (l .inv .0) _ (l .i) _ _ (l .inv .1 .passed) (omega arith) _ (c .window-at .ensures)
 
 start-after-requires : tie.Need-start-after-requires Inv-loop μ-loop
-start-after-requires c κs = (known c .order, omega (arith, known c))
+start-after-requires c κs = (known-at c .order, omega (arith, known-at c))
 
 add-end : tie.Need-add-end Inv-loop μ-loop
-add-end c = omega (arith, c .before .start-after .ensures, known (c .before .before))
+add-end c = omega (arith, c .before .start-after .ensures, known-at (c .before .before))
 
 moved-requires : tie.Need-moved-requires Inv-loop μ-loop
 moved-requires c κs =
     let w = c .before .before in
     let l = w .before .before .loop in
     let start = c .before .start-after .ensures in (
-      still-behind _ _ (l .inv .0) _ (l .i) _ _ _ (l .inv .1) (omega arith) _ (w .window-at .ensures) _ (omega (arith, start, known w)),
-      omega (arith, start, known w),
+      still-behind _ _ (l .inv .0) _ (l .i) _ _ (l .inv .1 .passed) (omega arith) _ (w .window-at .ensures) _ (omega (arith, start, known-at w)),
+      omega (arith, start, known-at w),
     )
 
 upto-requires : tie.Need-upto-requires Inv-loop μ-loop
 upto-requires c κs =
     let m = c .moved in
-    omega (arith, small _ _ (m .result) (m .ensures .0 .stands), c .before .before .start-after .ensures, known (c .before .before .before))
+    omega (arith, small _ _ (m .result) (m .ensures .0 .stands), c .before .before .start-after .ensures, known-at (c .before .before .before))
 
 -- what the position tells
 all-is : (c : tie.After-upto Inv-loop μ-loop) → let a = c .before .before .before .before .before .before .before .before .before .args in
@@ -105,17 +75,17 @@ sub-lesser c =
     let u = c .before in
     let w = u .before .before .before .before in
     let l = w .before .before .loop in
-    let passed = here _ _ (l .inv .0) _ (l .i) _ _ _ (l .inv .1) (omega arith) _ (w .window-at .ensures) _ (all-is u) .0 in
+    let passed = here _ _ (l .inv .0) _ (l .i) _ _ (l .inv .1 .passed) (omega arith) _ (w .window-at .ensures) _ (all-is u) .0 in
     omega (arith, passed, u .before .before .before .start-after .ensures .1)
 
 lesser-requires : tie.Need-lesser-requires Inv-loop μ-loop
 lesser-requires c κs = search needs
 
 sub-earlier : tie.Need-sub-earlier Inv-loop μ-loop
-sub-earlier c = known (c .before .before .before .before .before .before .before) .order
+sub-earlier c = known-at (c .before .before .before .before .before .before .before) .order
 
 add-earlier : tie.Need-add-earlier Inv-loop μ-loop
-add-earlier c = omega (arith, known (c .before .before .before .before .before .before .before))
+add-earlier c = omega (arith, known-at (c .before .before .before .before .before .before .before))
 
 add-i : tie.Need-add-i Inv-loop μ-loop
 add-i c = search needs
@@ -128,11 +98,16 @@ loop-again c =
     let u = c .before .before .before in
     let s = u .before .before .before in
     let w = s .before in
-    let l = w .before .before .loop in (
+    let l = w .before .before .loop in
+    let read = w .window-at .ensures in
+    let a = w .before .before .before .before .before .args in
+    let behind : Behind (boardOf (a .board)) (a .windows .now) (u .before .moved .result) (w .window-at .result .end + a .length) =
+    rw (← (s .start-after .ensures .0)) (u .before .moved .ensures .0) in
+    let next = passed-next _ _ (l .inv .0) _ (l .i) _ _ (l .inv .1 .passed) (omega arith) _ read _ behind in (
       l .inv .0,
       rw (c .before .lesser .ensures, s .start-after .ensures .1)
-          (tried-next _ _ (l .inv .0) _ (l .i) _ _ _ (l .inv .1) (omega arith) _ (w .window-at .ensures) _ (all-is u) _
-          (rw (← (s .start-after .ensures .0)) (u .before .moved .ensures .0))),
+          (tried-next _ _ (l .inv .0) _ (l .i) _ _ _ (l .inv .1) _ _ next _
+          (here _ _ (l .inv .0) _ (l .i) _ _ (l .inv .1 .passed) (omega arith) _ read _ (all-is u) .1)),
     )
 
 returns : tie.Need-returns Inv-loop μ-loop
