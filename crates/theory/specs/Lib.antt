@@ -44,6 +44,7 @@ pub mod Slivers
 pub mod Alone
 pub mod Forms
 pub mod Shortest
+pub mod Summaries
 pub mod Refused
 pub mod Applied
 pub mod Sharp
