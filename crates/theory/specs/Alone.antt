@@ -9,6 +9,7 @@ use Prim.Native.Nat.{ℕ, zero, suc, _+_, _-_, _*_, _/_, _%_, _≤_, _<_}
 use native.Mathlib.Omega.{arith}
 use native.Mathlib.Decide.{ℕ-discrete}
 use lib.Dec.{leb, ltb, eqb}
+use lib.IntN.{ℤ}
 use lib.ListN.{length, getD}
 use borrow.Author.Tests.{lt-ltb, eq-eqb, ne-eqb}
 use Rattle.scope.specs.Numbers.{first, pieces, piecesFrom, badCount}
@@ -24,6 +25,7 @@ use Rattle.scope.specs.Trace.{Stamped, Record, traceOf, timed}
 use Rattle.scope.specs.Replay.{Replayed, replayFault, recordsAnswer, replayAnswer}
 use Rattle.scope.specs.Shared.{Owned, owned, ownedOf, ownedAt, windowsFor, own, asOwned, follows, ownedLegal, badOwned, ownedListFault, ownedFault}
 use Rattle.scope.specs.Shared.{wholeFault, absentOwnerFault, sliverFault, sharedFault, ownFault, ownAnswer, ownOut, unlessRefused, askedFor, kept, recordsFor, replayFor}
+use Rattle.scope.specs.Summary.{summaryOf, makeFault, makeAnswer, makeOut, summaryFault, leastFromAnswer, marginsFault, marginsAnswer, marginsOut}
 use Rattle.theory.specs.Numbers.{first-equal, first-some}
 use Rattle.theory.specs.Shared.{asked-fine, asked-refused, asked-given}
 use Rattle.theory.specs.Answers.{orElse-fine, table-legal}
@@ -91,6 +93,26 @@ run-entry ts n js room = record { checks = λ b ws n p e. rw e; by-frame = λ b 
 pub run-out-entry : (ts : List ℕ) (n : ℕ) (js out : List ℕ) → Entry (kept out) (λ b ws. runOut b ws ts n js out)
 unfolding runOut runFault
 run-out-entry ts n js out = record { checks = λ b ws n p e. rw e; by-frame = λ b c ws e. rw (φ b c ws e, σ b c ws e) }
+
+pub make-entry : (room : ℕ) → Entry refused (λ b ws. makeAnswer b ws room)
+unfolding makeAnswer makeFault summaryOf
+make-entry room = record { checks = λ b ws n p e. rw e; by-frame = λ b c ws e. rw (φ b c ws e, σ b c ws e, e) }
+
+pub make-out-entry : (out : List ℕ) → Entry (kept out) (λ b ws. makeOut b ws out)
+unfolding makeOut makeFault summaryOf
+make-out-entry out = record { checks = λ b ws n p e. rw e; by-frame = λ b c ws e. rw (φ b c ws e, σ b c ws e, e) }
+
+pub least-from-entry : (summary : List ℕ) (t : ℕ) → Entry refused (λ b ws. leastFromAnswer b ws summary t)
+unfolding leastFromAnswer summaryFault summaryOf
+least-from-entry summary t = record { checks = λ b ws n p e. rw e; by-frame = λ b c ws e. rw (φ b c ws e, σ b c ws e, e) }
+
+pub margins-entry : (summary ts lengths : List ℕ) (room : ℕ) → Entry refused (λ b ws. marginsAnswer b ws summary ts lengths room)
+unfolding marginsAnswer marginsFault summaryFault summaryOf
+margins-entry summary ts lengths room = record { checks = λ b ws n p e. rw e; by-frame = λ b c ws e. rw (φ b c ws e, σ b c ws e, e) }
+
+pub margins-out-entry : (summary ts lengths : List ℕ) (out : List ℤ) → Entry (kept out) (λ b ws. marginsOut b ws summary ts lengths out)
+unfolding marginsOut marginsFault summaryFault summaryOf
+margins-out-entry summary ts lengths out = record { checks = λ b ws n p e. rw e; by-frame = λ b c ws e. rw (φ b c ws e, σ b c ws e, e) }
 
 pub records-entry : (ts : List ℕ) (rs : List Record) → Entry refused (λ b ws. recordsAnswer b ws ts rs)
 unfolding recordsAnswer replayFault

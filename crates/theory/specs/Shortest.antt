@@ -1,11 +1,11 @@
 -- Document 02, request 5, of what the entries answer: 12 exactly when, that m = 1 refuses nothing, and that what is not refused at m is answered the same at
 -- every smaller m; of plan files too
 use mathlib.Core.Path.{_≡_, refl, sym, ap, _∙_}
-use mathlib.Core.Bool.{Bool, true, false, cond, _||_}
+use mathlib.Core.Bool.{Bool, true, false, not, cond, _||_}
 use mathlib.Core.Logic.{_↔_}
 use mathlib.Core.Option.{Option, none, some}
 use mathlib.Core.List.{List, [], _∷_}
-use Prim.Native.Nat.{ℕ, _+_, _*_, _≤_}
+use Prim.Native.Nat.{ℕ, _+_, _*_, _≤_, _<_}
 use native.Mathlib.Omega.{arith}
 use lib.Dec.{leb, ltb, eqb}
 use lib.ListN.{length}
@@ -25,6 +25,7 @@ use Rattle.scope.specs.Trace.{Stamped, Record, timed, traceOf, ticksOf, release
 use Rattle.scope.specs.Replay.{extentFault, recordFault, replayFault, recordsAnswer}
 use Rattle.scope.specs.Shared.{ownedOf, windowsFor, own, ownedListFault, ownedFault, badOwned, ownedLegal, wholeFault, absentOwnerFault, sliverFault, sharedFault}
 use Rattle.scope.specs.Shared.{ownFault, ownAnswer, ownOut, asOwned, unlessRefused, askedFor, verdictFor, recordsFor, replayFor, planBoard, planAnswer}
+use Rattle.scope.specs.Summary.{summaryOf, makeFault, makeAnswer, begins, summaryFault, leastFromAnswer, lengthsFault, marginsFault, marginsAnswer}
 use Rattle.theory.specs.Answers.{fault-not-fine, unless-refused}
 use Rattle.theory.specs.Shared.{asked-refused}
 use Rattle.theory.specs.Slivers.{Sliver, sliver-exactly, sliver-twelve, one-tick, smaller-fine}
@@ -35,7 +36,7 @@ use Rattle.theory.specs.PlanBytes.{Writable, round-trip, read-settings}
 
 -- ---- document 01's checks give the numbers 1 to 11
 
-abbrev Base : Fault → Type 0
+abbrev pub Base : Fault → Type 0
 Base f = (n p : ℕ) → f ≡ fault n p → n ≤ 11
 
 base-if : (t : Bool) (m q : ℕ) → m ≤ 11 → Base (faultIf t m q)
@@ -46,7 +47,7 @@ base-at : (m : ℕ) (o : Option ℕ) → m ≤ 11 → Base (faultAt m o)
 base-at m none h n p e = absurd (fault-not-fine (sym e))
 base-at m (some i) h n p e = let z : m ≡ n = cc in omega arith
 
-base-else : (f g : Fault) → Base f → Base g → Base (f orElse g)
+pub base-else : (f g : Fault) → Base f → Base g → Base (f orElse g)
 base-else fine g a c = c
 base-else (fault m q) g a c = a
 
@@ -63,7 +64,7 @@ module _ (b : Board) (ws : List ℕ) where
   unfolding windowFault
   window-base = base-at 3 (badWindow b (windowsOf ws)) (omega arith)
 
-  table-base : Base (tableFault b ws)
+  pub table-base : Base (tableFault b ws)
   unfolding tableFault
   table-base =
       base-else (windowListFault ws) (frameFault b orElse windowFault b (windowsOf ws)) list-base
@@ -73,17 +74,19 @@ module _ (b : Board) (ws : List ℕ) where
 table-else : (b : Board) (ws : List ℕ) (g : Fault) → Base g → Base (tableFault b ws orElse g)
 table-else b ws g h = base-else (tableFault b ws) g (table-base b ws) h
 
-group-else : (ts : List ℕ) (g : Fault) → Base g → Base (groupFault ts orElse g)
+pub group-base : (ts : List ℕ) → Base (groupFault ts)
 unfolding groupFault taskListFault taskFault
-group-else ts g h =
-    base-else (groupFault ts) g
-    (base-else (taskListFault ts) (taskFault (tasksOf ts)) (base-if (badCount 3 mostTasks ts) 4 0 (omega arith)) (base-at 5 (badTask (tasksOf ts)) (omega arith))) h
+group-base ts =
+    base-else (taskListFault ts) (taskFault (tasksOf ts)) (base-if (badCount 3 mostTasks ts) 4 0 (omega arith)) (base-at 5 (badTask (tasksOf ts)) (omega arith))
 
-room-base : (needed room : ℕ) → Base (roomFault needed room)
+group-else : (ts : List ℕ) (g : Fault) → Base g → Base (groupFault ts orElse g)
+group-else ts g h = base-else (groupFault ts) g (group-base ts) h
+
+pub room-base : (needed room : ℕ) → Base (roomFault needed room)
 unfolding roomFault
 room-base needed room = base-if (ltb room needed) 8 needed (omega arith)
 
-length-base : (t : ℕ) → Base (lengthFault t)
+pub length-base : (t : ℕ) → Base (lengthFault t)
 unfolding lengthFault
 length-base t = base-if (ltb mostLength t) 7 0 (omega arith)
 
@@ -110,6 +113,31 @@ extent-base rs = base-if (ltb mostTicks (ticksOf rs) || ltb mostJobs (length (re
 record-base : (ts : List Task) (rs : List Record) → Base (recordFault ts rs)
 unfolding recordFault
 record-base ts rs = base-at 11 (badRecord ts rs) (omega arith)
+
+-- a fault whose number is not m
+abbrev pub Never : ℕ → Fault → Type 0
+Never m f = (p : ℕ) → f ≡ fault m p → ⊥
+
+pub never-else : (m : ℕ) (f g : Fault) → Never m f → Never m g → Never m (f orElse g)
+never-else m fine g a c = c
+never-else m (fault n q) g a c = a
+
+pub base-never : (m : ℕ) (f : Fault) → 11 < m → Base f → Never m f
+base-never m f h base p e = omega (arith, base m p e)
+
+-- a summary that does not belong to the table is refused by 14
+summary-never : (b : Board) (ws summary : List ℕ) → Never 12 (summaryFault b ws summary)
+unfolding summaryFault
+summary-never b ws summary p = go (begins (summaryOf b ws) summary)
+  where
+    go : (t : Bool) → faultIf (not t) 14 0 ≡ fault 12 p → ⊥
+    go true e = fault-not-fine (sym e)
+    go false e = let z : _≡_ {A = ℕ} 14 12 = cc in omega arith
+
+pub lengths-base : (lengths : List ℕ) → Base (lengthsFault lengths)
+unfolding lengthsFault
+lengths-base [] = λ n p e. absurd (fault-not-fine (sym e))
+lengths-base (t ∷ lengths) = base-else (lengthFault t) (lengthsFault lengths) (length-base t) (lengths-base lengths)
 
 -- an entry that does not refuse by 12 itself
 abbrev pub Known : {A : Type 0} → (List ℕ → Answer A) → Type 0
@@ -177,6 +205,30 @@ module _ (b : Board) where
       (base-else each output (job-base (tasksOf ts) ticks (jobsOf js)) (room-base (length (jobsOf js)) room)))) n p
       (unless-refused (runFault b l ts ticks js room) _ n p e))
 
+  pub make-known : (room : ℕ) → Known (λ l. makeAnswer b l room)
+  unfolding makeAnswer makeFault
+  make-known room =
+      below _ (λ l n p e.
+      table-else b l (roomFault (length (summaryOf b l)) room) (room-base (length (summaryOf b l)) room) n p (unless-refused (makeFault b l room) _ n p e))
+
+  pub least-from-known : (summary : List ℕ) (t : ℕ) → Known (λ l. leastFromAnswer b l summary t)
+  unfolding leastFromAnswer
+  least-from-known summary t l p e =
+      never-else 12 (tableFault b l) (summaryFault b l summary orElse lengthFault t) (base-never 12 (tableFault b l) (omega arith) (table-base b l))
+      (never-else 12 (summaryFault b l summary) (lengthFault t) (summary-never b l summary) (base-never 12 (lengthFault t) (omega arith) (length-base t))) p
+      (unless-refused (tableFault b l orElse summaryFault b l summary orElse lengthFault t) _ 12 p e)
+
+  pub margins-known : (summary ts lengths : List ℕ) (room : ℕ) → Known (λ l. marginsAnswer b l summary ts lengths room)
+  unfolding marginsAnswer marginsFault
+  margins-known summary ts lengths room l p e =
+      let output = roomFault (length lengths) room in
+      let asked = lengthsFault lengths orElse output in
+      never-else 12 (tableFault b l) (groupFault ts orElse summaryFault b l summary orElse asked) (base-never 12 (tableFault b l) (omega arith) (table-base b l))
+      (never-else 12 (groupFault ts) (summaryFault b l summary orElse asked) (base-never 12 (groupFault ts) (omega arith) (group-base ts))
+      (never-else 12 (summaryFault b l summary) asked (summary-never b l summary)
+      (base-never 12 asked (omega arith) (base-else (lengthsFault lengths) output (lengths-base lengths) (room-base (length lengths) room))))) p
+      (unless-refused (marginsFault b l summary ts lengths room) _ 12 p e)
+
   pub records-known : (ts : List ℕ) (rs : List Record) → Known (λ l. recordsAnswer b l ts rs)
   unfolding recordsAnswer replayFault
   records-known ts rs =
@@ -195,6 +247,16 @@ whole-base owners b ws =
     (base-else (ownedListFault ws) (frameFault b orElse ownedFault owners b (ownedOf ws)) (base-if (badCount 3 mostWindows ws || eqb (length ws) 0) 1 0 (omega arith))
     (base-else (frameFault b) (ownedFault owners b (ownedOf ws)) (frame-base b ws) (base-at 3 (badOwned owners b (ownedOf ws)) (omega arith))))
     (base-if (eqb (length (own b ws)) 0) 1 0 (omega arith))
+
+-- 12 is the greatest number that a list of windows is refused by
+pub shared-most : (owners : ℕ) (b : Board) (ws : List ℕ) (n p : ℕ) → sharedFault owners b ws ≡ fault n p → n ≤ 12
+unfolding sharedFault
+shared-most owners b ws n p = go (wholeFault owners b ws) (absentOwnerFault b ws) (whole-base owners b ws n p)
+  where
+    go : (f g : Fault) → ((f orElse g) ≡ fault n p → n ≤ 11) → (f orElse g orElse sliverFault b ws) ≡ fault n p → n ≤ 12
+    go (fault m q) g base e = omega (arith, base e)
+    go fine (fault m q) base e = omega (arith, base e)
+    go fine fine base e = omega (arith, sliver-twelve b ws n p e)
 
 module _ (owners : ℕ) (b : Board) (ws : List ℕ) where
   pub record Twelve (p : ℕ) : Type 0 where
