@@ -1,17 +1,18 @@
 -- The theorems at marked examples: their premises are the rows of the table of examples, so none of them is empty
 use mathlib.Core.Path.{_≡_, refl, sym, ap, _∙_}
-use mathlib.Core.Bool.{true}
+use mathlib.Core.Bool.{true, false}
 use mathlib.Core.Option.{some}
 use mathlib.Core.Logic.{_⊎_, inl}
 use mathlib.Core.List.{List, [], _∷_, _++_, map}
 use Prim.Native.Nat.{ℕ, zero, suc, _-_, _*_, _≤_, _<_}
 use native.Mathlib.Omega.{arith}
 use lib.Dec.{ltb}
+use lib.IntN.{ℤ, pos, ℤ.negsuc}
 use lib.ListN.{length, getD, take, replicate, length-append}
-use Rattle.scope.specs.Numbers.{least, piecesFrom, pieces, badCount, greatest, lexically}
+use Rattle.scope.specs.Numbers.{least, piecesFrom, pieces, badCount, greatest, lexically, written}
 use Rattle.scope.specs.Ticks.{supply, leastSupply}
 use Rattle.scope.specs.Windows.{suppliedBy}
-use Rattle.scope.specs.Tasks.{tasksOf, taskAt, demand}
+use Rattle.scope.specs.Tasks.{tasksOf, taskAt, demand, margin}
 use Rattle.scope.specs.Verdict.{Verdict.meets, Verdict.miss}
 use Rattle.scope.specs.Bound.{Bound.bound, asked}
 use Rattle.scope.specs.Jobs.{Job, job, jobsOf, taskOf, deadline}
@@ -20,11 +21,13 @@ use Rattle.scope.specs.Limits.{teams, mostSettings, mostWindows, mostTasks, mos
 use Rattle.scope.specs.Plan.{Read.read, Plan, planOf, numberBytesWithin, numberBytes, numbersBytes, planBytes, writeAnswer, writeOut}
 use Rattle.scope.specs.Line.{lineAnswer, lineOut}
 use Rattle.scope.specs.Run.{Outcome.met, outcome, countOf, counts}
-use Rattle.scope.specs.Answers.{Fault.fault, Answer.given, Answer.refused, windowListFault, taskListFault, verdictAnswer, boundAnswer, runAnswer, runOut, criticalAnswer}
-use Rattle.scope.specs.Answers.{criticalOf, criticalOut, leastSupplyAnswer, outageAnswer}
+use Rattle.scope.specs.Answers.{Fault.fine, Fault.fault, Answer.given, Answer.refused, windowListFault, taskListFault, verdictAnswer, boundAnswer, runAnswer, runOut, criticalAnswer}
+use Rattle.scope.specs.Answers.{groupFault, criticalOf, criticalOut, leastSupplyAnswer, outageAnswer}
 use Rattle.scope.specs.Trace.{Stamped, traceOf, Record, timed, ticksOf, releases, completion, completions, traceBytes, stampedFrom}
 use Rattle.scope.specs.Replay.{endedFrom, recorded, Replayed.same, Replayed.differs, Replayed.missed, replayAnswer}
-use Rattle.scope.specs.Shared.{own, asOwned, sharedFault, ownAnswer, verdictFor, runOutFor, replayFor, planAnswer}
+use Rattle.scope.specs.Shared.{own, asOwned, sharedFault, ownAnswer, leastSupplyFor, marginFor, verdictFor, runOutFor, replayFor, planAnswer}
+use Rattle.scope.specs.Summary.{summaryOf, makeAnswer, makeOut, begins, summaryFault, ticksBefore, leastFrom, marginFrom, marginsAnswer, marginsOut, makeFor, makeOutFor}
+use Rattle.scope.specs.Summary.{leastFromFor, marginsFor, marginsOutFor, Edit.remove, editAnswer, editWindows, editSummary}
 use Rattle.scope.specs.Demands.{Silent, LeastMiss, Way, Served}
 use Rattle.scope.specs.Examples.{Reply.amounts, Reply.windows, Reply.bytesIn, Reply.aVerdict, Reply.bounds, Reply.aRun, X, lab, XShared, on, onFor, onAtLeast, reply, table, examples, row}
 use Rattle.scope.specs.Examples.{Reply.aReplay}
@@ -39,7 +42,7 @@ use Rattle.theory.specs.Outage.{outage-run, outage-no-longer, outage-sup
 use Rattle.theory.specs.Machine.{machine-under}
 use Rattle.theory.specs.Edf.{edf-meets, edf-every}
 use Rattle.theory.specs.Starved.{starved}
-use Rattle.theory.specs.Refused.{critical-kept, run-kept, write-kept, line-kept}
+use Rattle.theory.specs.Refused.{critical-kept, run-kept, make-kept, margins-kept, edit-kept, write-kept, line-kept}
 use Rattle.theory.specs.Writing.{number-one, number-more}
 use Rattle.theory.specs.Seven.{UpTo, up-to-greatest}
 use Rattle.theory.specs.Plan.{mostPlanBytes, first-answer, longest-plan}
@@ -47,9 +50,11 @@ use Rattle.theory.specs.Traces.{shift-answer}
 use Rattle.theory.specs.Replays.{replay-given, same-completions, FirstPair, machineEnded, replayed-differs, meets-no-miss}
 use Rattle.theory.specs.Recorded.{recorded-same, recorded-met, recorded-missed}
 use Rattle.theory.specs.Shared.{one-owner-a-tick, no-such-owner}
-use Rattle.theory.specs.Alone.{verdict-entry, run-out-entry, teamsFault, alone, WholeRefusal, whole-refusal, Told, told-apart, own-alone, one-owner, replay-alone, replay-one-owner}
-use Rattle.theory.specs.Shortest.{verdict-known, Twelve, exactly-twelve, one-answer, never-twelve, smaller-same, replay-smaller, TraceTwelve, replay-twelve, PlanTwelve, plan-twelve}
+use Rattle.theory.specs.Alone.{verdict-entry, run-out-entry, make-out-entry, margins-out-entry, teamsFault, alone, WholeRefusal, whole-refusal, Told, told-apart, own-alone, one-owner, replay-alone, replay-one-owner}
+use Rattle.theory.specs.Shortest.{verdict-known, least-from-known, Twelve, exactly-twelve, one-answer, never-twelve, smaller-same, replay-smaller, TraceTwelve, replay-twelve, PlanTwelve, plan-twelve}
 use Rattle.theory.specs.Shortest.{own-twelve, own-smaller, smaller-plan, old-form, old-refused}
+use Rattle.theory.specs.Summaries.{fine-begins, begins-written, least-from-exact, margin-from-exact, summary-agrees, summary-answers, not-belonging, fourteen}
+use Rattle.theory.specs.Summaries.{margins-agree, margins-each, margins-not-belonging, margins-fourteen, made-belongs}
 use Rattle.theory.specs.Forms.{withSettings, refused-behind}
 use Rattle.theory.specs.PlanBytes.{Writable, plan-length, round-trip, left-over, only-bytes}
 
@@ -605,3 +610,141 @@ w6-smaller-plan =
 w6-plan-twelve : PlanTwelve 1 (3 ∷ w6-file) 0
 unfolding everything
 w6-plan-twelve = plan-twelve 1 (3 ∷ w6-file) 0 .0 refl
+
+-- ---- a summary beside X: 4 ticks a frame, a delay of 12, and 2 critical windows, 3 to 5 and 6 to 8
+
+abbrev pub x-summary : List ℕ
+x-summary = 4 ∷ 12 ∷ 2 ∷ 3 ∷ 5 ∷ 6 ∷ 8 ∷ []
+
+-- memory that is longer belongs too
+x-begins : (rest : List ℕ) → begins (summaryOf (on 8) X) (x-summary ++ rest) ≡ true
+unfolding everything
+x-begins rest = refl
+
+-- three million ticks and five more, which no entry answers, hold four in each of 375,000 frames and 2
+x-long : leastSupply (suppliedBy (on 8) X) 8 3000005 ≡ 1500002
+unfolding leastFrom ticksBefore pieces piecesFrom
+x-long = sym (least-from-exact (on 8) X x-summary (omega arith) (x-begins []) 3000005)
+
+-- W6's group misses its last deadline by one tick
+w6-from : marginFrom 8 x-summary (tasksOf w6) 6 ≡ margin (suppliedBy (on 8) X) 8 (tasksOf w6) 6
+w6-from = margin-from-exact (on 8) X x-summary (omega arith) (x-begins []) (tasksOf w6) 6
+
+x-shared-summary : summaryFault (on 8) (own (on 8) XShared) x-summary ≡ fine
+unfolding everything
+x-shared-summary = refl
+
+x-agrees : (t : ℕ) → leastFromFor (on 8) XShared x-summary t ≡ leastSupplyFor (on 8) XShared t
+x-agrees t = summary-agrees (on 8) XShared x-summary t x-shared-summary
+
+x-from : leastFromFor (on 8) XShared x-summary 999999 ≡ given 499999
+unfolding everything
+x-from = refl
+
+x-answers : leastSupplyFor (on 8) XShared 999999 ≡ given 499999
+x-answers = summary-answers (on 8) XShared x-summary 999999 499999 x-from
+
+-- owner 1 has other windows: X's summary is refused, whatever length is asked for
+x-not-hers : begins (summaryOf (onFor 8 1) (own (onFor 8 1) XShared)) x-summary ≡ false
+unfolding everything
+x-not-hers = refl
+
+hers-fine : sharedFault teams (onFor 8 1) XShared ≡ fine
+unfolding everything
+hers-fine = refl
+
+x-refused : (t : ℕ) → leastFromFor (onFor 8 1) XShared x-summary t ≡ refused 14 0
+x-refused t = not-belonging (onFor 8 1) XShared x-summary t hers-fine x-not-hers
+
+x-fourteen : begins (summaryOf (onFor 8 1) (own (onFor 8 1) XShared)) x-summary ≡ false
+x-fourteen = fourteen (onFor 8 1) XShared x-summary 2000000 0 (x-refused 2000000) .0
+
+-- W6's margins at 6 and at 999,999, in room for three
+abbrev nines : List ℤ
+nines = pos 9 ∷ pos 9 ∷ pos 9 ∷ []
+
+w6-margins : marginsFor (on 8) XShared x-summary w6 (6 ∷ 999999 ∷ []) 3 ≡ given 2
+unfolding everything
+w6-margins = refl
+
+w6-margins-out : marginsOutFor (on 8) XShared x-summary w6 (6 ∷ 999999 ∷ []) nines ≡ negsuc 0 ∷ pos 0 ∷ pos 9 ∷ []
+unfolding everything
+w6-margins-out = refl
+
+w6-agree : marginsOutFor (on 8) XShared x-summary w6 (6 ∷ 999999 ∷ []) nines
+    ≡ written (map (margin (suppliedBy (on 8) (own (on 8) XShared)) 8 (tasksOf w6)) (6 ∷ 999999 ∷ [])) nines
+w6-agree = margins-agree (on 8) XShared x-summary w6 (6 ∷ 999999 ∷ []) nines 2 w6-margins .1
+
+-- at 999,999 exactly what is asked for is there, as the entry without a summary would answer
+w6-each : marginFor (on 8) XShared w6 999999 ≡ given (pos 0)
+w6-each =
+    margins-each (on 8) XShared x-summary w6 (6 ∷ 999999 ∷ []) nines 2 w6-margins 1 (omega arith)
+    ∙ ap (λ (l : List ℤ). given (getD l 1 (pos 0))) w6-margins-out
+
+w6-group : groupFault w6 ≡ fine
+unfolding everything
+w6-group = refl
+
+w6-refused : marginsFor (onFor 8 1) XShared x-summary w6 (2000000 ∷ []) 0 ≡ refused 14 0
+w6-refused = margins-not-belonging (onFor 8 1) XShared x-summary w6 (2000000 ∷ []) 0 hers-fine w6-group x-not-hers
+
+w6-fourteen : sharedFault teams (onFor 8 1) XShared ≡ fine
+w6-fourteen = margins-fourteen (onFor 8 1) XShared x-summary w6 (2000000 ∷ []) 0 0 w6-refused .1
+
+-- owner 1's own summary, as it is made, belongs
+abbrev hers : List ℕ
+hers = makeOutFor (onFor 8 1) XShared (replicate 9 9)
+
+hers-made : makeFor (onFor 8 1) XShared 9 ≡ given 7
+unfolding everything
+hers-made = refl
+
+hers-belongs : summaryFault (onFor 8 1) (own (onFor 8 1) XShared) hers ≡ fine
+hers-belongs = made-belongs (onFor 8 1) XShared (replicate 9 9) 7 hers-made .0
+
+hers-agrees : (t : ℕ) → leastFromFor (onFor 8 1) XShared hers t ≡ leastSupplyFor (onFor 8 1) XShared t
+hers-agrees t = summary-agrees (onFor 8 1) XShared hers t hers-belongs
+
+-- written once more, it is what it was
+hers-again : written (summaryOf (onFor 8 1) (own (onFor 8 1) XShared)) hers ≡ hers
+hers-again =
+    let mine = own (onFor 8 1) XShared in
+    begins-written (summaryOf (onFor 8 1) mine) hers (fine-begins (onFor 8 1) mine hers hers-belongs)
+
+-- X's summary is made of X alone, and margins from it depend on nothing of owner 1
+x-made-alone : makeOutFor (on 8) XShared (replicate 9 9) ≡ makeOutFor (on 8) (asOwned 0 X) (replicate 9 9)
+unfolding everything teamsFault
+x-made-alone = alone (make-out-entry (replicate 9 9)) teams (on 8) (on 8) XShared (asOwned 0 X) refl refl refl refl
+
+w6-margins-alone : marginsOutFor (on 8) XShared x-summary w6 (6 ∷ []) nines ≡ marginsOut (on 8) X x-summary w6 (6 ∷ []) nines
+unfolding everything teamsFault
+w6-margins-alone =
+    alone (margins-out-entry x-summary w6 (6 ∷ []) nines) teams (on 8) (on 8) XShared (asOwned 0 X) refl refl refl refl
+    ∙ one-owner teams (on 8) (omega arith) X refl (margins-out-entry x-summary w6 (6 ∷ []) nines)
+
+-- 12 comes before 14
+summary-twelve : Twelve teams (onAtLeast 8 0 2) XShared 3
+unfolding everything
+summary-twelve = exactly-twelve teams (onAtLeast 8 0 2) XShared _ (least-from-known (onAtLeast 8 0 2) [] 6) 3 .0 refl
+
+-- too little room for X's summary, another team's summary with room for margins, and an edit with it: all that is lent stays as it was
+make-short : makeAnswer (on 8) X 6 ≡ refused 8 7
+unfolding everything
+make-short = refl
+
+make-kept-at : makeOut (on 8) X (replicate 6 9) ≡ replicate 6 9
+make-kept-at = make-kept 8 7 (on 8) X (replicate 6 9) make-short
+
+margins-other : marginsAnswer (on 8) lab x-summary w6 (6 ∷ []) 3 ≡ refused 14 0
+unfolding everything
+margins-other = refl
+
+margins-kept-at : marginsOut (on 8) lab x-summary w6 (6 ∷ []) nines ≡ nines
+margins-kept-at = margins-kept 14 0 (on 8) lab x-summary w6 (6 ∷ []) nines margins-other
+
+edit-other : editAnswer teams (onFor 8 1) 4 XShared x-summary (remove 0) ≡ refused 14 0
+unfolding everything
+edit-other = refl
+
+edit-kept-at : (editWindows teams (onFor 8 1) 4 XShared x-summary (remove 0) ≡ XShared) × (editSummary teams (onFor 8 1) 4 XShared x-summary (remove 0) ≡ x-summary)
+edit-kept-at = edit-kept 14 0 teams (onFor 8 1) 4 XShared x-summary (remove 0) edit-other
