@@ -161,6 +161,7 @@ module _ (b : Board) where
         ticks-step l n rest r,
       )
 
+  -- of any rising numbers on any board: a number left over at the end makes no window
   pub ticks-before : (l : List ℕ) (n : ℕ) → Rising l n → (r : ℕ) → ticksBefore (windowsOf l) r ≡ supply (covers b (windowsOf l)) 0 r
   unfolding supply
   ticks-before l n up zero = ticks-none l 0 (λ i h. omega arith)
@@ -194,11 +195,11 @@ module _ (σ : ℕ → Bool) (P : ℕ) where
 
 module _ (b : Board) (ws s : List ℕ) where
   -- what stands in memory that begins with a summary: A at its front, and the critical windows
-  summary-A : begins (summaryOf b ws) s ≡ true → getD s 0 0 ≡ perFrame (suppliedBy b ws) (b .frame)
+  pub summary-A : begins (summaryOf b ws) s ≡ true → getD s 0 0 ≡ perFrame (suppliedBy b ws) (b .frame)
   unfolding summaryOf
   summary-A e = begins-at (summaryOf b ws) s e 0 (omega arith)
 
-  summary-windows : begins (summaryOf b ws) s ≡ true → windowsIn s ≡ windowsOf (criticalOf b ws)
+  pub summary-windows : begins (summaryOf b ws) s ≡ true → windowsIn s ≡ windowsOf (criticalOf b ws)
   unfolding summaryOf
   summary-windows e =
       let l = criticalOf b ws in
@@ -208,7 +209,7 @@ module _ (b : Board) (ws s : List ℕ) where
       ap windowsIn (begins-front (summaryOf b ws) s e)
       ∙ ap windowsOf (ap (λ (n : ℕ). take n (l ++ rest)) whole ∙ take-append-seam l rest)
 
-  -- the least supply from a summary is the table's, of every length
+  -- the least supply from a summary is the table's, of every length: no limit on t, and only that there is a frame
   pub least-from-exact : 0 < b .frame → begins (summaryOf b ws) s ≡ true → (t : ℕ) →
       leastFrom (b .frame) s t ≡ leastSupply (suppliedBy b ws) (b .frame) t
   unfolding leastFrom
@@ -341,13 +342,13 @@ written-mapped f l out j h =
     List·getD-append (map f l) (drop (length (map f l)) out) (pos 0) j (omega arith) ∙ mapped-at f l j h
 
 -- what has been checked where margins are given
-record Margins (b : Board) (ws s ts lengths : List ℕ) (room : ℕ) : Type 0 where
+record Margins (b : Board) (ws s ts lengths : List ℕ) : Type 0 where
   table : tableFault b ws ≡ fine
   group : groupFault ts ≡ fine
   belongs : begins (summaryOf b ws) s ≡ true
   asked : lengthsFault lengths ≡ fine
 
-margins-checked : (b : Board) (ws s ts lengths : List ℕ) (room : ℕ) → marginsFault b ws s ts lengths room ≡ fine → Margins b ws s ts lengths room
+margins-checked : (b : Board) (ws s ts lengths : List ℕ) (room : ℕ) → marginsFault b ws s ts lengths room ≡ fine → Margins b ws s ts lengths
 unfolding marginsFault
 margins-checked b ws s ts lengths room e =
     let output = roomFault (length lengths) room in
@@ -376,7 +377,7 @@ module _ (b : Board) (ws s ts lengths : List ℕ) where
         unless-given (marginsFault b mine s ts lengths (length out)) (length lengths) n
         (asked-given teams b ws (λ l. marginsAnswer b l s ts lengths (length out)) n e .1)
 
-    checked : Margins b mine s ts lengths (length out)
+    checked : Margins b mine s ts lengths
     checked = margins-checked b mine s ts lengths (length out) (answered .0)
 
     -- the margins at the lengths, one after another, at the front of the buffer
