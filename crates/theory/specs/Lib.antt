@@ -46,5 +46,6 @@ pub mod Forms
 pub mod Shortest
 pub mod Summaries
 pub mod Refused
+pub mod Edits
 pub mod Applied
 pub mod Sharp
