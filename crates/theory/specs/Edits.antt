@@ -3,12 +3,12 @@
 use mathlib.Core.Path.{_≡_, refl, sym, ap, _∙_}
 use mathlib.Core.Bool.{Bool, true, false, not}
 use mathlib.Core.Logic.{_⊎_, inl, inr, _≢_, _↔_}
-use mathlib.Core.List.{List, [], _∷_, _++_, append-assoc}
-use Prim.Native.Nat.{ℕ, _+_, _-_, _*_, _/_, _%_, _≤_, _<_}
+use mathlib.Core.List.{List, [], _∷_, _++_, append-nil, append-assoc}
+use Prim.Native.Nat.{ℕ, suc, _+_, _-_, _*_, _/_, _%_, _≤_, _<_}
 use native.Mathlib.Omega.{arith}
 use lib.Dec.{leb, ltb, eqb}
 use lib.ListN.{length, getD, take, drop, length-append, length-drop, take-append-drop}
-use lib.Seq.{length-take-le, take-at, drop-append-add, drop-cons}
+use lib.Seq.{length-take-le, take-at, drop-at, drop-cons, getD-append-add}
 use borrow.Author.Tests.{ltb-false, leb-false, lt-leb, le-ltb, ne-eqb, not-false}
 use Rattle.scope.specs.Numbers.{written}
 use Rattle.scope.specs.Windows.{Board}
@@ -161,3 +161,170 @@ module _ (owners : ℕ) (b : Board) (count : ℕ) (memory summary : List ℕ) (e
         window-length = ap length (g .window-memory) ∙ length-written l memory (p .room);
         summary-length = ap length (g .summary-memory) ∙ length-written (editedSummary b count memory edit) summary (p .summary-room);
       }
+
+-- ---- splicing
+
+-- the three numbers from a place on
+three-cons : (l : List ℕ) (n : ℕ) → n + 2 < length l → drop n l ≡ getD l n 0 ∷ getD l (n + 1) 0 ∷ getD l (n + 2) 0 ∷ drop (n + 3) l
+three-cons l n h =
+    let e₁ : suc n ≡ n + 1 = omega arith in
+    let e₂ : suc (n + 1) ≡ n + 2 = omega arith in
+    let e₃ : suc (n + 2) ≡ n + 3 = omega arith in
+    drop-cons l n 0 (omega arith)
+    ∙ ap (λ (r : List ℕ). getD l n 0 ∷ r)
+    (ap (λ (k : ℕ). drop k l) e₁ ∙ drop-cons l (n + 1) 0 (omega arith)
+    ∙ ap (λ (r : List ℕ). getD l (n + 1) 0 ∷ r)
+    (ap (λ (k : ℕ). drop k l) e₂ ∙ drop-cons l (n + 2) 0 h ∙ ap (λ (k : ℕ). getD l (n + 2) 0 ∷ drop k l) e₃))
+
+-- the numbers of window i
+abbrev pub numbersAt : List ℕ → ℕ → List ℕ
+numbersAt l i = getD l (3 * i) 0 ∷ getD l (3 * i + 1) 0 ∷ getD l (3 * i + 2) 0 ∷ []
+
+-- none in place of none
+splice-none : (i : ℕ) (l : List ℕ) → spliced i 0 [] l ≡ l
+splice-none i l = let e : 3 * (i + 0) ≡ 3 * i = omega arith in rw (append-nil, e) (take-append-drop (3 * i) l)
+
+-- a window in place of itself
+splice-same : (i : ℕ) (l : List ℕ) → 3 * i + 2 < length l → spliced i 1 (numbersAt l i) l ≡ l
+splice-same i l h =
+    let e : 3 * (i + 1) ≡ 3 * i + 3 = omega arith in
+    append-assoc (take (3 * i) l) (numbersAt l i) (drop (3 * (i + 1)) l) ∙ ap (λ (k : ℕ). take (3 * i) l ++ (numbersAt l i ++ drop k l)) e
+    ∙ ap (λ (r : List ℕ). take (3 * i) l ++ r) (sym (three-cons l (3 * i) h)) ∙ take-append-drop (3 * i) l
+
+module _ (i : ℕ) (l : List ℕ) (h : 3 * i ≤ length l) where
+  front : length (take (3 * i) l) ≡ 3 * i
+  front = length-take-le (3 * i) l h
+
+  splice-length : (gone : ℕ) (come : List ℕ) → length (spliced i gone come l) ≡ 3 * i + length come + (length l - 3 * (i + gone))
+  splice-length gone come = rw (length-append, length-append, length-drop, front)
+
+  -- what was put in place of windows goes for something else: as if that had come in their place
+  splice-again : (gone n : ℕ) (come back : List ℕ) → length come ≡ 3 * n → spliced i n back (spliced i gone come l) ≡ spliced i gone back l
+  splice-again gone n come back e =
+      let rest : List ℕ = drop (3 * (i + gone)) l in
+      let shown : length (take (3 * i) l ++ come) ≡ 3 * (i + n) = omega (arith, length-append (take (3 * i) l) come, front, e) in
+      let ahead : take (3 * i) (spliced i gone come l) ≡ take (3 * i) l =
+      ap (take (3 * i)) (append-assoc (take (3 * i) l) come rest) ∙ take-at (take (3 * i) l) (come ++ rest) (3 * i) front in
+      let behind : drop (3 * (i + n)) (spliced i gone come l) ≡ rest = drop-at (take (3 * i) l ++ come) rest (3 * (i + n)) shown in
+      rw (ahead, behind)
+
+-- how many windows there are after an edit
+abbrev pub countAfter : Edit → ℕ → ℕ
+countAfter (move i s e) count = count
+countAfter (add i s e o) count = count + 1
+countAfter (remove i) count = count - 1
+
+pub edited-length : (edit : Edit) (count : ℕ) (l : List ℕ) → length l ≡ 3 * count → Allowed edit count → length (edited edit l) ≡ 3 * countAfter edit count
+unfolding edited
+edited-length (move i s e) count l n h = omega (arith, splice-length i l (omega arith) 1 (s ∷ e ∷ getD l (3 * i + 2) 0 ∷ []))
+edited-length (add i s e o) count l n h = omega (arith, splice-length i l (omega arith) 0 (s ∷ e ∷ o ∷ []))
+edited-length (remove i) count l n h = omega (arith, splice-length i l (omega arith) 1 [])
+
+-- ---- an edit is undone by another
+
+abbrev pub undo : Edit → List ℕ → Edit
+undo (move i s e) l = move i (getD l (3 * i) 0) (getD l (3 * i + 1) 0)
+undo (add i s e o) l = remove i
+undo (remove i) l = add i (getD l (3 * i) 0) (getD l (3 * i + 1) 0) (getD l (3 * i + 2) 0)
+
+undo-allowed : (edit : Edit) (count : ℕ) (l : List ℕ) → Allowed edit count → Allowed (undo edit l) (countAfter edit count)
+undo-allowed (move i s e) count l h = h
+undo-allowed (add i s e o) count l h = omega arith
+undo-allowed (remove i) count l h = omega arith
+
+pub undone : (edit : Edit) (count : ℕ) (l : List ℕ) → length l ≡ 3 * count → Allowed edit count → edited (undo edit l) (edited edit l) ≡ l
+unfolding edited
+undone (move i s e) count l n h =
+    let o : ℕ = getD l (3 * i + 2) 0 in
+    let fit : 3 * i ≤ length l = omega arith in
+    let rest : List ℕ = s ∷ e ∷ o ∷ drop (3 * (i + 1)) l in
+    let kept : getD (spliced i 1 (s ∷ e ∷ o ∷ []) l) (3 * i + 2) 0 ≡ o =
+    ap (λ (k : List ℕ). getD k (3 * i + 2) 0) (append-assoc (take (3 * i) l) (s ∷ e ∷ o ∷ []) (drop (3 * (i + 1)) l))
+    ∙ ap (λ (k : ℕ). getD (take (3 * i) l ++ rest) (k + 2) 0) (sym (front i l fit)) ∙ getD-append-add (take (3 * i) l) rest 2 0 in
+    ap (λ (c : ℕ). spliced i 1 (getD l (3 * i) 0 ∷ getD l (3 * i + 1) 0 ∷ c ∷ []) (spliced i 1 (s ∷ e ∷ o ∷ []) l)) kept
+    ∙ splice-again i l fit 1 1 (s ∷ e ∷ o ∷ []) (numbersAt l i) (omega arith) ∙ splice-same i l (omega arith)
+undone (add i s e o) count l n h = splice-again i l (omega arith) 0 1 (s ∷ e ∷ o ∷ []) [] (omega arith) ∙ splice-none i l
+undone (remove i) count l n h = splice-again i l (omega arith) 1 0 [] (numbersAt l i) (omega arith) ∙ splice-same i l (omega arith)
+
+-- an edit of n windows in the memories m and s is made, and afterwards the windows are those that `memory` has, so many, and the summary is theirs
+pub record GivesBack (owners : ℕ) (b : Board) (count : ℕ) (memory : List ℕ) (n : ℕ) (m s : List ℕ) (back : Edit) : Type 0 where
+  pub answered : editAnswer owners b n m s back ≡ given (record { windows = count; numbers = length (summaryOf b (own b (tableIn count memory))) })
+  pub list : tableIn count (editWindows owners b n m s back) ≡ tableIn count memory
+  pub belongs : begins (summaryOf b (own b (tableIn count memory))) (editSummary owners b n m s back) ≡ true
+
+module _ (owners : ℕ) (b : Board) (count : ℕ) (memory summary : List ℕ) (edit : Edit) (x : Edited) (e : editAnswer owners b count memory summary edit ≡ given x) where
+  abbrev m′ : List ℕ
+  m′ = editWindows owners b count memory summary edit
+
+  abbrev s′ : List ℕ
+  s′ = editSummary owners b count memory summary edit
+
+  abbrev back : Edit
+  back = undo edit (tableIn count memory)
+
+  -- the numbers of the list before
+  held : length (tableIn count memory) ≡ 3 * count
+  held = length-take-le (3 * count) memory (edit-given owners b count memory summary edit x e .parts .counted)
+
+  -- how many windows are answered
+  pub count-answered : x .windows ≡ countAfter edit count
+  count-answered =
+      let g = edit-given owners b count memory summary edit x e in
+      omega (arith, g .windows, edited-length edit count (tableIn count memory) held (g .parts .allowed))
+
+  -- the list before comes back
+  back-list : editedList (x .windows) m′ back ≡ tableIn count memory
+  back-list =
+      ap (edited back) (edit-leaves owners b count memory summary edit x e .list)
+      ∙ undone edit count (tableIn count memory) held (edit-given owners b count memory summary edit x e .parts .allowed)
+
+  back-parts : EditParts owners b (x .windows) m′ s′ back
+  back-parts =
+      let p = edit-given owners b count memory summary edit x e .parts in
+      let l = edit-leaves owners b count memory summary edit x e in
+      let n = edited-length edit count (tableIn count memory) held (p .allowed) in
+      let room = begins-room (summaryOf b (own b (tableIn count memory))) summary (p .belongs) in
+      record {
+        counted = omega (arith, count-answered, n, p .room, l .window-length);
+        before = l .legal;
+        belongs = summary-begins b (own b (tableIn (x .windows) m′)) s′ (l .belongs);
+        allowed = rw count-answered (undo-allowed edit count (tableIn count memory) (p .allowed));
+        after = rw back-list (p .before);
+        room = omega (arith, ap length back-list, held, p .counted, l .window-length);
+        summary-room = rw back-list (omega (arith, room, l .summary-length));
+      }
+
+  -- the edit that undoes it is made, and gives back both lists
+  pub edit-undone : GivesBack owners b count memory (x .windows) m′ s′ back
+  edit-undone =
+      let y : Edited = record { windows = count; numbers = length (summaryOf b (own b (tableIn count memory))) } in
+      let c : length (tableIn count memory) / 3 ≡ count = omega (arith, held) in
+      let answered : editAnswer owners b (x .windows) m′ s′ back ≡ given y = rw (back-list, c) at (parts-given owners b (x .windows) m′ s′ back back-parts) in
+      let l = edit-leaves owners b (x .windows) m′ s′ back y answered in
+      let list = l .list ∙ back-list in
+      record {
+        answered = answered;
+        list = list;
+        belongs = rw list at (summary-begins b (own b (tableIn count (editWindows owners b (x .windows) m′ s′ back))) (editSummary owners b (x .windows) m′ s′ back) (l .belongs));
+      }
+
+module _ (owners : ℕ) (b : Board) (count : ℕ) (memory summary : List ℕ) where
+  -- removing what was added
+  pub add-then-remove : (i st en o : ℕ) (x : Edited) → editAnswer owners b count memory summary (add i st en o) ≡ given x →
+      GivesBack owners b count memory (x .windows)
+      (editWindows owners b count memory summary (add i st en o)) (editSummary owners b count memory summary (add i st en o)) (remove i)
+  add-then-remove i st en o x e = edit-undone owners b count memory summary (add i st en o) x e
+
+  -- adding what was removed
+  pub remove-then-add : (i : ℕ) (x : Edited) → editAnswer owners b count memory summary (remove i) ≡ given x →
+      GivesBack owners b count memory (x .windows)
+      (editWindows owners b count memory summary (remove i)) (editSummary owners b count memory summary (remove i))
+      (add i (getD (tableIn count memory) (3 * i) 0) (getD (tableIn count memory) (3 * i + 1) 0) (getD (tableIn count memory) (3 * i + 2) 0))
+  remove-then-add i x e = edit-undone owners b count memory summary (remove i) x e
+
+  -- moving a window back to its old start and end
+  pub move-back : (i st en : ℕ) (x : Edited) → editAnswer owners b count memory summary (move i st en) ≡ given x →
+      GivesBack owners b count memory (x .windows)
+      (editWindows owners b count memory summary (move i st en)) (editSummary owners b count memory summary (move i st en))
+      (move i (getD (tableIn count memory) (3 * i) 0) (getD (tableIn count memory) (3 * i + 1) 0))
+  move-back i st en x e = edit-undone owners b count memory summary (move i st en) x e
