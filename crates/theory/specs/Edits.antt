@@ -1,7 +1,7 @@
 -- Document 02, request 6, of edits: what an edit leaves belongs to the table it leaves, a refused one leaves everything, an edit is undone by its opposite, and
 -- what of it may depend on the other team
 use mathlib.Core.Path.{_≡_, refl, sym, ap, _∙_}
-use mathlib.Core.Bool.{Bool, true, false, not}
+use mathlib.Core.Bool.{Bool, true, false, not, cond}
 use mathlib.Core.Logic.{_⊎_, inl, inr, _≢_, _↔_}
 use mathlib.Core.List.{List, [], _∷_, _++_, append-nil, append-assoc}
 use Prim.Native.Nat.{ℕ, suc, _+_, _-_, _*_, _/_, _%_, _≤_, _<_}
@@ -10,12 +10,13 @@ use lib.Dec.{leb, ltb, eqb}
 use lib.ListN.{length, getD, take, drop, length-append, length-drop, take-append-drop}
 use lib.Seq.{length-take-le, take-at, drop-at, drop-cons, getD-append-add}
 use borrow.Author.Tests.{ltb-false, leb-false, lt-leb, le-ltb, ne-eqb, not-false}
-use Rattle.scope.specs.Numbers.{written}
-use Rattle.scope.specs.Windows.{Board}
+use Rattle.scope.specs.Numbers.{piecesFrom, pieces, written}
+use Rattle.scope.specs.Windows.{Board, Window}
 use Rattle.scope.specs.Answers.{Fault, Fault.fine, Fault.fault, Answer.given, Answer.refused, faultIf, _orElse_, unless, unlessKept, roomFault}
-use Rattle.scope.specs.Shared.{own, sharedFault}
+use Rattle.scope.specs.Shared.{Owned, owned, ownedOf, windowsFor, own, sharedFault}
 use Rattle.scope.specs.Summary.{summaryOf, begins, summaryFault, Edit, Edit.move, Edit.add, Edit.remove, spliced, edited, indexFault, tableIn, countFault}
 use Rattle.scope.specs.Summary.{editedList, editedSummary, editFault, Edited, editAnswer, editWindows, editSummary}
+use Rattle.theory.specs.Lists.{pieces-append}
 use Rattle.theory.specs.Answers.{faultIf-fine, orElse-fine, unless-given, unless-refused}
 use Rattle.theory.specs.Buffers.{length-written, take-written, written-begins, begins-room, begins-written}
 use Rattle.theory.specs.Shared.{shared-parts, whole}
@@ -328,3 +329,65 @@ module _ (owners : ℕ) (b : Board) (count : ℕ) (memory summary : List ℕ) wh
       (editWindows owners b count memory summary (move i st en)) (editSummary owners b count memory summary (move i st en))
       (move i (getD (tableIn count memory) (3 * i) 0) (getD (tableIn count memory) (3 * i + 1) 0))
   move-back i st en x e = edit-undone owners b count memory summary (move i st en) x e
+
+-- ---- an edit of another owner's window leaves the asked owner's summary as it was
+
+-- whose window an edit is about
+abbrev pub ownerOf : Edit → List ℕ → ℕ
+ownerOf (move i s e) l = getD l (3 * i + 2) 0
+ownerOf (add i s e o) l = o
+ownerOf (remove i) l = getD l (3 * i + 2) 0
+
+for-append : (o : ℕ) (v w : List Owned) → windowsFor o (v ++ w) ≡ windowsFor o v ++ windowsFor o w
+unfolding windowsFor
+for-append o [] w = refl
+for-append o (x ∷ v) w = rw (for-append o v w) (go (eqb (x .owner) o))
+  where
+    go : (t : Bool) → cond t (x .window .start ∷ x .window .end ∷ (windowsFor o v ++ windowsFor o w)) (windowsFor o v ++ windowsFor o w)
+        ≡ cond t (x .window .start ∷ x .window .end ∷ windowsFor o v) (windowsFor o v) ++ windowsFor o w
+    go true = refl
+    go false = refl
+
+module _ (b : Board) where
+  own-append : (n : ℕ) (l r : List ℕ) → length l ≡ 3 * n → own b (l ++ r) ≡ own b l ++ own b r
+  own-append n l r e =
+      ap (windowsFor (b .owner)) (pieces-append Owned 3 owned (omega arith) n l r e) ∙ for-append (b .owner) (ownedOf l) (ownedOf r)
+
+  own-other : (s e o : ℕ) → o ≢ b .owner → own b (s ∷ e ∷ o ∷ []) ≡ []
+  unfolding windowsFor pieces piecesFrom
+  own-other s e o u = rw (ne-eqb o (b .owner) u)
+
+  -- where none of the owner's windows come
+  splice-own : (i gone n : ℕ) (come l : List ℕ) → 3 * i ≤ length l → length come ≡ 3 * n → own b come ≡ [] →
+      own b (spliced i gone come l) ≡ own b (take (3 * i) l) ++ own b (drop (3 * (i + gone)) l)
+  splice-own i gone n come l h e none =
+      let f = front i l h in
+      let both : length (take (3 * i) l ++ come) ≡ 3 * (i + n) = omega (arith, length-append (take (3 * i) l) come, f, e) in
+      own-append (i + n) (take (3 * i) l ++ come) (drop (3 * (i + gone)) l) both ∙ rw (own-append i (take (3 * i) l) come f, none, append-nil)
+
+  pub own-kept : (edit : Edit) (count : ℕ) (l : List ℕ) → length l ≡ 3 * count → Allowed edit count → ownerOf edit l ≢ b .owner → own b (edited edit l) ≡ own b l
+  unfolding edited windowsFor pieces piecesFrom
+  own-kept (move i s e) count l n h u =
+      let o : ℕ = getD l (3 * i + 2) 0 in
+      let same = splice-own i 1 1 (numbersAt l i) l (omega arith) (omega arith) (own-other (getD l (3 * i) 0) (getD l (3 * i + 1) 0) o u) in
+      splice-own i 1 1 (s ∷ e ∷ o ∷ []) l (omega arith) (omega arith) (own-other s e o u) ∙ sym same ∙ ap (own b) (splice-same i l (omega arith))
+  own-kept (add i s e o) count l n h u =
+      splice-own i 0 1 (s ∷ e ∷ o ∷ []) l (omega arith) (omega arith) (own-other s e o u)
+      ∙ sym (splice-own i 0 0 [] l (omega arith) (omega arith) refl) ∙ ap (own b) (splice-none i l)
+  own-kept (remove i) count l n h u =
+      let same = splice-own i 1 1 (numbersAt l i) l (omega arith) (omega arith) (own-other (getD l (3 * i) 0) (getD l (3 * i + 1) 0) (getD l (3 * i + 2) 0) u) in
+      splice-own i 1 0 [] l (omega arith) (omega arith) refl ∙ sym same ∙ ap (own b) (splice-same i l (omega arith))
+
+pub other-owner : (owners : ℕ) (b : Board) (count : ℕ) (memory summary : List ℕ) (edit : Edit) (x : Edited) →
+    editAnswer owners b count memory summary edit ≡ given x → ownerOf edit (tableIn count memory) ≢ b .owner →
+    (own b (editedList count memory edit) ≡ own b (tableIn count memory))
+    × (editSummary owners b count memory summary edit ≡ summary)
+    × (x .numbers ≡ length (summaryOf b (own b (tableIn count memory))))
+other-owner owners b count memory summary edit x e u =
+    let g = edit-given owners b count memory summary edit x e in
+    let l : List ℕ = tableIn count memory in
+    let same = own-kept b edit count l (held owners b count memory summary edit x e) (g .parts .allowed) u in (
+      same,
+      g .summary-memory ∙ ap (λ (k : List ℕ). written (summaryOf b k) summary) same ∙ begins-written (summaryOf b (own b l)) summary (g .parts .belongs),
+      g .numbers ∙ ap (λ (k : List ℕ). length (summaryOf b k)) same,
+    )
