@@ -42,7 +42,7 @@ unfolding covers gives
 covers-board b c [] k = refl
 covers-board b c (w ∷ ws) k = rw (covers-board b c ws k)
 
-σ : (b c : Board) (ws : List ℕ) → b .frame ≡ c .frame → suppliedBy b ws ≡ suppliedBy c ws
+pub σ : (b c : Board) (ws : List ℕ) → b .frame ≡ c .frame → suppliedBy b ws ≡ suppliedBy c ws
 unfolding supplied
 σ b c ws e = fun-ext (λ k. ap (λ (P : ℕ). covers b (windowsOf ws) (k % P)) e ∙ covers-board b c (windowsOf ws) (k % c .frame))
 

@@ -1,25 +1,30 @@
 -- Document 02, request 6, of edits: what an edit leaves belongs to the table it leaves, a refused one leaves everything, an edit is undone by its opposite, and
 -- what of it may depend on the other team
 use mathlib.Core.Path.{_≡_, refl, sym, ap, _∙_}
-use mathlib.Core.Bool.{Bool, true, false, not, cond}
+use mathlib.Core.Bool.{Bool, true, false, not, cond, _||_}
 use mathlib.Core.Logic.{_⊎_, inl, inr, _≢_, _↔_}
+use mathlib.Core.Option.{Option, none, some}
 use mathlib.Core.List.{List, [], _∷_, _++_, append-nil, append-assoc}
 use Prim.Native.Nat.{ℕ, suc, _+_, _-_, _*_, _/_, _%_, _≤_, _<_}
 use native.Mathlib.Omega.{arith}
 use lib.Dec.{leb, ltb, eqb}
 use lib.ListN.{length, getD, take, drop, length-append, length-drop, take-append-drop}
 use lib.Seq.{length-take-le, take-at, drop-at, drop-cons, getD-append-add}
-use borrow.Author.Tests.{ltb-false, leb-false, lt-leb, le-ltb, ne-eqb, not-false}
-use Rattle.scope.specs.Numbers.{piecesFrom, pieces, written}
+use borrow.Author.Tests.{eqb-true, ltb-true, ltb-false, leb-false, lt-leb, le-ltb, ne-eqb, not-false}
+use Rattle.scope.specs.Numbers.{first, piecesFrom, pieces, written}
+use Rattle.scope.specs.Limits.{mostWindows}
 use Rattle.scope.specs.Windows.{Board, Window}
-use Rattle.scope.specs.Answers.{Fault, Fault.fine, Fault.fault, Answer.given, Answer.refused, faultIf, _orElse_, unless, unlessKept, roomFault}
-use Rattle.scope.specs.Shared.{Owned, owned, ownedOf, windowsFor, own, sharedFault}
+use Rattle.scope.specs.Answers.{Fault, Fault.fine, Fault.fault, Answer.given, Answer.refused, faultIf, faultAt, _orElse_, unless, unlessKept, frameFault, shortestFault, roomFault}
+use Rattle.scope.specs.Shared.{Owned, owned, ownedOf, ownedAt, windowsFor, own, ownedLegal, badOwned, ownedListFault, ownedFault, wholeFault, absentOwnerFault}
+use Rattle.scope.specs.Shared.{sliver, firstSliver, sliverFault, sharedFault}
 use Rattle.scope.specs.Summary.{summaryOf, begins, summaryFault, Edit, Edit.move, Edit.add, Edit.remove, spliced, edited, indexFault, tableIn, countFault}
 use Rattle.scope.specs.Summary.{editedList, editedSummary, editFault, Edited, editAnswer, editWindows, editSummary}
-use Rattle.theory.specs.Lists.{pieces-append}
-use Rattle.theory.specs.Answers.{faultIf-fine, orElse-fine, unless-given, unless-refused}
+use Rattle.theory.specs.Numbers.{first-some}
+use Rattle.theory.specs.Lists.{pieces-length, pieces-append, whole-count}
+use Rattle.theory.specs.Answers.{fault-not-fine, faultIf-fine, orElse-fine, unless-given, unless-refused}
 use Rattle.theory.specs.Buffers.{length-written, take-written, written-begins, begins-room, begins-written}
 use Rattle.theory.specs.Shared.{shared-parts, whole}
+use Rattle.theory.specs.Alone.{σ as supplied-same, teamsFault, WholeRefusal, whole-refusal}
 
 -- ---- what an edit that is made has checked
 
@@ -360,10 +365,10 @@ module _ (b : Board) where
   -- where none of the owner's windows come
   splice-own : (i gone n : ℕ) (come l : List ℕ) → 3 * i ≤ length l → length come ≡ 3 * n → own b come ≡ [] →
       own b (spliced i gone come l) ≡ own b (take (3 * i) l) ++ own b (drop (3 * (i + gone)) l)
-  splice-own i gone n come l h e none =
+  splice-own i gone n come l h e not-own =
       let f = front i l h in
       let both : length (take (3 * i) l ++ come) ≡ 3 * (i + n) = omega (arith, length-append (take (3 * i) l) come, f, e) in
-      own-append (i + n) (take (3 * i) l ++ come) (drop (3 * (i + gone)) l) both ∙ rw (own-append i (take (3 * i) l) come f, none, append-nil)
+      own-append (i + n) (take (3 * i) l ++ come) (drop (3 * (i + gone)) l) both ∙ rw (own-append i (take (3 * i) l) come f, not-own, append-nil)
 
   pub own-kept : (edit : Edit) (count : ℕ) (l : List ℕ) → length l ≡ 3 * count → Allowed edit count → ownerOf edit l ≢ b .owner → own b (edited edit l) ≡ own b l
   unfolding edited windowsFor pieces piecesFrom
@@ -391,3 +396,178 @@ other-owner owners b count memory summary edit x e u =
       g .summary-memory ∙ ap (λ (k : List ℕ). written (summaryOf b k) summary) same ∙ begins-written (summaryOf b (own b l)) summary (g .parts .belongs),
       g .numbers ∙ ap (λ (k : List ℕ). length (summaryOf b k)) same,
     )
+
+-- ---- what of an edit may depend on the other team
+
+-- a summary depends on the frame and the owner's windows
+pub summary-same : (b c : Board) (ws vs : List ℕ) → b .frame ≡ c .frame → ws ≡ vs → summaryOf b ws ≡ summaryOf c vs
+unfolding summaryOf
+summary-same b c ws vs framed same = rw (same, supplied-same b c vs framed, framed)
+
+-- not the numbers of the summary, and not the summary: two edits that are made, of whatever else, leave the same where the owner has the same windows afterwards
+pub edit-own : (owners : ℕ) (b c : Board) (count n : ℕ) (memory m summary : List ℕ) (edit change : Edit) (x y : Edited) →
+    editAnswer owners b count memory summary edit ≡ given x → editAnswer owners c n m summary change ≡ given y →
+    b .frame ≡ c .frame → own b (editedList count memory edit) ≡ own c (editedList n m change) →
+    (x .numbers ≡ y .numbers) × (editSummary owners b count memory summary edit ≡ editSummary owners c n m summary change)
+edit-own owners b c count n memory m summary edit change x y e f framed same =
+    let g = edit-given owners b count memory summary edit x e in
+    let h = edit-given owners c n m summary change y f in
+    let z = summary-same b c (own b (editedList count memory edit)) (own c (editedList n m change)) framed same in
+    (g .numbers ∙ ap length z ∙ sym (h .numbers), g .summary-memory ∙ ap (λ (l : List ℕ). written l summary) z ∙ sym (h .summary-memory))
+
+-- every refusal of an edit, and where it comes from: the table as it is, the summary, the index, the table as it would be, room for either
+pub data EditRefusal (b : Board) (count : ℕ) (memory summary : List ℕ) (edit : Edit) : ℕ → ℕ → Type 0 where
+  short-memory : length memory < 3 * count → EditRefusal b count memory summary edit 1 0
+  old-table : {n p : ℕ} → WholeRefusal count n p → EditRefusal b count memory summary edit n p
+  old-absent : own b (tableIn count memory) ≡ [] → EditRefusal b count memory summary edit 1 0
+  not-its-summary : begins (summaryOf b (own b (tableIn count memory))) summary ≡ false → EditRefusal b count memory summary edit 14 0
+  absent-index : (Allowed edit count → ⊥) → EditRefusal b count memory summary edit 7 0
+  -- of the new table: the number of its windows, one of them, an owner that has none left, a sliver
+  too-few : countAfter edit count ≡ 0 → EditRefusal b count memory summary edit 1 0
+  too-many : mostWindows < countAfter edit count → EditRefusal b count memory summary edit 1 0
+  new-window : (i : ℕ) → i < countAfter edit count → EditRefusal b count memory summary edit 3 i
+  new-absent : own b (editedList count memory edit) ≡ [] → EditRefusal b count memory summary edit 1 0
+  new-sliver : (i : ℕ) → i < countAfter edit count → EditRefusal b count memory summary edit 12 i
+  no-room : length memory < 3 * countAfter edit count → EditRefusal b count memory summary edit 8 (3 * countAfter edit count)
+  no-summary-room : length summary < length (editedSummary b count memory edit) → EditRefusal b count memory summary edit 8 (length (editedSummary b count memory edit))
+
+no-numbers : (l : List ℕ) → length l ≡ 0 → l ≡ []
+no-numbers [] e = refl
+no-numbers (a ∷ l) e = absurd (omega arith)
+
+-- the refusal of a list for an owner: one that may depend on every team, or that the owner has no window there
+shared-refusal : (owners : ℕ) (b : Board) (ws : List ℕ) (n p : ℕ) → sharedFault owners b ws ≡ fault n p →
+    WholeRefusal (length (ownedOf ws)) n p ⊎ ((own b ws ≡ []) × (fault 1 0 ≡ fault n p))
+unfolding sharedFault teamsFault absentOwnerFault
+shared-refusal owners b ws n p = go (wholeFault owners b ws) refl
+  where
+    absent : wholeFault owners b ws ≡ fine → (t : Bool) → eqb (length (own b ws)) 0 ≡ t → (faultIf t 1 0 orElse sliverFault b ws) ≡ fault n p →
+        WholeRefusal (length (ownedOf ws)) n p ⊎ ((own b ws ≡ []) × (fault 1 0 ≡ fault n p))
+    absent e true z f = inr (no-numbers (own b ws) (eqb-true (length (own b ws)) 0 z), f)
+    absent e false z f = inl (whole-refusal owners b ws n p (rw e f))
+
+    go : (g : Fault) → wholeFault owners b ws ≡ g → (g orElse faultIf (eqb (length (own b ws)) 0) 1 0 orElse sliverFault b ws) ≡ fault n p →
+        WholeRefusal (length (ownedOf ws)) n p ⊎ ((own b ws ≡ []) × (fault 1 0 ≡ fault n p))
+    go (fault m q) e f = inl (whole-refusal owners b ws n p (rw e f))
+    go fine e f = absent e (eqb (length (own b ws)) 0) refl f
+
+-- the shortest window of a board whose list has no sliver is in its range
+sliver-ranged : (b : Board) (ws : List ℕ) → sliverFault b ws ≡ fine → shortestFault b ≡ fine
+unfolding sliverFault
+sliver-ranged b ws f = orElse-fine (shortestFault b) (faultAt 12 (firstSliver b (ownedOf ws))) f .0
+
+index-refused : (edit : Edit) (count n p : ℕ) → indexFault edit count ≡ fault n p → (fault 7 0 ≡ fault n p) × (Allowed edit count → ⊥)
+unfolding indexFault
+index-refused edit count n p f = (seven edit f, λ h. fault-not-fine (sym f ∙ allowed-fine edit count h))
+  where
+    if-seven : (t : Bool) → faultIf t 7 0 ≡ fault n p → fault 7 0 ≡ fault n p
+    if-seven true z = z
+    if-seven false z = absurd (fault-not-fine (sym z))
+
+    seven : (edit : Edit) → indexFault edit count ≡ fault n p → fault 7 0 ≡ fault n p
+    seven (move i s e) z = if-seven (leb count i) z
+    seven (add i s e o) z = if-seven (ltb count i) z
+    seven (remove i) z = if-seven (leb count i) z
+
+module _ (owners : ℕ) (b : Board) (count : ℕ) (memory summary : List ℕ) (edit : Edit) (n p : ℕ) where
+  abbrev R : Type 0
+  R = EditRefusal b count memory summary edit n p
+
+  is : {m q : ℕ} → EditRefusal b count memory summary edit m q → fault m q ≡ fault n p → R
+  is {m} {q} r e = let x : m ≡ n = cc in let y : q ≡ p = cc in rw (← x, ← y) r
+
+  abbrev new : List ℕ
+  new = editedList count memory edit
+
+  -- of a board without a fault, and a list of so many windows, the new table's are left
+  module _ (framed : frameFault b ≡ fine) (ranged : shortestFault b ≡ fine) (long : length new ≡ 3 * countAfter edit count) where
+    windows : length (ownedOf new) ≡ countAfter edit count
+    windows = pieces-length Owned 3 owned new ∙ omega (arith, long)
+
+    new-refusal : sharedFault owners b new ≡ fault n p → R
+    unfolding sharedFault wholeFault ownedListFault ownedFault badOwned absentOwnerFault sliverFault firstSliver
+    new-refusal f =
+        let threes : length new % 3 ≡ 0 = omega (arith, long) in
+        counted (ltb mostWindows (length new / 3)) refl (eqb (length new) 0) refl (rw (whole-count 3 mostWindows new threes, framed, ranged) at f)
+      where
+        slivered : (o : Option ℕ) → first (λ i. sliver b (ownedAt (ownedOf new) i)) (length (ownedOf new)) ≡ o → faultAt 12 o ≡ fault n p → R
+        slivered none z e = absurd (fault-not-fine (sym e))
+        slivered (some i) z e =
+            let s = first-some (λ j. sliver b (ownedAt (ownedOf new) j)) (length (ownedOf new)) i z in
+            is (new-sliver i (omega (arith, s .0, windows))) e
+
+        shorter : Fault
+        shorter = faultAt 12 (first (λ i. sliver b (ownedAt (ownedOf new) i)) (length (ownedOf new)))
+
+        absent : (t : Bool) → eqb (length (own b new)) 0 ≡ t → (faultIf t 1 0 orElse shorter) ≡ fault n p → R
+        absent true z e = is (new-absent (no-numbers (own b new) (eqb-true (length (own b new)) 0 z))) e
+        absent false z e = slivered (first (λ i. sliver b (ownedAt (ownedOf new) i)) (length (ownedOf new))) refl e
+
+        bad : Option ℕ
+        bad = first (λ i. not (ownedLegal owners b (ownedOf new) i)) (length (ownedOf new))
+
+        ruled : (o : Option ℕ) → bad ≡ o → (faultAt 3 o orElse faultIf (eqb (length (own b new)) 0) 1 0 orElse shorter) ≡ fault n p → R
+        ruled none z e = absent (eqb (length (own b new)) 0) refl e
+        ruled (some i) z e =
+            let s = first-some (λ j. not (ownedLegal owners b (ownedOf new) j)) (length (ownedOf new)) i z in
+            is (new-window i (omega (arith, s .0, windows))) e
+
+        counted : (t : Bool) → ltb mostWindows (length new / 3) ≡ t → (u : Bool) → eqb (length new) 0 ≡ u →
+            ((faultIf (t || u) 1 0 orElse faultAt 3 bad) orElse faultIf (eqb (length (own b new)) 0) 1 0 orElse shorter) ≡ fault n p → R
+        counted true z u w e = is (too-many (omega (arith, ltb-true mostWindows (length new / 3) z, long))) e
+        counted false z true w e = is (too-few (omega (arith, eqb-true (length new) 0 w, long))) e
+        counted false z false w e = ruled bad refl e
+
+  pub edit-refusal : editAnswer owners b count memory summary edit ≡ refused n p → R
+  unfolding editAnswer editFault countFault summaryFault roomFault
+  edit-refusal f = counted (ltb (length memory) (3 * count)) refl (unless-refused (editFault owners b count memory summary edit) _ n p f)
+    where
+      old : List ℕ
+      old = tableIn count memory
+
+      numbers : ℕ
+      numbers = length (editedSummary b count memory edit)
+
+      last : Fault
+      last = faultIf (ltb (length summary) numbers) 8 numbers
+
+      summarized : (t : Bool) → ltb (length summary) numbers ≡ t → faultIf t 8 numbers ≡ fault n p → R
+      summarized true z e = is (no-summary-room (ltb-true (length summary) numbers z)) e
+      summarized false z e = absurd (fault-not-fine (sym e))
+
+      roomy : length new ≡ 3 * countAfter edit count → (t : Bool) → ltb (length memory) (length new) ≡ t →
+          (faultIf t 8 (length new) orElse last) ≡ fault n p → R
+      roomy long true z e = is (no-room (omega (arith, ltb-true (length memory) (length new) z, long))) (ap (fault 8) (sym long) ∙ e)
+      roomy long false z e = summarized (ltb (length summary) numbers) refl e
+
+      then : Fault
+      then = faultIf (ltb (length memory) (length new)) 8 (length new) orElse last
+
+      after : sharedFault owners b old ≡ fine → length new ≡ 3 * countAfter edit count → (g : Fault) → sharedFault owners b new ≡ g → (g orElse then) ≡ fault n p → R
+      after o long fine z e = roomy long (ltb (length memory) (length new)) refl e
+      after o long (fault m q) z e =
+          let parts = shared-parts owners b old o in
+          new-refusal (whole owners b old (parts .0) .framed) (sliver-ranged b old (parts .2)) long (z ∙ e)
+
+      indexed : length old ≡ 3 * count → sharedFault owners b old ≡ fine → (g : Fault) → indexFault edit count ≡ g →
+          (g orElse sharedFault owners b new orElse then) ≡ fault n p → R
+      indexed held o fine z e = after o (edited-length edit count old held (index-allowed edit count z)) (sharedFault owners b new) refl e
+      indexed held o (fault m q) z e = let r = index-refused edit count n p (z ∙ e) in is (absent-index (r .1)) (r .0)
+
+      belongs : length old ≡ 3 * count → sharedFault owners b old ≡ fine → (t : Bool) → begins (summaryOf b (own b old)) summary ≡ t →
+          (faultIf (not t) 14 0 orElse indexFault edit count orElse sharedFault owners b new orElse then) ≡ fault n p → R
+      belongs held o true z e = indexed held o (indexFault edit count) refl e
+      belongs held o false z e = is (not-its-summary z) e
+
+      before : length old ≡ 3 * count → (g : Fault) → sharedFault owners b old ≡ g →
+          (g orElse faultIf (not (begins (summaryOf b (own b old)) summary)) 14 0 orElse indexFault edit count orElse sharedFault owners b new orElse then) ≡ fault n p → R
+      before held fine z e = belongs held z (begins (summaryOf b (own b old)) summary) refl e
+      before held (fault m q) z e =
+          let many : length (ownedOf old) ≡ count = pieces-length Owned 3 owned old ∙ omega (arith, held) in
+          elim (shared-refusal owners b old n p (z ∙ e)) [ inl r ↦ old-table (rw many at r) | inr r ↦ is (old-absent (r .0)) (r .1) ]
+
+      counted : (t : Bool) → ltb (length memory) (3 * count) ≡ t →
+          (faultIf t 1 0 orElse sharedFault owners b old orElse faultIf (not (begins (summaryOf b (own b old)) summary)) 14 0 orElse indexFault edit count
+          orElse sharedFault owners b new orElse then) ≡ fault n p → R
+      counted true z e = is (short-memory (ltb-true (length memory) (3 * count) z)) e
+      counted false z e = before (length-take-le (3 * count) memory (ltb-false (length memory) (3 * count) z)) (sharedFault owners b old) refl e
