@@ -24,7 +24,7 @@ use Rattle.theory.specs.Lists.{pieces-length, pieces-append, whole-count
 use Rattle.theory.specs.Answers.{fault-not-fine, faultIf-fine, orElse-fine, unless-given, unless-refused}
 use Rattle.theory.specs.Buffers.{length-written, take-written, written-begins, begins-room, begins-written}
 use Rattle.theory.specs.Shared.{shared-parts, whole}
-use Rattle.theory.specs.Alone.{σ as supplied-same, teamsFault, WholeRefusal, whole-refusal}
+use Rattle.theory.specs.Alone.{σ as supplied-same, teamsFault, WholeRefusal, WholeRefusal.by-count, WholeRefusal.by-frame, WholeRefusal.by-window, WholeRefusal.by-range, WholeRefusal.by-sliver, whole-refusal}
 
 -- ---- what an edit that is made has checked
 
@@ -76,13 +76,13 @@ module _ (owners : ℕ) (b : Board) (count : ℕ) (memory summary : List ℕ) (e
   unfolding editFault countFault
   edit-parts f =
       let old : Fault = sharedFault owners b (tableIn count memory) in
-      let own·summary : Fault = summaryFault b (own b (tableIn count memory)) summary in
+      let its : Fault = summaryFault b (own b (tableIn count memory)) summary in
       let new : Fault = sharedFault owners b (editedList count memory edit) in
       let windows : Fault = roomFault (length (editedList count memory edit)) (length memory) in
       let numbers : Fault = roomFault (length (editedSummary b count memory edit)) (length summary) in
-      let p₁ = orElse-fine (countFault count memory) (old orElse own·summary orElse indexFault edit count orElse new orElse windows orElse numbers) f in
-      let p₂ = orElse-fine old (own·summary orElse indexFault edit count orElse new orElse windows orElse numbers) (p₁ .1) in
-      let p₃ = orElse-fine own·summary (indexFault edit count orElse new orElse windows orElse numbers) (p₂ .1) in
+      let p₁ = orElse-fine (countFault count memory) (old orElse its orElse indexFault edit count orElse new orElse windows orElse numbers) f in
+      let p₂ = orElse-fine old (its orElse indexFault edit count orElse new orElse windows orElse numbers) (p₁ .1) in
+      let p₃ = orElse-fine its (indexFault edit count orElse new orElse windows orElse numbers) (p₂ .1) in
       let p₄ = orElse-fine (indexFault edit count) (new orElse windows orElse numbers) (p₃ .1) in
       let p₅ = orElse-fine new (windows orElse numbers) (p₄ .1) in
       let p₆ = orElse-fine windows numbers (p₅ .1) in
@@ -571,3 +571,86 @@ module _ (owners : ℕ) (b : Board) (count : ℕ) (memory summary : List ℕ) (e
           orElse sharedFault owners b new orElse then) ≡ fault n p → R
       counted true z e = is (short-memory (ltb-true (length memory) (3 * count) z)) e
       counted false z e = before (length-take-le (3 * count) memory (ltb-false (length memory) (3 * count) z)) (sharedFault owners b old) refl e
+
+-- ---- 14
+
+whole-number : {windows : ℕ} (n p : ℕ) → WholeRefusal windows n p → n ≤ 12
+whole-number n p by-count = omega arith
+whole-number n p by-frame = omega arith
+whole-number n p (by-window i h) = omega arith
+whole-number n p by-range = omega arith
+whole-number n p (by-sliver i h) = omega arith
+
+shared-number : (owners : ℕ) (b : Board) (ws : List ℕ) (n p : ℕ) → sharedFault owners b ws ≡ fault n p → n ≤ 12
+shared-number owners b ws n p f = elim (shared-refusal owners b ws n p f) [ inl r ↦ whole-number n p r | inr r ↦ let z : 1 ≡ n = cc in omega arith ]
+
+module _ (b : Board) (count : ℕ) (memory summary : List ℕ) (edit : Edit) where
+  -- no refusal but one is a 14
+  only-fourteen : (n p : ℕ) → EditRefusal b count memory summary edit n p → n ≡ 14 → begins (summaryOf b (own b (tableIn count memory))) summary ≡ false
+  only-fourteen n p (short-memory h) z = absurd (omega arith)
+  only-fourteen n p (old-table r) z = absurd (omega (arith, whole-number n p r))
+  only-fourteen n p (old-absent h) z = absurd (omega arith)
+  only-fourteen n p (not-its-summary h) z = h
+  only-fourteen n p (absent-index h) z = absurd (omega arith)
+  only-fourteen n p (too-few h) z = absurd (omega arith)
+  only-fourteen n p (too-many h) z = absurd (omega arith)
+  only-fourteen n p (new-window i h) z = absurd (omega arith)
+  only-fourteen n p (new-absent h) z = absurd (omega arith)
+  only-fourteen n p (new-sliver i h) z = absurd (omega arith)
+  only-fourteen n p (no-room h) z = absurd (omega arith)
+  only-fourteen n p (no-summary-room h) z = absurd (omega arith)
+
+-- 14 is given exactly where the table as it is has no fault, and the summary is not what a fresh making writes
+module _ (owners : ℕ) (b : Board) (count : ℕ) (memory summary : List ℕ) (edit : Edit) where
+  pub record Fourteen : Type 0 where
+    pub counted : 3 * count ≤ length memory
+    pub before : sharedFault owners b (tableIn count memory) ≡ fine
+    pub stale : begins (summaryOf b (own b (tableIn count memory))) summary ≡ false
+
+  pub exactly-fourteen : (p : ℕ) → (editAnswer owners b count memory summary edit ≡ refused 14 p) ↔ (Fourteen × (p ≡ 0))
+  unfolding editAnswer editFault countFault summaryFault
+  exactly-fourteen p = (only, so)
+    where
+      later : Fault
+      later = indexFault edit count orElse sharedFault owners b (editedList count memory edit)
+          orElse roomFault (length (editedList count memory edit)) (length memory) orElse roomFault (length (editedSummary b count memory edit)) (length summary)
+
+      mine : Fault
+      mine = faultIf (not (begins (summaryOf b (own b (tableIn count memory))) summary)) 14 0
+
+      placed : 3 * count ≤ length memory → sharedFault owners b (tableIn count memory) ≡ fine → begins (summaryOf b (own b (tableIn count memory))) summary ≡ false →
+          (mine orElse later) ≡ fault 14 p → Fourteen × (p ≡ 0)
+      placed c o z e = (record { counted = c; before = o; stale = z }, (let y : fault 14 0 ≡ fault 14 p = rw z at e in cc))
+
+      before : 3 * count ≤ length memory → begins (summaryOf b (own b (tableIn count memory))) summary ≡ false →
+          (g : Fault) → sharedFault owners b (tableIn count memory) ≡ g → (g orElse mine orElse later) ≡ fault 14 p → Fourteen × (p ≡ 0)
+      before c z fine o e = placed c o z e
+      before c z (fault m q) o e =
+          let y : m ≡ 14 = cc in
+          absurd (omega (arith, shared-number owners b (tableIn count memory) m q o))
+
+      counted : begins (summaryOf b (own b (tableIn count memory))) summary ≡ false →
+          (t : Bool) → ltb (length memory) (3 * count) ≡ t → (faultIf t 1 0 orElse sharedFault owners b (tableIn count memory) orElse mine orElse later) ≡ fault 14 p → Fourteen × (p ≡ 0)
+      counted z true l e = let y : _≡_ {A = ℕ} 1 14 = cc in absurd (omega arith)
+      counted z false l e = before (ltb-false (length memory) (3 * count) l) z (sharedFault owners b (tableIn count memory)) refl e
+
+      only : editAnswer owners b count memory summary edit ≡ refused 14 p → Fourteen × (p ≡ 0)
+      only e =
+          counted (only-fourteen b count memory summary edit 14 p (edit-refusal owners b count memory summary edit 14 p e) refl)
+          (ltb (length memory) (3 * count)) refl (unless-refused (editFault owners b count memory summary edit) _ 14 p e)
+
+      so : Fourteen × (p ≡ 0) → editAnswer owners b count memory summary edit ≡ refused 14 p
+      so (f, z) = rw (le-ltb (length memory) (3 * count) (f .counted), f .before, f .stale, z)
+
+-- so, once the tables as they are have no fault, whether it is given depends on the frame, the owner's windows and the summary, and on nothing else
+pub fourteen-own : (owners : ℕ) (b c : Board) (count n : ℕ) (memory m summary : List ℕ) (edit change : Edit) →
+    3 * count ≤ length memory → sharedFault owners b (tableIn count memory) ≡ fine → 3 * n ≤ length m → sharedFault owners c (tableIn n m) ≡ fine →
+    b .frame ≡ c .frame → own b (tableIn count memory) ≡ own c (tableIn n m) →
+    (editAnswer owners b count memory summary edit ≡ refused 14 0) ↔ (editAnswer owners c n m summary change ≡ refused 14 0)
+fourteen-own owners b c count n memory m summary edit change k e j f framed same =
+    let z = summary-same b c (own b (tableIn count memory)) (own c (tableIn n m)) framed same in
+    let to = exactly-fourteen owners b count memory summary edit 0 in
+    let fro = exactly-fourteen owners c n m summary change 0 in (
+      λ a. fro .1 (record { counted = j; before = f; stale = rw (← z) (to .0 a .0 .stale) }, refl),
+      λ a. to .1 (record { counted = k; before = e; stale = rw z (fro .0 a .0 .stale) }, refl),
+    )
