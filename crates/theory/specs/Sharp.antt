@@ -3,7 +3,7 @@ use mathlib.Core.Path.{_≡_, refl}
 use mathlib.Core.Bool.{Bool, true}
 use mathlib.Core.Option.{none, some}
 use mathlib.Core.List.{List, [], _∷_}
-use Prim.Native.Nat.{ℕ, zero, suc, _/_, _≤_, _<_, _∣_}
+use Prim.Native.Nat.{ℕ, zero, suc, _*_, _/_, _≤_, _<_, _∣_}
 use native.Mathlib.Omega.{arith}
 use native.Mathlib.Nat.{dvd-refl}
 use lib.ListN.{length, getD}
@@ -16,8 +16,9 @@ use Rattle.scope.specs.Jobs.{Job, jobsOf, releaseOf, taskOf, deadline, badJob}
 use Rattle.scope.specs.Machine.{edf}
 use Rattle.scope.specs.Run.{counts}
 use Rattle.scope.specs.Limits.{teams}
-use Rattle.scope.specs.Answers.{Fault.fine, Answer.given, Answer.refused, verdictAnswer}
+use Rattle.scope.specs.Answers.{Fault.fine, Answer, Answer.given, Answer.refused, verdictAnswer}
 use Rattle.scope.specs.Shared.{ownedOf, own, ownedFault, wholeFault, sharedFault, verdictFor}
+use Rattle.scope.specs.Summary.{summaryFault, Edit, Edit.move, Edit.add, Edit.remove, tableIn, Edited, editAnswer}
 use Rattle.scope.specs.Demands.{Way, givenTo}
 use Rattle.scope.specs.Examples.{X, on, onAtLeast}
 use Rattle.scope.specs.Computing.{everything}
@@ -139,4 +140,74 @@ unfolding everything
 not-to-zero claim =
     let e : given (meets 8) ≡ refused 12 64 = claim 8 0 2 0 (0 ∷ 2 ∷ 0 ∷ []) [] refl (omega arith) in
     let z : _≡_ {A = ℕ} 0 1 = cc in
+    omega arith
+
+-- ---- edits (request 6) depend on the other team. The claim that a refusal of an edit depends on the owner's windows alone, of tables and a summary without a fault
+-- in memories of one length: it is false of each number below
+abbrev ByOwn : ℕ → ℕ → Type 0
+ByOwn n p = (b : Board) (count k : ℕ) (memory m s : List ℕ) (edit : Edit) →
+    3 * count ≤ length memory → sharedFault teams b (tableIn count memory) ≡ fine → summaryFault b (own b (tableIn count memory)) s ≡ fine →
+    3 * k ≤ length m → sharedFault teams b (tableIn k m) ≡ fine → length memory ≡ length m → own b (tableIn count memory) ≡ own b (tableIn k m) →
+    editAnswer teams b count memory s edit ≡ refused n p → editAnswer teams b k m s edit ≡ refused n p
+
+-- owner 0's window alone, or owner 1's behind it
+abbrev two-teams : List ℕ
+two-teams = 0 ∷ 2 ∷ 0 ∷ 4 ∷ 6 ∷ 1 ∷ 9 ∷ 9 ∷ 9 ∷ []
+
+-- a summary of owner 0's, in room for more
+abbrev two-summary : List ℕ
+two-summary = 2 ∷ 12 ∷ 1 ∷ 6 ∷ 8 ∷ 9 ∷ 9 ∷ []
+
+abbrev left : ℕ → ℕ → Answer Edited
+left windows numbers = given (record { windows = windows; numbers = numbers })
+
+-- which index there is: with owner 1's window a second one can be removed
+pub not-own-index : ByOwn 7 0 → ⊥
+unfolding everything
+not-own-index claim =
+    let e : left 1 5 ≡ refused 7 0 = claim (on 8) 1 2 two-teams two-teams two-summary (remove 1) (omega arith) refl refl (omega arith) refl refl refl refl in
+    let z : _≡_ {A = ℕ} 0 1 = cc in
+    omega arith
+
+-- 3 of the new table: owner 0's window can grow until owner 1's begins
+pub not-own-rule : ByOwn 3 1 → ⊥
+unfolding everything
+not-own-rule claim =
+    let e : left 1 5 ≡ refused 3 1 = claim (on 8) 2 1 two-teams two-teams two-summary (move 0 0 5) (omega arith) refl refl (omega arith) refl refl refl refl in
+    let z : _≡_ {A = ℕ} 0 1 = cc in
+    omega arith
+
+-- 1 of the new table: the first window is owner 0's only one, or owner 1's
+pub not-own-absence : ByOwn 1 0 → ⊥
+unfolding everything
+not-own-absence claim =
+    let e : left 1 5 ≡ refused 1 0 =
+    claim (on 8) 2 2 (2 ∷ 4 ∷ 0 ∷ 5 ∷ 6 ∷ 1 ∷ []) (0 ∷ 1 ∷ 1 ∷ 2 ∷ 4 ∷ 0 ∷ []) two-summary (remove 0) (omega arith) refl refl (omega arith) refl refl refl refl in
+    let z : _≡_ {A = ℕ} 0 1 = cc in
+    omega arith
+
+-- 12 of the new table: a sliver of owner 0 that owner 1's window overlaps is a 3
+pub not-own-sliver : ByOwn 12 1 → ⊥
+unfolding everything
+not-own-sliver claim =
+    let e : _≡_ {A = Answer Edited} (refused 3 2) (refused 12 1) =
+    claim (onAtLeast 8 0 2) 1 2 two-teams two-teams two-summary (add 1 4 5 0) (omega arith) refl refl (omega arith) refl refl refl refl in
+    let z : _≡_ {A = ℕ} 3 12 = cc in
+    omega arith
+
+-- 8 for the windows: there is room for one more beside owner 0's alone
+pub not-own-room : ByOwn 8 9 → ⊥
+unfolding everything
+not-own-room claim =
+    let memory : List ℕ = 0 ∷ 2 ∷ 0 ∷ 6 ∷ 8 ∷ 1 ∷ [] in
+    let e : left 2 5 ≡ refused 8 9 = claim (on 8) 2 1 memory memory two-summary (add 1 3 5 1) (omega arith) refl refl (omega arith) refl refl refl refl in
+    let z : _≡_ {A = ℕ} 0 1 = cc in
+    omega arith
+
+-- and so is the number of windows that is answered
+pub not-own-count : ((b : Board) (count k : ℕ) (memory s : List ℕ) (edit : Edit) (x y : Edited) → own b (tableIn count memory) ≡ own b (tableIn k memory) →
+    editAnswer teams b count memory s edit ≡ given x → editAnswer teams b k memory s edit ≡ given y → x .windows ≡ y .windows) → ⊥
+unfolding everything
+not-own-count claim =
+    let e : _≡_ {A = ℕ} 1 2 = claim (on 8) 1 2 two-teams two-summary (move 0 0 1) _ _ refl refl refl in
     omega arith
