@@ -135,6 +135,19 @@ module _ (owners : ℕ) (b : Board) (count : ℕ) (memory summary : List ℕ) (e
   unfolding editAnswer
   parts-given p = rw (parts-edit p)
 
+  -- an edit that leaves a list with a fault is refused by that fault
+  pub new-refused : 3 * count ≤ length memory → sharedFault owners b (tableIn count memory) ≡ fine → begins (summaryOf b (own b (tableIn count memory))) summary ≡ true →
+      Allowed edit count → (n p : ℕ) → sharedFault owners b (editedList count memory edit) ≡ fault n p → editAnswer owners b count memory summary edit ≡ refused n p
+  unfolding editAnswer editFault countFault
+  new-refused counted before belongs allowed n p f =
+      rw (
+        le-ltb (length memory) (3 * count) counted,
+        before,
+        begins-summary b (own b (tableIn count memory)) summary belongs,
+        allowed-fine edit count allowed,
+        f,
+      )
+
   -- ---- a refused edit leaves both memories as they were
   pub edit-refused-keeps : (n p : ℕ) → editAnswer owners b count memory summary edit ≡ refused n p →
       (editWindows owners b count memory summary edit ≡ memory) × (editSummary owners b count memory summary edit ≡ summary)

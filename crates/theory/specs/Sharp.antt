@@ -1,5 +1,5 @@
 -- How sharp the theorems are: eight stronger claims, each refuted by an example
-use mathlib.Core.Path.{_≡_, refl}
+use mathlib.Core.Path.{_≡_, refl, sym, _∙_}
 use mathlib.Core.Bool.{Bool, true}
 use mathlib.Core.Option.{none, some}
 use mathlib.Core.List.{List, [], _∷_}
@@ -7,7 +7,7 @@ use Prim.Native.Nat.{ℕ, zero, suc, _*_, _/_, _≤_, _<_, _∣_}
 use native.Mathlib.Omega.{arith}
 use native.Mathlib.Nat.{dvd-refl}
 use lib.ListN.{length, getD}
-use Rattle.scope.specs.Numbers.{least}
+use Rattle.scope.specs.Numbers.{least, written}
 use Rattle.scope.specs.Ticks.{Periodic, supply, leastSupply, leastStart}
 use Rattle.scope.specs.Windows.{Board, suppliedBy}
 use Rattle.scope.specs.Tasks.{Task, task, tasksOf, taskAt, taskDemand, demand}
@@ -18,12 +18,14 @@ use Rattle.scope.specs.Run.{counts}
 use Rattle.scope.specs.Limits.{teams}
 use Rattle.scope.specs.Answers.{Fault.fine, Answer, Answer.given, Answer.refused, verdictAnswer}
 use Rattle.scope.specs.Shared.{ownedOf, own, ownedFault, wholeFault, sharedFault, verdictFor}
-use Rattle.scope.specs.Summary.{summaryFault, Edit, Edit.move, Edit.add, Edit.remove, tableIn, Edited, editAnswer}
+use Rattle.scope.specs.Summary.{summaryOf, summaryFault, Edit, Edit.move, Edit.add, Edit.remove, edited, tableIn, Edited, editAnswer}
 use Rattle.scope.specs.Demands.{Way, givenTo}
 use Rattle.scope.specs.Examples.{X, on, onAtLeast}
-use Rattle.scope.specs.Computing.{everything}
+use Rattle.scope.specs.Computing.{numbers·compute, tables·compute, tableFaults·compute, constructors·compute, sharedFaults·compute, everything}
 use Rattle.theory.specs.Tasks.{TaskRules, Periods}
 use Rattle.theory.specs.Answers.{LegalTable, table-legal}
+use Rattle.theory.specs.Buffers.{written-begins, begins-room}
+use Rattle.theory.specs.Edits.{begins-summary, parts-given, new-refused}
 use Rattle.theory.specs.Rows.{endOf}
 use Rattle.theory.specs.Applied.{w6, w7, w13, w6-misses, w7-meets}
 
@@ -204,10 +206,43 @@ not-own-room claim =
     let z : _≡_ {A = ℕ} 0 1 = cc in
     omega arith
 
--- and so is the number of windows that is answered
+-- nor does the number of windows that is answered depend on them alone
 pub not-own-count : ((b : Board) (count k : ℕ) (memory s : List ℕ) (edit : Edit) (x y : Edited) → own b (tableIn count memory) ≡ own b (tableIn k memory) →
     editAnswer teams b count memory s edit ≡ given x → editAnswer teams b k memory s edit ≡ given y → x .windows ≡ y .windows) → ⊥
 unfolding everything
 not-own-count claim =
     let e : _≡_ {A = ℕ} 1 2 = claim (on 8) 1 2 two-teams two-summary (move 0 0 1) _ _ refl refl refl in
+    omega arith
+
+-- 1 of the new table by its number of windows: a window can be added beside owner 0's alone, and not beside 63 of owner 1's too
+abbrev others : ℕ → ℕ → List ℕ
+others k zero = []
+others k (suc n) = k ∷ suc k ∷ 1 ∷ others (suc (suc k)) n
+
+abbrev crowd : List ℕ
+crowd = 0 ∷ 1 ∷ 0 ∷ others 3 64
+
+-- its summary is not computed
+abbrev crowd-summary : List ℕ
+crowd-summary = written (summaryOf (on 200) (0 ∷ 1 ∷ [])) []
+
+pub not-own-number : ByOwn 1 0 → ⊥
+unfolding numbers·compute tables·compute tableFaults·compute constructors·compute sharedFaults·compute edited
+not-own-number claim =
+    let fresh : List ℕ = summaryOf (on 200) (0 ∷ 1 ∷ []) in
+    let front = written-begins fresh [] in
+    let full = new-refused teams (on 200) 64 crowd crowd-summary (add 1 1 2 1) (omega arith) refl front (omega arith) 1 0 refl in
+    let alone = parts-given teams (on 200) 1 crowd crowd-summary (add 1 1 2 1) (record {
+      counted = omega arith;
+      before = refl;
+      belongs = front;
+      allowed = omega arith;
+      after = refl;
+      room = omega arith;
+      summary-room = begins-room fresh crowd-summary front;
+    }) in
+    let e =
+    sym alone
+    ∙ claim (on 200) 64 1 crowd crowd crowd-summary (add 1 1 2 1) (omega arith) refl (begins-summary (on 200) (0 ∷ 1 ∷ []) crowd-summary front) (omega arith) refl refl refl full in
+    let z : _≡_ {A = ℕ} 0 1 = cc in
     omega arith
