@@ -27,7 +27,7 @@ use Rattle.scope.specs.Trace.{Stamped, traceOf, Record, timed, ticksOf, release
 use Rattle.scope.specs.Replay.{endedFrom, recorded, Replayed.same, Replayed.differs, Replayed.missed, replayAnswer}
 use Rattle.scope.specs.Shared.{own, asOwned, sharedFault, ownAnswer, leastSupplyFor, marginFor, verdictFor, runOutFor, replayFor, planAnswer}
 use Rattle.scope.specs.Summary.{summaryOf, makeAnswer, makeOut, begins, summaryFault, ticksBefore, leastFrom, marginFrom, marginsAnswer, marginsOut, makeFor, makeOutFor}
-use Rattle.scope.specs.Summary.{leastFromFor, marginsFor, marginsOutFor, Edit.remove, editAnswer, editWindows, editSummary}
+use Rattle.scope.specs.Summary.{leastFromFor, marginsFor, marginsOutFor, Edit.move, Edit.add, Edit.remove, tableIn, editedList, Edited, editFault, editAnswer, editWindows, editSummary}
 use Rattle.scope.specs.Demands.{Silent, LeastMiss, Way, Served}
 use Rattle.scope.specs.Examples.{Reply.amounts, Reply.windows, Reply.bytesIn, Reply.aVerdict, Reply.bounds, Reply.aRun, X, lab, XShared, on, onFor, onAtLeast, reply, table, examples, row}
 use Rattle.scope.specs.Examples.{Reply.aReplay}
@@ -56,6 +56,8 @@ use Rattle.theory.specs.Shortest.{own-twelve, own-smaller, smaller-plan,
 use Rattle.theory.specs.Summaries.{fine-begins, begins-written, least-from-exact, margin-from-exact, summary-agrees, summary-answers, not-belonging, fourteen}
 use Rattle.theory.specs.Summaries.{margins-agree, margins-each, margins-not-belonging, margins-fourteen, made-belongs}
 use Rattle.theory.specs.Forms.{withSettings, refused-behind}
+use Rattle.theory.specs.Edits.{edit-parts, edit-refused-keeps, Left, edit-leaves, new-refused, count-answered, add-then-remove, remove-then-add, move-back, other-owner, edit-own}
+use Rattle.theory.specs.Edits.{EditRefusal, edit-refusal, Fourteen, exactly-fourteen, fourteen-own}
 use Rattle.theory.specs.PlanBytes.{Writable, plan-length, round-trip, left-over, only-bytes}
 
 abbrev pub w6 : List ℕ
@@ -748,3 +750,88 @@ edit-other = refl
 
 edit-kept-at : (editWindows teams (onFor 8 1) 4 XShared x-summary (remove 0) ≡ XShared) × (editSummary teams (onFor 8 1) 4 XShared x-summary (remove 0) ≡ x-summary)
 edit-kept-at = edit-kept 14 0 teams (onFor 8 1) 4 XShared x-summary (remove 0) edit-other
+
+-- ---- edits of a table with its summary
+
+-- the table of two teams, with room for one window more; owner 0's summary, with room for one more too
+abbrev edit-memory : List ℕ
+edit-memory = XShared ++ (9 ∷ 9 ∷ 9 ∷ [])
+
+abbrev edit-summary : List ℕ
+edit-summary = 4 ∷ 12 ∷ 2 ∷ 3 ∷ 5 ∷ 6 ∷ 8 ∷ 9 ∷ 9 ∷ []
+
+-- owner 0's first window loses a tick: the summary afterwards is that of a fresh making
+x-moved : editAnswer teams (on 8) 4 edit-memory edit-summary (move 0 0 1) ≡ given (record { windows = 4; numbers = 7 })
+unfolding everything
+x-moved = refl
+
+x-left : Left teams (on 8) 4 edit-memory edit-summary (move 0 0 1) (record { windows = 4; numbers = 7 })
+    (editWindows teams (on 8) 4 edit-memory edit-summary (move 0 0 1)) (editSummary teams (on 8) 4 edit-memory edit-summary (move 0 0 1))
+x-left = edit-leaves teams (on 8) 4 edit-memory edit-summary (move 0 0 1) _ x-moved
+
+x-move-room : length (editedList 4 edit-memory (move 0 0 1)) ≤ 15
+unfolding everything
+x-move-room = edit-parts teams (on 8) 4 edit-memory edit-summary (move 0 0 1) refl .room
+
+x-move-count : _≡_ {A = ℕ} 4 4
+x-move-count = count-answered teams (on 8) 4 edit-memory edit-summary (move 0 0 1) _ x-moved
+
+-- moved back, the window and the summary are as they were
+x-moved-back : tableIn 4 (editWindows teams (on 8) 4 (editWindows teams (on 8) 4 edit-memory edit-summary (move 0 0 1)) (editSummary teams (on 8) 4 edit-memory edit-summary (move 0 0 1)) (move 0 0 2)) ≡ XShared
+x-moved-back = move-back teams (on 8) 4 edit-memory edit-summary 0 0 1 _ x-moved .list
+
+-- it can't grow into owner 1's, and then nothing is written
+x-grown : (editWindows teams (on 8) 4 edit-memory edit-summary (move 0 0 3) ≡ edit-memory) × (editSummary teams (on 8) 4 edit-memory edit-summary (move 0 0 3) ≡ edit-summary)
+unfolding everything
+x-grown = edit-refused-keeps teams (on 8) 4 edit-memory edit-summary (move 0 0 3) 3 1 refl
+
+x-grown-refusal : EditRefusal (on 8) 4 edit-memory edit-summary (move 0 0 3) 3 1
+unfolding everything
+x-grown-refusal = edit-refusal teams (on 8) 4 edit-memory edit-summary (move 0 0 3) 3 1 refl
+
+x-grown-new : editAnswer teams (on 8) 4 edit-memory edit-summary (move 0 0 3) ≡ refused 3 1
+unfolding everything
+x-grown-new = new-refused teams (on 8) 4 edit-memory edit-summary (move 0 0 3) (omega arith) refl refl (omega arith) 3 1 refl
+
+-- the window at index 1 is owner 1's: owner 0's summary memory is not touched
+x-other-moved : editSummary teams (on 8) 4 edit-memory edit-summary (move 1 3 4) ≡ edit-summary
+unfolding everything
+x-other-moved =
+    other-owner teams (on 8) 4 edit-memory edit-summary (move 1 3 4) (record { windows = 4; numbers = 7 }) refl (λ z. let y : _≡_ {A = ℕ} 1 0 = z in omega arith) .1
+
+-- removed and added again
+x-removed-added : tableIn 4 (editWindows teams (on 8) 3 (editWindows teams (on 8) 4 edit-memory edit-summary (remove 2)) (editSummary teams (on 8) 4 edit-memory edit-summary (remove 2)) (add 2 5 7 0)) ≡ XShared
+unfolding everything
+x-removed-added = remove-then-add teams (on 8) 4 edit-memory edit-summary 2 (record { windows = 3; numbers = 5 }) refl .list
+
+-- X as owner 0's, and a window of owner 0 between its two, added and removed
+abbrev pair-memory : List ℕ
+pair-memory = asOwned 0 X ++ (9 ∷ 9 ∷ 9 ∷ [])
+
+pair-added : editAnswer teams (on 8) 2 pair-memory edit-summary (add 1 3 4 0) ≡ given (record { windows = 3; numbers = 9 })
+unfolding everything
+pair-added = refl
+
+pair-added-removed : editAnswer teams (on 8) 3 (editWindows teams (on 8) 2 pair-memory edit-summary (add 1 3 4 0)) (editSummary teams (on 8) 2 pair-memory edit-summary (add 1 3 4 0)) (remove 1)
+    ≡ given (record { windows = 2; numbers = 7 })
+unfolding everything
+pair-added-removed = add-then-remove teams (on 8) 2 pair-memory edit-summary 1 3 4 0 _ pair-added .answered
+
+-- moving the first window leaves the same summary on X as on the table of two teams
+pair-moved : editSummary teams (on 8) 4 edit-memory edit-summary (move 0 0 1) ≡ editSummary teams (on 8) 2 pair-memory edit-summary (move 0 0 1)
+unfolding everything
+pair-moved =
+    edit-own teams (on 8) (on 8) 4 2 edit-memory pair-memory edit-summary (move 0 0 1) (move 0 0 1) (record { windows = 4; numbers = 7 }) (record { windows = 2; numbers = 7 })
+    refl refl refl refl .1
+
+-- a summary that does not belong: A is wrong
+x-stale : Fourteen teams (on 8) 4 edit-memory (3 ∷ 12 ∷ 2 ∷ 3 ∷ 5 ∷ 6 ∷ 8 ∷ []) × (_≡_ {A = ℕ} 0 0)
+unfolding everything
+x-stale = exactly-fourteen teams (on 8) 4 edit-memory (3 ∷ 12 ∷ 2 ∷ 3 ∷ 5 ∷ 6 ∷ 8 ∷ []) (remove 0) 0 .0 refl
+
+-- nor is it X's, whatever the edit
+pair-stale : editAnswer teams (on 8) 2 pair-memory (3 ∷ 12 ∷ 2 ∷ 3 ∷ 5 ∷ 6 ∷ 8 ∷ []) (move 9 0 1) ≡ refused 14 0
+unfolding everything
+pair-stale =
+    fourteen-own teams (on 8) (on 8) 4 2 edit-memory pair-memory (3 ∷ 12 ∷ 2 ∷ 3 ∷ 5 ∷ 6 ∷ 8 ∷ []) (remove 0) (move 9 0 1)
+    (omega arith) refl (omega arith) refl refl refl .0 refl

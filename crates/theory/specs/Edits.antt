@@ -613,14 +613,15 @@ module _ (b : Board) (count : ℕ) (memory summary : List ℕ) (edit : Edit) whe
   only-fourteen n p (no-room h) z = absurd (omega arith)
   only-fourteen n p (no-summary-room h) z = absurd (omega arith)
 
--- 14 is given exactly where the table as it is has no fault, and the summary is not what a fresh making writes
-module _ (owners : ℕ) (b : Board) (count : ℕ) (memory summary : List ℕ) (edit : Edit) where
-  pub record Fourteen : Type 0 where
-    pub counted : 3 * count ≤ length memory
-    pub before : sharedFault owners b (tableIn count memory) ≡ fine
-    pub stale : begins (summaryOf b (own b (tableIn count memory))) summary ≡ false
+-- the table as it is has no fault, and the summary is not what a fresh making writes
+pub record Fourteen (owners : ℕ) (b : Board) (count : ℕ) (memory summary : List ℕ) : Type 0 where
+  pub counted : 3 * count ≤ length memory
+  pub before : sharedFault owners b (tableIn count memory) ≡ fine
+  pub stale : begins (summaryOf b (own b (tableIn count memory))) summary ≡ false
 
-  pub exactly-fourteen : (p : ℕ) → (editAnswer owners b count memory summary edit ≡ refused 14 p) ↔ (Fourteen × (p ≡ 0))
+-- exactly then 14 is given, at place 0, whatever the edit
+module _ (owners : ℕ) (b : Board) (count : ℕ) (memory summary : List ℕ) (edit : Edit) where
+  pub exactly-fourteen : (p : ℕ) → (editAnswer owners b count memory summary edit ≡ refused 14 p) ↔ (Fourteen owners b count memory summary × (p ≡ 0))
   unfolding editAnswer editFault countFault summaryFault
   exactly-fourteen p = (only, so)
     where
@@ -632,27 +633,27 @@ module _ (owners : ℕ) (b : Board) (count : ℕ) (memory summary : List ℕ) (e
       mine = faultIf (not (begins (summaryOf b (own b (tableIn count memory))) summary)) 14 0
 
       placed : 3 * count ≤ length memory → sharedFault owners b (tableIn count memory) ≡ fine → begins (summaryOf b (own b (tableIn count memory))) summary ≡ false →
-          (mine orElse later) ≡ fault 14 p → Fourteen × (p ≡ 0)
+          (mine orElse later) ≡ fault 14 p → Fourteen owners b count memory summary × (p ≡ 0)
       placed c o z e = (record { counted = c; before = o; stale = z }, (let y : fault 14 0 ≡ fault 14 p = rw z at e in cc))
 
       before : 3 * count ≤ length memory → begins (summaryOf b (own b (tableIn count memory))) summary ≡ false →
-          (g : Fault) → sharedFault owners b (tableIn count memory) ≡ g → (g orElse mine orElse later) ≡ fault 14 p → Fourteen × (p ≡ 0)
+          (g : Fault) → sharedFault owners b (tableIn count memory) ≡ g → (g orElse mine orElse later) ≡ fault 14 p → Fourteen owners b count memory summary × (p ≡ 0)
       before c z fine o e = placed c o z e
       before c z (fault m q) o e =
           let y : m ≡ 14 = cc in
           absurd (omega (arith, shared-number owners b (tableIn count memory) m q o))
 
       counted : begins (summaryOf b (own b (tableIn count memory))) summary ≡ false →
-          (t : Bool) → ltb (length memory) (3 * count) ≡ t → (faultIf t 1 0 orElse sharedFault owners b (tableIn count memory) orElse mine orElse later) ≡ fault 14 p → Fourteen × (p ≡ 0)
+          (t : Bool) → ltb (length memory) (3 * count) ≡ t → (faultIf t 1 0 orElse sharedFault owners b (tableIn count memory) orElse mine orElse later) ≡ fault 14 p → Fourteen owners b count memory summary × (p ≡ 0)
       counted z true l e = let y : _≡_ {A = ℕ} 1 14 = cc in absurd (omega arith)
       counted z false l e = before (ltb-false (length memory) (3 * count) l) z (sharedFault owners b (tableIn count memory)) refl e
 
-      only : editAnswer owners b count memory summary edit ≡ refused 14 p → Fourteen × (p ≡ 0)
+      only : editAnswer owners b count memory summary edit ≡ refused 14 p → Fourteen owners b count memory summary × (p ≡ 0)
       only e =
           counted (only-fourteen b count memory summary edit 14 p (edit-refusal owners b count memory summary edit 14 p e) refl)
           (ltb (length memory) (3 * count)) refl (unless-refused (editFault owners b count memory summary edit) _ 14 p e)
 
-      so : Fourteen × (p ≡ 0) → editAnswer owners b count memory summary edit ≡ refused 14 p
+      so : Fourteen owners b count memory summary × (p ≡ 0) → editAnswer owners b count memory summary edit ≡ refused 14 p
       so (f, z) = rw (le-ltb (length memory) (3 * count) (f .counted), f .before, f .stale, z)
 
 -- so, once the tables as they are have no fault, whether it is given depends on the frame, the owner's windows and the summary, and on nothing else
