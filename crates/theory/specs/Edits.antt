@@ -13,8 +13,8 @@ use lib.Seq.{length-take-le, take-at, drop-at, drop-cons, getD-append-add}
 use borrow.Author.Tests.{eqb-true, ltb-true, ltb-false, leb-false, lt-leb, le-ltb, ne-eqb, not-false}
 use Rattle.scope.specs.Numbers.{first, piecesFrom, pieces, written}
 use Rattle.scope.specs.Limits.{mostWindows}
-use Rattle.scope.specs.Windows.{Board, Window}
-use Rattle.scope.specs.Answers.{Fault, Fault.fine, Fault.fault, Answer.given, Answer.refused, faultIf, faultAt, _orElse_, unless, unlessKept, frameFault, shortestFault, roomFault}
+use Rattle.scope.specs.Windows.{Board}
+use Rattle.scope.specs.Answers.{Fault, Fault.fine, Fault.fault, Answer.given, Answer.refused, faultIf, faultAt, _orElse_, frameFault, shortestFault, roomFault}
 use Rattle.scope.specs.Shared.{Owned, owned, ownedOf, ownedAt, windowsFor, own, ownedLegal, badOwned, ownedListFault, ownedFault, wholeFault, absentOwnerFault}
 use Rattle.scope.specs.Shared.{sliver, firstSliver, sliverFault, sharedFault}
 use Rattle.scope.specs.Summary.{summaryOf, begins, summaryFault, Edit, Edit.move, Edit.add, Edit.remove, spliced, edited, indexFault, tableIn, countFault}
@@ -62,11 +62,15 @@ pub begins-summary : (b : Board) (ws summary : List ℕ) → begins (summaryOf b
 unfolding summaryFault
 begins-summary b ws summary e = rw e
 
+-- what a fresh making writes for the list in lent window memory
+abbrev pub summaryIn : Board → ℕ → List ℕ → List ℕ
+summaryIn b count memory = summaryOf b (own b (tableIn count memory))
+
 module _ (owners : ℕ) (b : Board) (count : ℕ) (memory summary : List ℕ) (edit : Edit) where
   pub record EditParts : Type 0 where
     pub counted : 3 * count ≤ length memory
     pub before : sharedFault owners b (tableIn count memory) ≡ fine
-    pub belongs : begins (summaryOf b (own b (tableIn count memory))) summary ≡ true
+    pub belongs : begins (summaryIn b count memory) summary ≡ true
     pub allowed : Allowed edit count
     pub after : sharedFault owners b (editedList count memory edit) ≡ fine
     pub room : length (editedList count memory edit) ≤ length memory
@@ -136,7 +140,7 @@ module _ (owners : ℕ) (b : Board) (count : ℕ) (memory summary : List ℕ) (e
   parts-given p = rw (parts-edit p)
 
   -- an edit that leaves a list with a fault is refused by that fault
-  pub new-refused : 3 * count ≤ length memory → sharedFault owners b (tableIn count memory) ≡ fine → begins (summaryOf b (own b (tableIn count memory))) summary ≡ true →
+  pub new-refused : 3 * count ≤ length memory → sharedFault owners b (tableIn count memory) ≡ fine → begins (summaryIn b count memory) summary ≡ true →
       Allowed edit count → (n p : ℕ) → sharedFault owners b (editedList count memory edit) ≡ fault n p → editAnswer owners b count memory summary edit ≡ refused n p
   unfolding editAnswer editFault countFault
   new-refused counted before belongs allowed n p f =
@@ -267,9 +271,9 @@ undone (remove i) count l n h = splice-again i l (omega arith) 1 0 [] (numbersAt
 
 -- an edit of n windows in the memories m and s is made, and afterwards the windows are those that `memory` has, so many, and the summary is theirs
 pub record GivesBack (owners : ℕ) (b : Board) (count : ℕ) (memory : List ℕ) (n : ℕ) (m s : List ℕ) (back : Edit) : Type 0 where
-  pub answered : editAnswer owners b n m s back ≡ given (record { windows = count; numbers = length (summaryOf b (own b (tableIn count memory))) })
+  pub answered : editAnswer owners b n m s back ≡ given (record { windows = count; numbers = length (summaryIn b count memory) })
   pub list : tableIn count (editWindows owners b n m s back) ≡ tableIn count memory
-  pub belongs : begins (summaryOf b (own b (tableIn count memory))) (editSummary owners b n m s back) ≡ true
+  pub belongs : begins (summaryIn b count memory) (editSummary owners b n m s back) ≡ true
 
 module _ (owners : ℕ) (b : Board) (count : ℕ) (memory summary : List ℕ) (edit : Edit) (x : Edited) (e : editAnswer owners b count memory summary edit ≡ given x) where
   abbrev m′ : List ℕ
@@ -302,7 +306,7 @@ module _ (owners : ℕ) (b : Board) (count : ℕ) (memory summary : List ℕ) (e
       let p = edit-given owners b count memory summary edit x e .parts in
       let l = edit-leaves owners b count memory summary edit x e in
       let n = edited-length edit count (tableIn count memory) held (p .allowed) in
-      let room = begins-room (summaryOf b (own b (tableIn count memory))) summary (p .belongs) in
+      let room = begins-room (summaryIn b count memory) summary (p .belongs) in
       record {
         counted = omega (arith, count-answered, n, p .room, l .window-length);
         before = l .legal;
@@ -316,7 +320,7 @@ module _ (owners : ℕ) (b : Board) (count : ℕ) (memory summary : List ℕ) (e
   -- the edit that undoes it is made, and gives back both lists
   pub edit-undone : GivesBack owners b count memory (x .windows) m′ s′ back
   edit-undone =
-      let y : Edited = record { windows = count; numbers = length (summaryOf b (own b (tableIn count memory))) } in
+      let y : Edited = record { windows = count; numbers = length (summaryIn b count memory) } in
       let c : length (tableIn count memory) / 3 ≡ count = omega (arith, held) in
       let answered : editAnswer owners b (x .windows) m′ s′ back ≡ given y = rw (back-list, c) at (parts-given owners b (x .windows) m′ s′ back back-parts) in
       let l = edit-leaves owners b (x .windows) m′ s′ back y answered in
@@ -400,7 +404,7 @@ pub other-owner : (owners : ℕ) (b : Board) (count : ℕ) (memory summary : Lis
     editAnswer owners b count memory summary edit ≡ given x → ownerOf edit (tableIn count memory) ≢ b .owner →
     (own b (editedList count memory edit) ≡ own b (tableIn count memory))
     × (editSummary owners b count memory summary edit ≡ summary)
-    × (x .numbers ≡ length (summaryOf b (own b (tableIn count memory))))
+    × (x .numbers ≡ length (summaryIn b count memory))
 other-owner owners b count memory summary edit x e u =
     let g = edit-given owners b count memory summary edit x e in
     let l : List ℕ = tableIn count memory in
@@ -428,21 +432,25 @@ edit-own owners b c count n memory m summary edit change x y e f framed same =
     let z = summary-same b c (own b (editedList count memory edit)) (own c (editedList n m change)) framed same in
     (g .numbers ∙ ap length z ∙ sym (h .numbers), g .summary-memory ∙ ap (λ (l : List ℕ). written l summary) z ∙ sym (h .summary-memory))
 
+-- every refusal of the table that an edit would leave: by its number of windows, at one of them, for an owner that has none left, at a sliver
+pub data NewRefusal (b : Board) (ws : List ℕ) (windows : ℕ) : ℕ → ℕ → Type 0 where
+  too-few : windows ≡ 0 → NewRefusal b ws windows 1 0
+  too-many : mostWindows < windows → NewRefusal b ws windows 1 0
+  new-window : (i : ℕ) → i < windows → NewRefusal b ws windows 3 i
+  new-absent : own b ws ≡ [] → NewRefusal b ws windows 1 0
+  new-sliver : (i : ℕ) → i < windows → NewRefusal b ws windows 12 i
+
 -- every refusal of an edit, and where it comes from: the table as it is, the summary, the index, the table as it would be, room for either
 pub data EditRefusal (b : Board) (count : ℕ) (memory summary : List ℕ) (edit : Edit) : ℕ → ℕ → Type 0 where
   short-memory : length memory < 3 * count → EditRefusal b count memory summary edit 1 0
   old-table : {n p : ℕ} → WholeRefusal count n p → EditRefusal b count memory summary edit n p
   old-absent : own b (tableIn count memory) ≡ [] → EditRefusal b count memory summary edit 1 0
-  not-its-summary : begins (summaryOf b (own b (tableIn count memory))) summary ≡ false → EditRefusal b count memory summary edit 14 0
+  not-its-summary : begins (summaryIn b count memory) summary ≡ false → EditRefusal b count memory summary edit 14 0
   absent-index : (Allowed edit count → ⊥) → EditRefusal b count memory summary edit 7 0
-  -- of the new table: the number of its windows, one of them, an owner that has none left, a sliver
-  too-few : countAfter edit count ≡ 0 → EditRefusal b count memory summary edit 1 0
-  too-many : mostWindows < countAfter edit count → EditRefusal b count memory summary edit 1 0
-  new-window : (i : ℕ) → i < countAfter edit count → EditRefusal b count memory summary edit 3 i
-  new-absent : own b (editedList count memory edit) ≡ [] → EditRefusal b count memory summary edit 1 0
-  new-sliver : (i : ℕ) → i < countAfter edit count → EditRefusal b count memory summary edit 12 i
+  new-table : {n p : ℕ} → NewRefusal b (editedList count memory edit) (countAfter edit count) n p → EditRefusal b count memory summary edit n p
   no-room : length memory < 3 * countAfter edit count → EditRefusal b count memory summary edit 8 (3 * countAfter edit count)
-  no-summary-room : length summary < length (editedSummary b count memory edit) → EditRefusal b count memory summary edit 8 (length (editedSummary b count memory edit))
+  no-summary-room : length summary < length (editedSummary b count memory edit) →
+      EditRefusal b count memory summary edit 8 (length (editedSummary b count memory edit))
 
 no-numbers : (l : List ℕ) → length l ≡ 0 → l ≡ []
 no-numbers [] e = refl
@@ -482,54 +490,66 @@ index-refused edit count n p f = (seven edit f, λ h. fault-not-fine (sym f ∙ 
     seven (add i s e o) z = if-seven (ltb count i) z
     seven (remove i) z = if-seven (leb count i) z
 
+-- of a board without a fault, and a list of so many windows in threes, no other refusal is left
+module _ (owners : ℕ) (b : Board) (ws : List ℕ) (windows : ℕ) (framed : frameFault b ≡ fine) (ranged : shortestFault b ≡ fine) (long : length ws ≡ 3 * windows) where
+  count-read : length (ownedOf ws) ≡ windows
+  count-read = pieces-length Owned 3 owned ws ∙ omega (arith, long)
+
+  new-refusal : (n p : ℕ) → sharedFault owners b ws ≡ fault n p → NewRefusal b ws windows n p
+  unfolding sharedFault wholeFault ownedListFault ownedFault badOwned absentOwnerFault sliverFault firstSliver
+  new-refusal n p f =
+      let threes : length ws % 3 ≡ 0 = omega (arith, long) in
+      counted (ltb mostWindows (length ws / 3)) refl (eqb (length ws) 0) refl (rw (whole-count 3 mostWindows ws threes, framed, ranged) at f)
+    where
+      is : {m q : ℕ} → NewRefusal b ws windows m q → fault m q ≡ fault n p → NewRefusal b ws windows n p
+      is {m} {q} r e = let x : m ≡ n = cc in let y : q ≡ p = cc in rw (← x, ← y) r
+
+      short : Option ℕ
+      short = first (λ i. sliver b (ownedAt (ownedOf ws) i)) (length (ownedOf ws))
+
+      slivered : (o : Option ℕ) → short ≡ o → faultAt 12 o ≡ fault n p → NewRefusal b ws windows n p
+      slivered none z e = absurd (fault-not-fine (sym e))
+      slivered (some i) z e =
+          let s = first-some (λ j. sliver b (ownedAt (ownedOf ws) j)) (length (ownedOf ws)) i z in
+          is (new-sliver i (omega (arith, s .0, count-read))) e
+
+      absent : (t : Bool) → eqb (length (own b ws)) 0 ≡ t → (faultIf t 1 0 orElse faultAt 12 short) ≡ fault n p → NewRefusal b ws windows n p
+      absent true z e = is (new-absent (no-numbers (own b ws) (eqb-true (length (own b ws)) 0 z))) e
+      absent false z e = slivered short refl e
+
+      bad : Option ℕ
+      bad = first (λ i. not (ownedLegal owners b (ownedOf ws) i)) (length (ownedOf ws))
+
+      ruled : (o : Option ℕ) → bad ≡ o → (faultAt 3 o orElse faultIf (eqb (length (own b ws)) 0) 1 0 orElse faultAt 12 short) ≡ fault n p →
+          NewRefusal b ws windows n p
+      ruled none z e = absent (eqb (length (own b ws)) 0) refl e
+      ruled (some i) z e =
+          let s = first-some (λ j. not (ownedLegal owners b (ownedOf ws) j)) (length (ownedOf ws)) i z in
+          is (new-window i (omega (arith, s .0, count-read))) e
+
+      counted : (t : Bool) → ltb mostWindows (length ws / 3) ≡ t → (u : Bool) → eqb (length ws) 0 ≡ u →
+          ((faultIf (t || u) 1 0 orElse faultAt 3 bad) orElse faultIf (eqb (length (own b ws)) 0) 1 0 orElse faultAt 12 short) ≡ fault n p →
+          NewRefusal b ws windows n p
+      counted true z u w e = is (too-many (omega (arith, ltb-true mostWindows (length ws / 3) z, long))) e
+      counted false z true w e = is (too-few (omega (arith, eqb-true (length ws) 0 w, long))) e
+      counted false z false w e = ruled bad refl e
+
+module _ (owners : ℕ) (b : Board) (count : ℕ) (memory : List ℕ) (edit : Edit) where
+  -- the table that an edit would leave, once that before it has no fault and the index is there
+  after-refusal : 3 * count ≤ length memory → sharedFault owners b (tableIn count memory) ≡ fine → Allowed edit count →
+      (n p : ℕ) → sharedFault owners b (editedList count memory edit) ≡ fault n p → NewRefusal b (editedList count memory edit) (countAfter edit count) n p
+  after-refusal counted before allowed n p f =
+      let old : List ℕ = tableIn count memory in
+      let parts = shared-parts owners b old before in
+      new-refusal owners b (editedList count memory edit) (countAfter edit count) (whole owners b old (parts .0) .framed) (sliver-ranged b old (parts .2))
+      (edited-length edit count old (length-take-le (3 * count) memory counted) allowed) n p f
+
 module _ (owners : ℕ) (b : Board) (count : ℕ) (memory summary : List ℕ) (edit : Edit) (n p : ℕ) where
   abbrev R : Type 0
   R = EditRefusal b count memory summary edit n p
 
   is : {m q : ℕ} → EditRefusal b count memory summary edit m q → fault m q ≡ fault n p → R
   is {m} {q} r e = let x : m ≡ n = cc in let y : q ≡ p = cc in rw (← x, ← y) r
-
-  abbrev new : List ℕ
-  new = editedList count memory edit
-
-  -- of a board without a fault, and a list of so many windows, the new table's are left
-  module _ (framed : frameFault b ≡ fine) (ranged : shortestFault b ≡ fine) (long : length new ≡ 3 * countAfter edit count) where
-    windows : length (ownedOf new) ≡ countAfter edit count
-    windows = pieces-length Owned 3 owned new ∙ omega (arith, long)
-
-    new-refusal : sharedFault owners b new ≡ fault n p → R
-    unfolding sharedFault wholeFault ownedListFault ownedFault badOwned absentOwnerFault sliverFault firstSliver
-    new-refusal f =
-        let threes : length new % 3 ≡ 0 = omega (arith, long) in
-        counted (ltb mostWindows (length new / 3)) refl (eqb (length new) 0) refl (rw (whole-count 3 mostWindows new threes, framed, ranged) at f)
-      where
-        slivered : (o : Option ℕ) → first (λ i. sliver b (ownedAt (ownedOf new) i)) (length (ownedOf new)) ≡ o → faultAt 12 o ≡ fault n p → R
-        slivered none z e = absurd (fault-not-fine (sym e))
-        slivered (some i) z e =
-            let s = first-some (λ j. sliver b (ownedAt (ownedOf new) j)) (length (ownedOf new)) i z in
-            is (new-sliver i (omega (arith, s .0, windows))) e
-
-        shorter : Fault
-        shorter = faultAt 12 (first (λ i. sliver b (ownedAt (ownedOf new) i)) (length (ownedOf new)))
-
-        absent : (t : Bool) → eqb (length (own b new)) 0 ≡ t → (faultIf t 1 0 orElse shorter) ≡ fault n p → R
-        absent true z e = is (new-absent (no-numbers (own b new) (eqb-true (length (own b new)) 0 z))) e
-        absent false z e = slivered (first (λ i. sliver b (ownedAt (ownedOf new) i)) (length (ownedOf new))) refl e
-
-        bad : Option ℕ
-        bad = first (λ i. not (ownedLegal owners b (ownedOf new) i)) (length (ownedOf new))
-
-        ruled : (o : Option ℕ) → bad ≡ o → (faultAt 3 o orElse faultIf (eqb (length (own b new)) 0) 1 0 orElse shorter) ≡ fault n p → R
-        ruled none z e = absent (eqb (length (own b new)) 0) refl e
-        ruled (some i) z e =
-            let s = first-some (λ j. not (ownedLegal owners b (ownedOf new) j)) (length (ownedOf new)) i z in
-            is (new-window i (omega (arith, s .0, windows))) e
-
-        counted : (t : Bool) → ltb mostWindows (length new / 3) ≡ t → (u : Bool) → eqb (length new) 0 ≡ u →
-            ((faultIf (t || u) 1 0 orElse faultAt 3 bad) orElse faultIf (eqb (length (own b new)) 0) 1 0 orElse shorter) ≡ fault n p → R
-        counted true z u w e = is (too-many (omega (arith, ltb-true mostWindows (length new / 3) z, long))) e
-        counted false z true w e = is (too-few (omega (arith, eqb-true (length new) 0 w, long))) e
-        counted false z false w e = ruled bad refl e
 
   pub edit-refusal : editAnswer owners b count memory summary edit ≡ refused n p → R
   unfolding editAnswer editFault countFault summaryFault roomFault
@@ -538,8 +558,17 @@ module _ (owners : ℕ) (b : Board) (count : ℕ) (memory summary : List ℕ) (e
       old : List ℕ
       old = tableIn count memory
 
+      new : List ℕ
+      new = editedList count memory edit
+
       numbers : ℕ
       numbers = length (editedSummary b count memory edit)
+
+      Counted : Type 0
+      Counted = 3 * count ≤ length memory
+
+      Before : Type 0
+      Before = sharedFault owners b old ≡ fine
 
       last : Fault
       last = faultIf (ltb (length summary) numbers) 8 numbers
@@ -548,42 +577,42 @@ module _ (owners : ℕ) (b : Board) (count : ℕ) (memory summary : List ℕ) (e
       summarized true z e = is (no-summary-room (ltb-true (length summary) numbers z)) e
       summarized false z e = absurd (fault-not-fine (sym e))
 
-      roomy : length new ≡ 3 * countAfter edit count → (t : Bool) → ltb (length memory) (length new) ≡ t →
-          (faultIf t 8 (length new) orElse last) ≡ fault n p → R
-      roomy long true z e = is (no-room (omega (arith, ltb-true (length memory) (length new) z, long))) (ap (fault 8) (sym long) ∙ e)
-      roomy long false z e = summarized (ltb (length summary) numbers) refl e
-
       then : Fault
       then = faultIf (ltb (length memory) (length new)) 8 (length new) orElse last
 
-      after : sharedFault owners b old ≡ fine → length new ≡ 3 * countAfter edit count → (g : Fault) → sharedFault owners b new ≡ g → (g orElse then) ≡ fault n p → R
-      after o long fine z e = roomy long (ltb (length memory) (length new)) refl e
-      after o long (fault m q) z e =
-          let parts = shared-parts owners b old o in
-          new-refusal (whole owners b old (parts .0) .framed) (sliver-ranged b old (parts .2)) long (z ∙ e)
+      roomy : Counted → Allowed edit count → (t : Bool) → ltb (length memory) (length new) ≡ t → (faultIf t 8 (length new) orElse last) ≡ fault n p → R
+      roomy c a true z e =
+          let long = edited-length edit count old (length-take-le (3 * count) memory c) a in
+          is (no-room (omega (arith, ltb-true (length memory) (length new) z, long))) (ap (fault 8) (sym long) ∙ e)
+      roomy c a false z e = summarized (ltb (length summary) numbers) refl e
 
-      indexed : length old ≡ 3 * count → sharedFault owners b old ≡ fine → (g : Fault) → indexFault edit count ≡ g →
-          (g orElse sharedFault owners b new orElse then) ≡ fault n p → R
-      indexed held o fine z e = after o (edited-length edit count old held (index-allowed edit count z)) (sharedFault owners b new) refl e
-      indexed held o (fault m q) z e = let r = index-refused edit count n p (z ∙ e) in is (absent-index (r .1)) (r .0)
+      after : Counted → Before → Allowed edit count → (g : Fault) → sharedFault owners b new ≡ g → (g orElse then) ≡ fault n p → R
+      after c o a fine z e = roomy c a (ltb (length memory) (length new)) refl e
+      after c o a (fault m q) z e = new-table (after-refusal owners b count memory edit c o a n p (z ∙ e))
 
-      belongs : length old ≡ 3 * count → sharedFault owners b old ≡ fine → (t : Bool) → begins (summaryOf b (own b old)) summary ≡ t →
+      indexed : Counted → Before → (g : Fault) → indexFault edit count ≡ g → (g orElse sharedFault owners b new orElse then) ≡ fault n p → R
+      indexed c o fine z e = after c o (index-allowed edit count z) (sharedFault owners b new) refl e
+      indexed c o (fault m q) z e = let r = index-refused edit count n p (z ∙ e) in is (absent-index (r .1)) (r .0)
+
+      belongs : Counted → Before → (t : Bool) → begins (summaryOf b (own b old)) summary ≡ t →
           (faultIf (not t) 14 0 orElse indexFault edit count orElse sharedFault owners b new orElse then) ≡ fault n p → R
-      belongs held o true z e = indexed held o (indexFault edit count) refl e
-      belongs held o false z e = is (not-its-summary z) e
+      belongs c o true z e = indexed c o (indexFault edit count) refl e
+      belongs c o false z e = is (not-its-summary z) e
 
-      before : length old ≡ 3 * count → (g : Fault) → sharedFault owners b old ≡ g →
-          (g orElse faultIf (not (begins (summaryOf b (own b old)) summary)) 14 0 orElse indexFault edit count orElse sharedFault owners b new orElse then) ≡ fault n p → R
-      before held fine z e = belongs held z (begins (summaryOf b (own b old)) summary) refl e
-      before held (fault m q) z e =
-          let many : length (ownedOf old) ≡ count = pieces-length Owned 3 owned old ∙ omega (arith, held) in
+      fourteen : Fault
+      fourteen = faultIf (not (begins (summaryOf b (own b old)) summary)) 14 0
+
+      before : Counted → (g : Fault) → sharedFault owners b old ≡ g →
+          (g orElse fourteen orElse indexFault edit count orElse sharedFault owners b new orElse then) ≡ fault n p → R
+      before c fine z e = belongs c z (begins (summaryOf b (own b old)) summary) refl e
+      before c (fault m q) z e =
+          let many : length (ownedOf old) ≡ count = pieces-length Owned 3 owned old ∙ omega (arith, length-take-le (3 * count) memory c) in
           elim (shared-refusal owners b old n p (z ∙ e)) [ inl r ↦ old-table (rw many at r) | inr r ↦ is (old-absent (r .0)) (r .1) ]
 
       counted : (t : Bool) → ltb (length memory) (3 * count) ≡ t →
-          (faultIf t 1 0 orElse sharedFault owners b old orElse faultIf (not (begins (summaryOf b (own b old)) summary)) 14 0 orElse indexFault edit count
-          orElse sharedFault owners b new orElse then) ≡ fault n p → R
+          (faultIf t 1 0 orElse sharedFault owners b old orElse fourteen orElse indexFault edit count orElse sharedFault owners b new orElse then) ≡ fault n p → R
       counted true z e = is (short-memory (ltb-true (length memory) (3 * count) z)) e
-      counted false z e = before (length-take-le (3 * count) memory (ltb-false (length memory) (3 * count) z)) (sharedFault owners b old) refl e
+      counted false z e = before (ltb-false (length memory) (3 * count) z) (sharedFault owners b old) refl e
 
 -- ---- 14
 
@@ -594,22 +623,25 @@ whole-number n p (by-window i h) = omega arith
 whole-number n p by-range = omega arith
 whole-number n p (by-sliver i h) = omega arith
 
+new-number : {b : Board} {ws : List ℕ} {windows : ℕ} (n p : ℕ) → NewRefusal b ws windows n p → n ≤ 12
+new-number n p (too-few h) = omega arith
+new-number n p (too-many h) = omega arith
+new-number n p (new-window i h) = omega arith
+new-number n p (new-absent h) = omega arith
+new-number n p (new-sliver i h) = omega arith
+
 shared-number : (owners : ℕ) (b : Board) (ws : List ℕ) (n p : ℕ) → sharedFault owners b ws ≡ fault n p → n ≤ 12
 shared-number owners b ws n p f = elim (shared-refusal owners b ws n p f) [ inl r ↦ whole-number n p r | inr r ↦ let z : 1 ≡ n = cc in omega arith ]
 
 module _ (b : Board) (count : ℕ) (memory summary : List ℕ) (edit : Edit) where
   -- no refusal but one is a 14
-  only-fourteen : (n p : ℕ) → EditRefusal b count memory summary edit n p → n ≡ 14 → begins (summaryOf b (own b (tableIn count memory))) summary ≡ false
+  only-fourteen : (n p : ℕ) → EditRefusal b count memory summary edit n p → n ≡ 14 → begins (summaryIn b count memory) summary ≡ false
   only-fourteen n p (short-memory h) z = absurd (omega arith)
   only-fourteen n p (old-table r) z = absurd (omega (arith, whole-number n p r))
   only-fourteen n p (old-absent h) z = absurd (omega arith)
   only-fourteen n p (not-its-summary h) z = h
   only-fourteen n p (absent-index h) z = absurd (omega arith)
-  only-fourteen n p (too-few h) z = absurd (omega arith)
-  only-fourteen n p (too-many h) z = absurd (omega arith)
-  only-fourteen n p (new-window i h) z = absurd (omega arith)
-  only-fourteen n p (new-absent h) z = absurd (omega arith)
-  only-fourteen n p (new-sliver i h) z = absurd (omega arith)
+  only-fourteen n p (new-table r) z = absurd (omega (arith, new-number n p r))
   only-fourteen n p (no-room h) z = absurd (omega arith)
   only-fourteen n p (no-summary-room h) z = absurd (omega arith)
 
@@ -617,7 +649,7 @@ module _ (b : Board) (count : ℕ) (memory summary : List ℕ) (edit : Edit) whe
 pub record Fourteen (owners : ℕ) (b : Board) (count : ℕ) (memory summary : List ℕ) : Type 0 where
   pub counted : 3 * count ≤ length memory
   pub before : sharedFault owners b (tableIn count memory) ≡ fine
-  pub stale : begins (summaryOf b (own b (tableIn count memory))) summary ≡ false
+  pub stale : begins (summaryIn b count memory) summary ≡ false
 
 -- exactly then 14 is given, at place 0, whatever the edit
 module _ (owners : ℕ) (b : Board) (count : ℕ) (memory summary : List ℕ) (edit : Edit) where
@@ -630,20 +662,20 @@ module _ (owners : ℕ) (b : Board) (count : ℕ) (memory summary : List ℕ) (e
           orElse roomFault (length (editedList count memory edit)) (length memory) orElse roomFault (length (editedSummary b count memory edit)) (length summary)
 
       mine : Fault
-      mine = faultIf (not (begins (summaryOf b (own b (tableIn count memory))) summary)) 14 0
+      mine = faultIf (not (begins (summaryIn b count memory) summary)) 14 0
 
-      placed : 3 * count ≤ length memory → sharedFault owners b (tableIn count memory) ≡ fine → begins (summaryOf b (own b (tableIn count memory))) summary ≡ false →
+      placed : 3 * count ≤ length memory → sharedFault owners b (tableIn count memory) ≡ fine → begins (summaryIn b count memory) summary ≡ false →
           (mine orElse later) ≡ fault 14 p → Fourteen owners b count memory summary × (p ≡ 0)
       placed c o z e = (record { counted = c; before = o; stale = z }, (let y : fault 14 0 ≡ fault 14 p = rw z at e in cc))
 
-      before : 3 * count ≤ length memory → begins (summaryOf b (own b (tableIn count memory))) summary ≡ false →
+      before : 3 * count ≤ length memory → begins (summaryIn b count memory) summary ≡ false →
           (g : Fault) → sharedFault owners b (tableIn count memory) ≡ g → (g orElse mine orElse later) ≡ fault 14 p → Fourteen owners b count memory summary × (p ≡ 0)
       before c z fine o e = placed c o z e
       before c z (fault m q) o e =
           let y : m ≡ 14 = cc in
           absurd (omega (arith, shared-number owners b (tableIn count memory) m q o))
 
-      counted : begins (summaryOf b (own b (tableIn count memory))) summary ≡ false →
+      counted : begins (summaryIn b count memory) summary ≡ false →
           (t : Bool) → ltb (length memory) (3 * count) ≡ t → (faultIf t 1 0 orElse sharedFault owners b (tableIn count memory) orElse mine orElse later) ≡ fault 14 p → Fourteen owners b count memory summary × (p ≡ 0)
       counted z true l e = let y : _≡_ {A = ℕ} 1 14 = cc in absurd (omega arith)
       counted z false l e = before (ltb-false (length memory) (3 * count) l) z (sharedFault owners b (tableIn count memory)) refl e
