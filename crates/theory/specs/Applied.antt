@@ -4,7 +4,7 @@ use mathlib.Core.Bool.{true, false}
 use mathlib.Core.Option.{some}
 use mathlib.Core.Logic.{_⊎_, inl}
 use mathlib.Core.List.{List, [], _∷_, _++_, map}
-use Prim.Native.Nat.{ℕ, zero, suc, _-_, _*_, _≤_, _<_}
+use Prim.Native.Nat.{ℕ, zero, suc, _+_, _-_, _*_, _≤_, _<_}
 use native.Mathlib.Omega.{arith}
 use lib.Dec.{ltb}
 use lib.IntN.{ℤ, pos, ℤ.negsuc}
@@ -57,7 +57,7 @@ use Rattle.theory.specs.Summaries.{fine-begins, begins-written, least-fr
 use Rattle.theory.specs.Summaries.{margins-agree, margins-each, margins-not-belonging, margins-fourteen, made-belongs}
 use Rattle.theory.specs.Forms.{withSettings, refused-behind}
 use Rattle.theory.specs.Edits.{edit-parts, edit-refused-keeps, Left, edit-leaves, new-refused, count-answered, add-then-remove, remove-then-add, move-back, other-owner, edit-own}
-use Rattle.theory.specs.Edits.{EditRefusal, edit-refusal, Fourteen, exactly-fourteen, fourteen-own}
+use Rattle.theory.specs.Edits.{EditRefusal, edit-refusal, Fourteen, exactly-fourteen, fourteen-own, EditTold, edit-told-apart}
 use Rattle.theory.specs.PlanBytes.{Writable, plan-length, round-trip, left-over, only-bytes}
 
 abbrev pub w6 : List ℕ
@@ -753,35 +753,38 @@ edit-kept-at = edit-kept 14 0 teams (onFor 8 1) 4 XShared x-summary (remove 0) e
 
 -- ---- edits of a table with its summary
 
--- the table of two teams, with room for one window more; owner 0's summary, with room for one more too
+-- the table of two teams, with room for one window more, and owner 0's summary, with room for one more too
 abbrev edit-memory : List ℕ
 edit-memory = XShared ++ (9 ∷ 9 ∷ 9 ∷ [])
 
 abbrev edit-summary : List ℕ
 edit-summary = 4 ∷ 12 ∷ 2 ∷ 3 ∷ 5 ∷ 6 ∷ 8 ∷ 9 ∷ 9 ∷ []
 
+-- both memories after an edit of it
+abbrev windows-after : Edit → List ℕ
+windows-after edit = editWindows teams (on 8) 4 edit-memory edit-summary edit
+
+abbrev summary-after : Edit → List ℕ
+summary-after edit = editSummary teams (on 8) 4 edit-memory edit-summary edit
+
 -- owner 0's first window loses a tick: the summary afterwards is that of a fresh making
 x-moved : editAnswer teams (on 8) 4 edit-memory edit-summary (move 0 0 1) ≡ given (record { windows = 4; numbers = 7 })
 unfolding everything
 x-moved = refl
 
-x-left : Left teams (on 8) 4 edit-memory edit-summary (move 0 0 1) (record { windows = 4; numbers = 7 })
-    (editWindows teams (on 8) 4 edit-memory edit-summary (move 0 0 1)) (editSummary teams (on 8) 4 edit-memory edit-summary (move 0 0 1))
+x-left : Left teams (on 8) 4 edit-memory edit-summary (move 0 0 1) (record { windows = 4; numbers = 7 }) (windows-after (move 0 0 1)) (summary-after (move 0 0 1))
 x-left = edit-leaves teams (on 8) 4 edit-memory edit-summary (move 0 0 1) _ x-moved
 
 x-move-room : length (editedList 4 edit-memory (move 0 0 1)) ≤ 15
 unfolding everything
 x-move-room = edit-parts teams (on 8) 4 edit-memory edit-summary (move 0 0 1) refl .room
 
-x-move-count : _≡_ {A = ℕ} 4 4
-x-move-count = count-answered teams (on 8) 4 edit-memory edit-summary (move 0 0 1) _ x-moved
-
--- moved back, the window and the summary are as they were
-x-moved-back : tableIn 4 (editWindows teams (on 8) 4 (editWindows teams (on 8) 4 edit-memory edit-summary (move 0 0 1)) (editSummary teams (on 8) 4 edit-memory edit-summary (move 0 0 1)) (move 0 0 2)) ≡ XShared
+-- moved back, the windows are as they were
+x-moved-back : tableIn 4 (editWindows teams (on 8) 4 (windows-after (move 0 0 1)) (summary-after (move 0 0 1)) (move 0 0 2)) ≡ XShared
 x-moved-back = move-back teams (on 8) 4 edit-memory edit-summary 0 0 1 _ x-moved .list
 
 -- it can't grow into owner 1's, and then nothing is written
-x-grown : (editWindows teams (on 8) 4 edit-memory edit-summary (move 0 0 3) ≡ edit-memory) × (editSummary teams (on 8) 4 edit-memory edit-summary (move 0 0 3) ≡ edit-summary)
+x-grown : (windows-after (move 0 0 3) ≡ edit-memory) × (summary-after (move 0 0 3) ≡ edit-summary)
 unfolding everything
 x-grown = edit-refused-keeps teams (on 8) 4 edit-memory edit-summary (move 0 0 3) 3 1 refl
 
@@ -794,13 +797,14 @@ unfolding everything
 x-grown-new = new-refused teams (on 8) 4 edit-memory edit-summary (move 0 0 3) (omega arith) refl refl (omega arith) 3 1 refl
 
 -- the window at index 1 is owner 1's: owner 0's summary memory is not touched
-x-other-moved : editSummary teams (on 8) 4 edit-memory edit-summary (move 1 3 4) ≡ edit-summary
+x-other-moved : summary-after (move 1 3 4) ≡ edit-summary
 unfolding everything
 x-other-moved =
-    other-owner teams (on 8) 4 edit-memory edit-summary (move 1 3 4) (record { windows = 4; numbers = 7 }) refl (λ z. let y : _≡_ {A = ℕ} 1 0 = z in omega arith) .1
+    other-owner teams (on 8) 4 edit-memory edit-summary (move 1 3 4) (record { windows = 4; numbers = 7 }) refl
+    (λ z. let y : _≡_ {A = ℕ} 1 0 = z in omega arith) .1
 
 -- removed and added again
-x-removed-added : tableIn 4 (editWindows teams (on 8) 3 (editWindows teams (on 8) 4 edit-memory edit-summary (remove 2)) (editSummary teams (on 8) 4 edit-memory edit-summary (remove 2)) (add 2 5 7 0)) ≡ XShared
+x-removed-added : tableIn 4 (editWindows teams (on 8) 3 (windows-after (remove 2)) (summary-after (remove 2)) (add 2 5 7 0)) ≡ XShared
 unfolding everything
 x-removed-added = remove-then-add teams (on 8) 4 edit-memory edit-summary 2 (record { windows = 3; numbers = 5 }) refl .list
 
@@ -812,26 +816,39 @@ pair-added : editAnswer teams (on 8) 2 pair-memory edit-summary (add 1 3 4 0) �
 unfolding everything
 pair-added = refl
 
-pair-added-removed : editAnswer teams (on 8) 3 (editWindows teams (on 8) 2 pair-memory edit-summary (add 1 3 4 0)) (editSummary teams (on 8) 2 pair-memory edit-summary (add 1 3 4 0)) (remove 1)
-    ≡ given (record { windows = 2; numbers = 7 })
+pair-count : _≡_ {A = ℕ} 3 (2 + 1)
+unfolding everything
+pair-count = count-answered teams (on 8) 2 pair-memory edit-summary (add 1 3 4 0) _ pair-added
+
+pair-added-removed : editAnswer teams (on 8) 3 (editWindows teams (on 8) 2 pair-memory edit-summary (add 1 3 4 0))
+    (editSummary teams (on 8) 2 pair-memory edit-summary (add 1 3 4 0)) (remove 1) ≡ given (record { windows = 2; numbers = 7 })
 unfolding everything
 pair-added-removed = add-then-remove teams (on 8) 2 pair-memory edit-summary 1 3 4 0 _ pair-added .answered
 
 -- moving the first window leaves the same summary on X as on the table of two teams
-pair-moved : editSummary teams (on 8) 4 edit-memory edit-summary (move 0 0 1) ≡ editSummary teams (on 8) 2 pair-memory edit-summary (move 0 0 1)
+pair-moved : summary-after (move 0 0 1) ≡ editSummary teams (on 8) 2 pair-memory edit-summary (move 0 0 1)
 unfolding everything
 pair-moved =
-    edit-own teams (on 8) (on 8) 4 2 edit-memory pair-memory edit-summary (move 0 0 1) (move 0 0 1) (record { windows = 4; numbers = 7 }) (record { windows = 2; numbers = 7 })
-    refl refl refl refl .1
+    edit-own teams (on 8) (on 8) 4 2 edit-memory pair-memory edit-summary (move 0 0 1) (move 0 0 1)
+    (record { windows = 4; numbers = 7 }) (record { windows = 2; numbers = 7 }) refl refl refl refl .1
 
--- a summary that does not belong: A is wrong
-x-stale : Fourteen teams (on 8) 4 edit-memory (3 ∷ 12 ∷ 2 ∷ 3 ∷ 5 ∷ 6 ∷ 8 ∷ []) × (_≡_ {A = ℕ} 0 0)
+-- on X it can grow by the tick that owner 1's begins with: the two are told apart, by 3 at owner 1's window
+pair-grown : EditTold teams (on 8) 4 edit-memory edit-summary (move 0 0 3) ⊎ EditTold teams (on 8) 2 pair-memory edit-summary (move 0 0 3)
 unfolding everything
-x-stale = exactly-fourteen teams (on 8) 4 edit-memory (3 ∷ 12 ∷ 2 ∷ 3 ∷ 5 ∷ 6 ∷ 8 ∷ []) (remove 0) 0 .0 refl
+pair-grown =
+    edit-told-apart teams (on 8) (on 8) 4 2 edit-memory pair-memory edit-summary (move 0 0 3) (move 0 0 3) refl refl (omega arith) refl (omega arith) refl refl
+    (λ same. let e = same .0 in let z : _≡_ {A = ℕ} 0 1 = cc in omega arith)
+
+-- a summary that does not belong: its A is wrong
+abbrev stale-summary : List ℕ
+stale-summary = 3 ∷ 12 ∷ 2 ∷ 3 ∷ 5 ∷ 6 ∷ 8 ∷ []
+
+x-stale : Fourteen teams (on 8) 4 edit-memory stale-summary
+unfolding everything
+x-stale = exactly-fourteen teams (on 8) 4 edit-memory stale-summary (remove 0) 0 .0 refl .0
 
 -- nor is it X's, whatever the edit
-pair-stale : editAnswer teams (on 8) 2 pair-memory (3 ∷ 12 ∷ 2 ∷ 3 ∷ 5 ∷ 6 ∷ 8 ∷ []) (move 9 0 1) ≡ refused 14 0
+pair-stale : editAnswer teams (on 8) 2 pair-memory stale-summary (move 9 0 1) ≡ refused 14 0
 unfolding everything
 pair-stale =
-    fourteen-own teams (on 8) (on 8) 4 2 edit-memory pair-memory (3 ∷ 12 ∷ 2 ∷ 3 ∷ 5 ∷ 6 ∷ 8 ∷ []) (remove 0) (move 9 0 1)
-    (omega arith) refl (omega arith) refl refl refl .0 refl
+    fourteen-own teams (on 8) (on 8) 4 2 edit-memory pair-memory stale-summary (remove 0) (move 9 0 1) (omega arith) refl (omega arith) refl refl refl .0 refl

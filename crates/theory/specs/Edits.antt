@@ -10,11 +10,11 @@ use native.Mathlib.Omega.{arith}
 use lib.Dec.{leb, ltb, eqb}
 use lib.ListN.{length, getD, take, drop, length-append, length-drop, take-append-drop}
 use lib.Seq.{length-take-le, take-at, drop-at, drop-cons, getD-append-add}
-use borrow.Author.Tests.{eqb-true, ltb-true, ltb-false, leb-false, lt-leb, le-ltb, ne-eqb, not-false}
+use borrow.Author.Tests.{eqb-true, eqb-false, ltb-true, ltb-false, leb-false, lt-leb, lt-ltb, le-ltb, ne-eqb, not-false}
 use Rattle.scope.specs.Numbers.{first, piecesFrom, pieces, written}
 use Rattle.scope.specs.Limits.{mostWindows}
 use Rattle.scope.specs.Windows.{Board}
-use Rattle.scope.specs.Answers.{Fault, Fault.fine, Fault.fault, Answer.given, Answer.refused, faultIf, faultAt, _orElse_, frameFault, shortestFault, roomFault}
+use Rattle.scope.specs.Answers.{Fault, Fault.fine, Fault.fault, Answer, Answer.given, Answer.refused, faultIf, faultAt, _orElse_, unless, frameFault, shortestFault, roomFault}
 use Rattle.scope.specs.Shared.{Owned, owned, ownedOf, ownedAt, windowsFor, own, ownedLegal, badOwned, ownedListFault, ownedFault, wholeFault, absentOwnerFault}
 use Rattle.scope.specs.Shared.{sliver, firstSliver, sliverFault, sharedFault}
 use Rattle.scope.specs.Summary.{summaryOf, begins, summaryFault, Edit, Edit.move, Edit.add, Edit.remove, spliced, edited, indexFault, tableIn, countFault}
@@ -53,6 +53,10 @@ room-fine needed room f = ltb-false room needed (faultIf-fine _ 8 needed f)
 fine-room : (needed room : ℕ) → needed ≤ room → roomFault needed room ≡ fine
 unfolding roomFault
 fine-room needed room h = rw (le-ltb room needed h)
+
+room-fault : (needed room : ℕ) → room < needed → roomFault needed room ≡ fault 8 needed
+unfolding roomFault
+room-fault needed room h = rw (lt-ltb room needed h)
 
 pub summary-begins : (b : Board) (ws summary : List ℕ) → summaryFault b ws summary ≡ fine → begins (summaryOf b ws) summary ≡ true
 unfolding summaryFault
@@ -700,3 +704,133 @@ fourteen-own owners b c count n memory m summary edit change k e j f framed same
       λ a. fro .1 (record { counted = j; before = f; stale = rw (← z) (to .0 a .0 .stale) }, refl),
       λ a. to .1 (record { counted = k; before = e; stale = rw z (fro .0 a .0 .stale) }, refl),
     )
+
+-- ---- the list of what may depend on the other team, once the tables as they are have no fault: the number of windows that is answered, and these refusals
+
+pub data TeamsRefusal (windows : ℕ) : ℕ → ℕ → Type 0 where
+  by-index : TeamsRefusal windows 7 0
+  by-number : TeamsRefusal windows 1 0
+  by-rule : (i : ℕ) → i < windows → TeamsRefusal windows 3 i
+  by-short : (i : ℕ) → i < windows → TeamsRefusal windows 12 i
+  by-room : TeamsRefusal windows 8 (3 * windows)
+
+pub record EditTold (owners : ℕ) (b : Board) (count : ℕ) (memory summary : List ℕ) (edit : Edit) : Type 0 where
+  pub number : ℕ
+  pub place : ℕ
+  pub is : TeamsRefusal (countAfter edit count) number place
+  pub answered : editAnswer owners b count memory summary edit ≡ refused number place
+
+-- a list without a fault has a window of the owner
+never-absent : (owners : ℕ) (b : Board) (ws : List ℕ) → sharedFault owners b ws ≡ fine → own b ws ≡ [] → ⊥
+unfolding absentOwnerFault
+never-absent owners b ws f z =
+    eqb-false (length (own b ws)) 0 (faultIf-fine _ 1 0 (shared-parts owners b ws f .1)) (ap length z)
+
+module _ (owners : ℕ) (b : Board) (count : ℕ) (memory summary : List ℕ) (edit : Edit) where
+  -- an edit that none of these refuses: the owner has no window left, or only room for the summary is asked
+  pub data Untold : Type 0 where
+    left-absent : own b (editedList count memory edit) ≡ [] → editAnswer owners b count memory summary edit ≡ refused 1 0 → Untold
+    left-legal : sharedFault owners b (editedList count memory edit) ≡ fine →
+        editFault owners b count memory summary edit ≡ roomFault (length (editedSummary b count memory edit)) (length summary) → Untold
+
+  told-or-not : 3 * count ≤ length memory → sharedFault owners b (tableIn count memory) ≡ fine → begins (summaryIn b count memory) summary ≡ true →
+      EditTold owners b count memory summary edit ⊎ Untold
+  unfolding editAnswer editFault countFault
+  told-or-not counted before belongs = indexed (indexFault edit count) refl
+    where
+      new : List ℕ
+      new = editedList count memory edit
+
+      last : Fault
+      last = roomFault (length (editedSummary b count memory edit)) (length summary)
+
+      later : Fault
+      later = indexFault edit count orElse sharedFault owners b new orElse roomFault (length new) (length memory) orElse last
+
+      behind : editFault owners b count memory summary edit ≡ later
+      behind =
+          rw (le-ltb (length memory) (3 * count) counted, before, begins-summary b (own b (tableIn count memory)) summary belongs)
+
+      so : {n p : ℕ} → TeamsRefusal (countAfter edit count) n p → later ≡ fault n p → EditTold owners b count memory summary edit
+      so {n} {p} r e = record { number = n; place = p; is = r; answered = rw (behind ∙ e) }
+
+      new-told : (n p : ℕ) → NewRefusal b new (countAfter edit count) n p → later ≡ fault n p → EditTold owners b count memory summary edit ⊎ Untold
+      new-told n p (too-few h) e = inl (so by-number e)
+      new-told n p (too-many h) e = inl (so by-number e)
+      new-told n p (new-window i h) e = inl (so (by-rule i h) e)
+      new-told n p (new-absent h) e = inr (left-absent h (rw (behind ∙ e)))
+      new-told n p (new-sliver i h) e = inl (so (by-short i h) e)
+
+      roomy : indexFault edit count ≡ fine → sharedFault owners b new ≡ fine → (t : Bool) → ltb (length memory) (length new) ≡ t → EditTold owners b count memory summary edit ⊎ Untold
+      roomy i a true z =
+          let long = edited-length edit count (tableIn count memory) (length-take-le (3 * count) memory counted) (index-allowed edit count i) in
+          let full = room-fault (length new) (length memory) (ltb-true (length memory) (length new) z) in
+          let e : later ≡ fault 8 (length new) = rw (i, a, full) in
+          inl (so by-room (e ∙ ap (fault 8) long))
+      roomy i a false z = inr (left-legal a (behind ∙ rw (i, a, fine-room (length new) (length memory) (ltb-false (length memory) (length new) z))))
+
+      after : indexFault edit count ≡ fine → (g : Fault) → sharedFault owners b new ≡ g → EditTold owners b count memory summary edit ⊎ Untold
+      after i fine z = roomy i z (ltb (length memory) (length new)) refl
+      after i (fault m q) z = new-told m q (after-refusal owners b count memory edit counted before (index-allowed edit count i) m q z) (rw (i, z))
+
+      indexed : (g : Fault) → indexFault edit count ≡ g → EditTold owners b count memory summary edit ⊎ Untold
+      indexed fine z = after z (sharedFault owners b new) refl
+      indexed (fault m q) z = let r = index-refused edit count m q z in inl (so by-index (rw (z, ← (r .0))))
+
+-- what is answered but for the number of windows
+abbrev pub numbersIn : Answer Edited → Answer ℕ
+numbersIn (given x) = given (x .numbers)
+numbersIn (refused n p) = refused n p
+
+numbers-unless : (f : Fault) (x : Edited) → numbersIn (unless f x) ≡ unless f (x .numbers)
+numbers-unless fine x = refl
+numbers-unless (fault n p) x = refl
+
+-- nothing else does: of two edits whose owners have the same windows before and the same afterwards, in equal frames and with one summary, that are answered or leave
+-- the summary differently, one is refused so
+module _ (owners : ℕ) (b c : Board) (count k : ℕ) (memory m summary : List ℕ) (edit change : Edit) where
+  abbrev pub Same : Type 0
+  Same = (numbersIn (editAnswer owners b count memory summary edit) ≡ numbersIn (editAnswer owners c k m summary change))
+      × (editSummary owners b count memory summary edit ≡ editSummary owners c k m summary change)
+
+  refused-same : (n p : ℕ) → editAnswer owners b count memory summary edit ≡ refused n p → editAnswer owners c k m summary change ≡ refused n p → Same
+  refused-same n p e f = (
+    ap numbersIn (e ∙ sym f),
+    edit-refused-keeps owners b count memory summary edit n p e .1 ∙ sym (edit-refused-keeps owners c k m summary change n p f .1),
+  )
+
+  module _ (framed : b .frame ≡ c .frame) (after : own b (editedList count memory edit) ≡ own c (editedList k m change)) where
+    both-legal : editFault owners b count memory summary edit ≡ roomFault (length (editedSummary b count memory edit)) (length summary) →
+        editFault owners c k m summary change ≡ roomFault (length (editedSummary c k m change)) (length summary) → Same
+    unfolding editAnswer editSummary
+    both-legal e f =
+        let z = summary-same b c (own b (editedList count memory edit)) (own c (editedList k m change)) framed after in
+        (rw (e, f, numbers-unless, numbers-unless, z), rw (e, f, z))
+
+    untold-same : Untold owners b count memory summary edit → Untold owners c k m summary change → Same
+    untold-same (left-absent a e) (left-absent d f) = refused-same 1 0 e f
+    untold-same (left-absent a e) (left-legal l f) = absurd (never-absent owners c (editedList k m change) l (sym after ∙ a))
+    untold-same (left-legal l e) (left-absent d f) = absurd (never-absent owners b (editedList count memory edit) l (after ∙ d))
+    untold-same (left-legal l e) (left-legal g f) = both-legal e f
+
+    pub edit-told-apart : 3 * count ≤ length memory → sharedFault owners b (tableIn count memory) ≡ fine →
+        3 * k ≤ length m → sharedFault owners c (tableIn k m) ≡ fine → own b (tableIn count memory) ≡ own c (tableIn k m) →
+        (Same → ⊥) → EditTold owners b count memory summary edit ⊎ EditTold owners c k m summary change
+    edit-told-apart i e j f before differ = go (begins (summaryIn b count memory) summary) refl
+      where
+        stale : begins (summaryIn b count memory) summary ≡ begins (summaryIn c k m) summary
+        stale = ap (λ (l : List ℕ). begins l summary) (summary-same b c (own b (tableIn count memory)) (own c (tableIn k m)) framed before)
+
+        both : EditTold owners b count memory summary edit ⊎ Untold owners b count memory summary edit →
+            EditTold owners c k m summary change ⊎ Untold owners c k m summary change →
+            EditTold owners b count memory summary edit ⊎ EditTold owners c k m summary change
+        both (inl t) y = inl t
+        both (inr u) (inl t) = inr t
+        both (inr u) (inr v) = absurd (differ (untold-same u v))
+
+        go : (t : Bool) → begins (summaryIn b count memory) summary ≡ t → EditTold owners b count memory summary edit ⊎ EditTold owners c k m summary change
+        go false z =
+            absurd (differ (refused-same 14 0
+            (exactly-fourteen owners b count memory summary edit 0 .1 (record { counted = i; before = e; stale = z }, refl))
+            (exactly-fourteen owners c k m summary change 0 .1 (record { counted = j; before = f; stale = sym stale ∙ z }, refl))))
+        go true z = both (told-or-not owners b count memory summary edit i e z) (told-or-not owners c k m summary change j f (sym stale ∙ z))
