@@ -772,7 +772,8 @@ x-moved : editAnswer teams (on 8) 4 edit-memory edit-summary (move 0 0 1) ≡ gi
 unfolding everything
 x-moved = refl
 
-x-left : Left teams (on 8) 4 edit-memory edit-summary (move 0 0 1) (record { windows = 4; numbers = 7 }) (windows-after (move 0 0 1)) (summary-after (move 0 0 1))
+x-left : Left teams (on 8) 4 edit-memory edit-summary (move 0 0 1) (record { windows = 4; numbers = 7 })
+    (windows-after (move 0 0 1)) (summary-after (move 0 0 1))
 x-left = edit-leaves teams (on 8) 4 edit-memory edit-summary (move 0 0 1) _ x-moved
 
 x-move-room : length (editedList 4 edit-memory (move 0 0 1)) ≤ 15

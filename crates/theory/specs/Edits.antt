@@ -139,13 +139,15 @@ module _ (owners : ℕ) (b : Board) (count : ℕ) (memory summary : List ℕ) (e
       }
 
   pub parts-given : EditParts →
-      editAnswer owners b count memory summary edit ≡ given (record { windows = length (editedList count memory edit) / 3; numbers = length (editedSummary b count memory edit) })
+      editAnswer owners b count memory summary edit
+      ≡ given (record { windows = length (editedList count memory edit) / 3; numbers = length (editedSummary b count memory edit) })
   unfolding editAnswer
   parts-given p = rw (parts-edit p)
 
   -- an edit that leaves a list with a fault is refused by that fault
   pub new-refused : 3 * count ≤ length memory → sharedFault owners b (tableIn count memory) ≡ fine → begins (summaryIn b count memory) summary ≡ true →
-      Allowed edit count → (n p : ℕ) → sharedFault owners b (editedList count memory edit) ≡ fault n p → editAnswer owners b count memory summary edit ≡ refused n p
+      Allowed edit count → (n p : ℕ) → sharedFault owners b (editedList count memory edit) ≡ fault n p →
+      editAnswer owners b count memory summary edit ≡ refused n p
   unfolding editAnswer editFault countFault
   new-refused counted before belongs allowed n p f =
       rw (
@@ -279,7 +281,8 @@ pub record GivesBack (owners : ℕ) (b : Board) (count : ℕ) (memory : List ℕ
   pub list : tableIn count (editWindows owners b n m s back) ≡ tableIn count memory
   pub belongs : begins (summaryIn b count memory) (editSummary owners b n m s back) ≡ true
 
-module _ (owners : ℕ) (b : Board) (count : ℕ) (memory summary : List ℕ) (edit : Edit) (x : Edited) (e : editAnswer owners b count memory summary edit ≡ given x) where
+module _ (owners : ℕ) (b : Board) (count : ℕ) (memory summary : List ℕ) (edit : Edit) (x : Edited)
+    (e : editAnswer owners b count memory summary edit ≡ given x) where
   abbrev m′ : List ℕ
   m′ = editWindows owners b count memory summary edit
 
@@ -332,7 +335,7 @@ module _ (owners : ℕ) (b : Board) (count : ℕ) (memory summary : List ℕ) (e
       record {
         answered = answered;
         list = list;
-        belongs = rw list at (summary-begins b (own b (tableIn count (editWindows owners b (x .windows) m′ s′ back))) (editSummary owners b (x .windows) m′ s′ back) (l .belongs));
+        belongs = summary-begins b (own b (tableIn count memory)) _ (rw list at (l .belongs));
       }
 
 module _ (owners : ℕ) (b : Board) (count : ℕ) (memory summary : List ℕ) where
@@ -391,7 +394,8 @@ module _ (b : Board) where
       let both : length (take (3 * i) l ++ come) ≡ 3 * (i + n) = omega (arith, length-append (take (3 * i) l) come, f, e) in
       own-append (i + n) (take (3 * i) l ++ come) (drop (3 * (i + gone)) l) both ∙ rw (own-append i (take (3 * i) l) come f, not-own, append-nil)
 
-  pub own-kept : (edit : Edit) (count : ℕ) (l : List ℕ) → length l ≡ 3 * count → Allowed edit count → ownerOf edit l ≢ b .owner → own b (edited edit l) ≡ own b l
+  pub own-kept : (edit : Edit) (count : ℕ) (l : List ℕ) → length l ≡ 3 * count → Allowed edit count → ownerOf edit l ≢ b .owner →
+      own b (edited edit l) ≡ own b l
   unfolding edited windowsFor pieces piecesFrom
   own-kept (move i s e) count l n h u =
       let o : ℕ = getD l (3 * i + 2) 0 in
@@ -401,7 +405,7 @@ module _ (b : Board) where
       splice-own i 0 1 (s ∷ e ∷ o ∷ []) l (omega arith) (omega arith) (own-other s e o u)
       ∙ sym (splice-own i 0 0 [] l (omega arith) (omega arith) refl) ∙ ap (own b) (splice-none i l)
   own-kept (remove i) count l n h u =
-      let same = splice-own i 1 1 (numbersAt l i) l (omega arith) (omega arith) (own-other (getD l (3 * i) 0) (getD l (3 * i + 1) 0) (getD l (3 * i + 2) 0) u) in
+      let same = splice-own i 1 1 (numbersAt l i) l (omega arith) (omega arith) (own-other (getD l (3 * i) 0) (getD l (3 * i + 1) 0) _ u) in
       splice-own i 1 0 [] l (omega arith) (omega arith) refl ∙ sym same ∙ ap (own b) (splice-same i l (omega arith))
 
 pub other-owner : (owners : ℕ) (b : Board) (count : ℕ) (memory summary : List ℕ) (edit : Edit) (x : Edited) →
@@ -425,7 +429,7 @@ pub summary-same : (b c : Board) (ws vs : List ℕ) → b .frame ≡ c .frame �
 unfolding summaryOf
 summary-same b c ws vs framed same = rw (same, supplied-same b c vs framed, framed)
 
--- not the numbers of the summary, and not the summary: two edits that are made, of whatever else, leave the same where the owner has the same windows afterwards
+-- not the summary, nor how many numbers it has: two edits that are made, whatever else they find, leave the same where the owner has the same windows afterwards
 pub edit-own : (owners : ℕ) (b c : Board) (count n : ℕ) (memory m summary : List ℕ) (edit change : Edit) (x y : Edited) →
     editAnswer owners b count memory summary edit ≡ given x → editAnswer owners c n m summary change ≡ given y →
     b .frame ≡ c .frame → own b (editedList count memory edit) ≡ own c (editedList n m change) →
@@ -495,7 +499,8 @@ index-refused edit count n p f = (seven edit f, λ h. fault-not-fine (sym f ∙ 
     seven (remove i) z = if-seven (leb count i) z
 
 -- of a board without a fault, and a list of so many windows in threes, no other refusal is left
-module _ (owners : ℕ) (b : Board) (ws : List ℕ) (windows : ℕ) (framed : frameFault b ≡ fine) (ranged : shortestFault b ≡ fine) (long : length ws ≡ 3 * windows) where
+module _ (owners : ℕ) (b : Board) (ws : List ℕ) (windows : ℕ)
+    (framed : frameFault b ≡ fine) (ranged : shortestFault b ≡ fine) (long : length ws ≡ 3 * windows) where
   count-read : length (ownedOf ws) ≡ windows
   count-read = pieces-length Owned 3 owned ws ∙ omega (arith, long)
 
@@ -606,15 +611,16 @@ module _ (owners : ℕ) (b : Board) (count : ℕ) (memory summary : List ℕ) (e
       fourteen : Fault
       fourteen = faultIf (not (begins (summaryOf b (own b old)) summary)) 14 0
 
-      before : Counted → (g : Fault) → sharedFault owners b old ≡ g →
-          (g orElse fourteen orElse indexFault edit count orElse sharedFault owners b new orElse then) ≡ fault n p → R
+      later : Fault
+      later = fourteen orElse indexFault edit count orElse sharedFault owners b new orElse then
+
+      before : Counted → (g : Fault) → sharedFault owners b old ≡ g → (g orElse later) ≡ fault n p → R
       before c fine z e = belongs c z (begins (summaryOf b (own b old)) summary) refl e
       before c (fault m q) z e =
           let many : length (ownedOf old) ≡ count = pieces-length Owned 3 owned old ∙ omega (arith, length-take-le (3 * count) memory c) in
           elim (shared-refusal owners b old n p (z ∙ e)) [ inl r ↦ old-table (rw many at r) | inr r ↦ is (old-absent (r .0)) (r .1) ]
 
-      counted : (t : Bool) → ltb (length memory) (3 * count) ≡ t →
-          (faultIf t 1 0 orElse sharedFault owners b old orElse fourteen orElse indexFault edit count orElse sharedFault owners b new orElse then) ≡ fault n p → R
+      counted : (t : Bool) → ltb (length memory) (3 * count) ≡ t → (faultIf t 1 0 orElse sharedFault owners b old orElse later) ≡ fault n p → R
       counted true z e = is (short-memory (ltb-true (length memory) (3 * count) z)) e
       counted false z e = before (ltb-false (length memory) (3 * count) z) (sharedFault owners b old) refl e
 
@@ -661,35 +667,39 @@ module _ (owners : ℕ) (b : Board) (count : ℕ) (memory summary : List ℕ) (e
   unfolding editAnswer editFault countFault summaryFault
   exactly-fourteen p = (only, so)
     where
+      F : Type 0
+      F = Fourteen owners b count memory summary × (p ≡ 0)
+
+      old : List ℕ
+      old = tableIn count memory
+
+      Stale : Type 0
+      Stale = begins (summaryOf b (own b old)) summary ≡ false
+
+      room : Fault
+      room = roomFault (length (editedList count memory edit)) (length memory) orElse roomFault (length (editedSummary b count memory edit)) (length summary)
+
       later : Fault
-      later = indexFault edit count orElse sharedFault owners b (editedList count memory edit)
-          orElse roomFault (length (editedList count memory edit)) (length memory) orElse roomFault (length (editedSummary b count memory edit)) (length summary)
+      later = faultIf (not (begins (summaryOf b (own b old)) summary)) 14 0
+          orElse indexFault edit count orElse sharedFault owners b (editedList count memory edit) orElse room
 
-      mine : Fault
-      mine = faultIf (not (begins (summaryIn b count memory) summary)) 14 0
-
-      placed : 3 * count ≤ length memory → sharedFault owners b (tableIn count memory) ≡ fine → begins (summaryIn b count memory) summary ≡ false →
-          (mine orElse later) ≡ fault 14 p → Fourteen owners b count memory summary × (p ≡ 0)
+      placed : 3 * count ≤ length memory → sharedFault owners b old ≡ fine → Stale → later ≡ fault 14 p → F
       placed c o z e = (record { counted = c; before = o; stale = z }, (let y : fault 14 0 ≡ fault 14 p = rw z at e in cc))
 
-      before : 3 * count ≤ length memory → begins (summaryIn b count memory) summary ≡ false →
-          (g : Fault) → sharedFault owners b (tableIn count memory) ≡ g → (g orElse mine orElse later) ≡ fault 14 p → Fourteen owners b count memory summary × (p ≡ 0)
+      before : 3 * count ≤ length memory → Stale → (g : Fault) → sharedFault owners b old ≡ g → (g orElse later) ≡ fault 14 p → F
       before c z fine o e = placed c o z e
-      before c z (fault m q) o e =
-          let y : m ≡ 14 = cc in
-          absurd (omega (arith, shared-number owners b (tableIn count memory) m q o))
+      before c z (fault m q) o e = let y : m ≡ 14 = cc in absurd (omega (arith, shared-number owners b old m q o))
 
-      counted : begins (summaryIn b count memory) summary ≡ false →
-          (t : Bool) → ltb (length memory) (3 * count) ≡ t → (faultIf t 1 0 orElse sharedFault owners b (tableIn count memory) orElse mine orElse later) ≡ fault 14 p → Fourteen owners b count memory summary × (p ≡ 0)
+      counted : Stale → (t : Bool) → ltb (length memory) (3 * count) ≡ t → (faultIf t 1 0 orElse sharedFault owners b old orElse later) ≡ fault 14 p → F
       counted z true l e = let y : _≡_ {A = ℕ} 1 14 = cc in absurd (omega arith)
-      counted z false l e = before (ltb-false (length memory) (3 * count) l) z (sharedFault owners b (tableIn count memory)) refl e
+      counted z false l e = before (ltb-false (length memory) (3 * count) l) z (sharedFault owners b old) refl e
 
-      only : editAnswer owners b count memory summary edit ≡ refused 14 p → Fourteen owners b count memory summary × (p ≡ 0)
+      only : editAnswer owners b count memory summary edit ≡ refused 14 p → F
       only e =
           counted (only-fourteen b count memory summary edit 14 p (edit-refusal owners b count memory summary edit 14 p e) refl)
           (ltb (length memory) (3 * count)) refl (unless-refused (editFault owners b count memory summary edit) _ 14 p e)
 
-      so : Fourteen owners b count memory summary × (p ≡ 0) → editAnswer owners b count memory summary edit ≡ refused 14 p
+      so : F → editAnswer owners b count memory summary edit ≡ refused 14 p
       so (f, z) = rw (le-ltb (length memory) (3 * count) (f .counted), f .before, f .stale, z)
 
 -- so, once the tables as they are have no fault, whether it is given depends on the frame, the owner's windows and the summary, and on nothing else
@@ -738,6 +748,9 @@ module _ (owners : ℕ) (b : Board) (count : ℕ) (memory summary : List ℕ) (e
   unfolding editAnswer editFault countFault
   told-or-not counted before belongs = indexed (indexFault edit count) refl
     where
+      T : Type 0
+      T = EditTold owners b count memory summary edit ⊎ Untold
+
       new : List ℕ
       new = editedList count memory edit
 
@@ -754,14 +767,14 @@ module _ (owners : ℕ) (b : Board) (count : ℕ) (memory summary : List ℕ) (e
       so : {n p : ℕ} → TeamsRefusal (countAfter edit count) n p → later ≡ fault n p → EditTold owners b count memory summary edit
       so {n} {p} r e = record { number = n; place = p; is = r; answered = rw (behind ∙ e) }
 
-      new-told : (n p : ℕ) → NewRefusal b new (countAfter edit count) n p → later ≡ fault n p → EditTold owners b count memory summary edit ⊎ Untold
+      new-told : (n p : ℕ) → NewRefusal b new (countAfter edit count) n p → later ≡ fault n p → T
       new-told n p (too-few h) e = inl (so by-number e)
       new-told n p (too-many h) e = inl (so by-number e)
       new-told n p (new-window i h) e = inl (so (by-rule i h) e)
       new-told n p (new-absent h) e = inr (left-absent h (rw (behind ∙ e)))
       new-told n p (new-sliver i h) e = inl (so (by-short i h) e)
 
-      roomy : indexFault edit count ≡ fine → sharedFault owners b new ≡ fine → (t : Bool) → ltb (length memory) (length new) ≡ t → EditTold owners b count memory summary edit ⊎ Untold
+      roomy : indexFault edit count ≡ fine → sharedFault owners b new ≡ fine → (t : Bool) → ltb (length memory) (length new) ≡ t → T
       roomy i a true z =
           let long = edited-length edit count (tableIn count memory) (length-take-le (3 * count) memory counted) (index-allowed edit count i) in
           let full = room-fault (length new) (length memory) (ltb-true (length memory) (length new) z) in
@@ -769,11 +782,11 @@ module _ (owners : ℕ) (b : Board) (count : ℕ) (memory summary : List ℕ) (e
           inl (so by-room (e ∙ ap (fault 8) long))
       roomy i a false z = inr (left-legal a (behind ∙ rw (i, a, fine-room (length new) (length memory) (ltb-false (length memory) (length new) z))))
 
-      after : indexFault edit count ≡ fine → (g : Fault) → sharedFault owners b new ≡ g → EditTold owners b count memory summary edit ⊎ Untold
+      after : indexFault edit count ≡ fine → (g : Fault) → sharedFault owners b new ≡ g → T
       after i fine z = roomy i z (ltb (length memory) (length new)) refl
       after i (fault m q) z = new-told m q (after-refusal owners b count memory edit counted before (index-allowed edit count i) m q z) (rw (i, z))
 
-      indexed : (g : Fault) → indexFault edit count ≡ g → EditTold owners b count memory summary edit ⊎ Untold
+      indexed : (g : Fault) → indexFault edit count ≡ g → T
       indexed fine z = after z (sharedFault owners b new) refl
       indexed (fault m q) z = let r = index-refused edit count m q z in inl (so by-index (rw (z, ← (r .0))))
 
@@ -786,8 +799,8 @@ numbers-unless : (f : Fault) (x : Edited) → numbersIn (unless f x) ≡ unless 
 numbers-unless fine x = refl
 numbers-unless (fault n p) x = refl
 
--- nothing else does: of two edits whose owners have the same windows before and the same afterwards, in equal frames and with one summary, that are answered or leave
--- the summary differently, one is refused so
+-- nothing else does: of two edits in equal frames and with one summary, whose owners have the same windows before and the same afterwards, and that are answered
+-- differently or leave different summaries, one is refused so
 module _ (owners : ℕ) (b c : Board) (count k : ℕ) (memory m summary : List ℕ) (edit change : Edit) where
   abbrev pub Same : Type 0
   Same = (numbersIn (editAnswer owners b count memory summary edit) ≡ numbersIn (editAnswer owners c k m summary change))

@@ -144,8 +144,8 @@ not-to-zero claim =
     let z : _≡_ {A = ℕ} 0 1 = cc in
     omega arith
 
--- ---- edits (request 6) depend on the other team. The claim that a refusal of an edit depends on the owner's windows alone, of tables and a summary without a fault
--- in memories of one length: it is false of each number below
+-- ---- edits (request 6) depend on the other team. The claim that a refusal of an edit depends on the owner's windows alone, where the tables and the summary
+-- have no fault and the memories are of one length, is false of each refusal below
 abbrev ByOwn : ℕ → ℕ → Type 0
 ByOwn n p = (b : Board) (count k : ℕ) (memory m s : List ℕ) (edit : Edit) →
     3 * count ≤ length memory → sharedFault teams b (tableIn count memory) ≡ fine → summaryFault b (own b (tableIn count memory)) s ≡ fine →
@@ -184,7 +184,8 @@ pub not-own-absence : ByOwn 1 0 → ⊥
 unfolding everything
 not-own-absence claim =
     let e : left 1 5 ≡ refused 1 0 =
-    claim (on 8) 2 2 (2 ∷ 4 ∷ 0 ∷ 5 ∷ 6 ∷ 1 ∷ []) (0 ∷ 1 ∷ 1 ∷ 2 ∷ 4 ∷ 0 ∷ []) two-summary (remove 0) (omega arith) refl refl (omega arith) refl refl refl refl in
+    claim (on 8) 2 2 (2 ∷ 4 ∷ 0 ∷ 5 ∷ 6 ∷ 1 ∷ []) (0 ∷ 1 ∷ 1 ∷ 2 ∷ 4 ∷ 0 ∷ []) two-summary (remove 0)
+    (omega arith) refl refl (omega arith) refl refl refl refl in
     let z : _≡_ {A = ℕ} 0 1 = cc in
     omega arith
 
@@ -241,8 +242,7 @@ not-own-number claim =
       room = omega arith;
       summary-room = begins-room fresh crowd-summary front;
     }) in
-    let e =
-    sym alone
-    ∙ claim (on 200) 64 1 crowd crowd crowd-summary (add 1 1 2 1) (omega arith) refl (begins-summary (on 200) (0 ∷ 1 ∷ []) crowd-summary front) (omega arith) refl refl refl full in
+    let belongs = begins-summary (on 200) (0 ∷ 1 ∷ []) crowd-summary front in
+    let e = sym alone ∙ claim (on 200) 64 1 crowd crowd crowd-summary (add 1 1 2 1) (omega arith) refl belongs (omega arith) refl refl refl full in
     let z : _≡_ {A = ℕ} 0 1 = cc in
     omega arith
