@@ -789,7 +789,7 @@ x-grown : (windows-after (move 0 0 3) ≡ edit-memory) × (summary-after (move 0
 unfolding everything
 x-grown = edit-refused-keeps teams (on 8) 4 edit-memory edit-summary (move 0 0 3) 3 1 refl
 
-x-grown-refusal : EditRefusal (on 8) 4 edit-memory edit-summary (move 0 0 3) 3 1
+x-grown-refusal : EditRefusal teams (on 8) 4 edit-memory edit-summary (move 0 0 3) 3 1
 unfolding everything
 x-grown-refusal = edit-refusal teams (on 8) 4 edit-memory edit-summary (move 0 0 3) 3 1 refl
 

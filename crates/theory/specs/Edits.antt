@@ -429,7 +429,7 @@ pub summary-same : (b c : Board) (ws vs : List ℕ) → b .frame ≡ c .frame �
 unfolding summaryOf
 summary-same b c ws vs framed same = rw (same, supplied-same b c vs framed, framed)
 
--- not the summary, nor how many numbers it has: two edits that are made, whatever else they find, leave the same where the owner has the same windows afterwards
+-- not the summary, nor how many numbers it has: two edits that are made, whatever else they find, leave the same where the owner has the same windows after them
 pub edit-own : (owners : ℕ) (b c : Board) (count n : ℕ) (memory m summary : List ℕ) (edit change : Edit) (x y : Edited) →
     editAnswer owners b count memory summary edit ≡ given x → editAnswer owners c n m summary change ≡ given y →
     b .frame ≡ c .frame → own b (editedList count memory edit) ≡ own c (editedList n m change) →
@@ -448,17 +448,23 @@ pub data NewRefusal (b : Board) (ws : List ℕ) (windows : ℕ) : ℕ → ℕ �
   new-absent : own b ws ≡ [] → NewRefusal b ws windows 1 0
   new-sliver : (i : ℕ) → i < windows → NewRefusal b ws windows 12 i
 
+-- the table as it is has no fault, and the summary is not what a fresh making writes
+pub record Fourteen (owners : ℕ) (b : Board) (count : ℕ) (memory summary : List ℕ) : Type 0 where
+  pub counted : 3 * count ≤ length memory
+  pub before : sharedFault owners b (tableIn count memory) ≡ fine
+  pub stale : begins (summaryIn b count memory) summary ≡ false
+
 -- every refusal of an edit, and where it comes from: the table as it is, the summary, the index, the table as it would be, room for either
-pub data EditRefusal (b : Board) (count : ℕ) (memory summary : List ℕ) (edit : Edit) : ℕ → ℕ → Type 0 where
-  short-memory : length memory < 3 * count → EditRefusal b count memory summary edit 1 0
-  old-table : {n p : ℕ} → WholeRefusal count n p → EditRefusal b count memory summary edit n p
-  old-absent : own b (tableIn count memory) ≡ [] → EditRefusal b count memory summary edit 1 0
-  not-its-summary : begins (summaryIn b count memory) summary ≡ false → EditRefusal b count memory summary edit 14 0
-  absent-index : (Allowed edit count → ⊥) → EditRefusal b count memory summary edit 7 0
-  new-table : {n p : ℕ} → NewRefusal b (editedList count memory edit) (countAfter edit count) n p → EditRefusal b count memory summary edit n p
-  no-room : length memory < 3 * countAfter edit count → EditRefusal b count memory summary edit 8 (3 * countAfter edit count)
+pub data EditRefusal (owners : ℕ) (b : Board) (count : ℕ) (memory summary : List ℕ) (edit : Edit) : ℕ → ℕ → Type 0 where
+  short-memory : length memory < 3 * count → EditRefusal owners b count memory summary edit 1 0
+  old-table : {n p : ℕ} → WholeRefusal count n p → EditRefusal owners b count memory summary edit n p
+  old-absent : own b (tableIn count memory) ≡ [] → EditRefusal owners b count memory summary edit 1 0
+  not-its-summary : Fourteen owners b count memory summary → EditRefusal owners b count memory summary edit 14 0
+  absent-index : (Allowed edit count → ⊥) → EditRefusal owners b count memory summary edit 7 0
+  new-table : {n p : ℕ} → NewRefusal b (editedList count memory edit) (countAfter edit count) n p → EditRefusal owners b count memory summary edit n p
+  no-room : length memory < 3 * countAfter edit count → EditRefusal owners b count memory summary edit 8 (3 * countAfter edit count)
   no-summary-room : length summary < length (editedSummary b count memory edit) →
-      EditRefusal b count memory summary edit 8 (length (editedSummary b count memory edit))
+      EditRefusal owners b count memory summary edit 8 (length (editedSummary b count memory edit))
 
 no-numbers : (l : List ℕ) → length l ≡ 0 → l ≡ []
 no-numbers [] e = refl
@@ -555,9 +561,9 @@ module _ (owners : ℕ) (b : Board) (count : ℕ) (memory : List ℕ) (edit : Ed
 
 module _ (owners : ℕ) (b : Board) (count : ℕ) (memory summary : List ℕ) (edit : Edit) (n p : ℕ) where
   abbrev R : Type 0
-  R = EditRefusal b count memory summary edit n p
+  R = EditRefusal owners b count memory summary edit n p
 
-  is : {m q : ℕ} → EditRefusal b count memory summary edit m q → fault m q ≡ fault n p → R
+  is : {m q : ℕ} → EditRefusal owners b count memory summary edit m q → fault m q ≡ fault n p → R
   is {m} {q} r e = let x : m ≡ n = cc in let y : q ≡ p = cc in rw (← x, ← y) r
 
   pub edit-refusal : editAnswer owners b count memory summary edit ≡ refused n p → R
@@ -606,7 +612,7 @@ module _ (owners : ℕ) (b : Board) (count : ℕ) (memory summary : List ℕ) (e
       belongs : Counted → Before → (t : Bool) → begins (summaryOf b (own b old)) summary ≡ t →
           (faultIf (not t) 14 0 orElse indexFault edit count orElse sharedFault owners b new orElse then) ≡ fault n p → R
       belongs c o true z e = indexed c o (indexFault edit count) refl e
-      belongs c o false z e = is (not-its-summary z) e
+      belongs c o false z e = is (not-its-summary (record { counted = c; before = o; stale = z })) e
 
       fourteen : Fault
       fourteen = faultIf (not (begins (summaryOf b (own b old)) summary)) 14 0
@@ -640,66 +646,24 @@ new-number n p (new-window i h) = omega arith
 new-number n p (new-absent h) = omega arith
 new-number n p (new-sliver i h) = omega arith
 
-shared-number : (owners : ℕ) (b : Board) (ws : List ℕ) (n p : ℕ) → sharedFault owners b ws ≡ fault n p → n ≤ 12
-shared-number owners b ws n p f = elim (shared-refusal owners b ws n p f) [ inl r ↦ whole-number n p r | inr r ↦ let z : 1 ≡ n = cc in omega arith ]
-
-module _ (b : Board) (count : ℕ) (memory summary : List ℕ) (edit : Edit) where
+module _ (owners : ℕ) (b : Board) (count : ℕ) (memory summary : List ℕ) (edit : Edit) where
   -- no refusal but one is a 14
-  only-fourteen : (n p : ℕ) → EditRefusal b count memory summary edit n p → n ≡ 14 → begins (summaryIn b count memory) summary ≡ false
+  only-fourteen : (n p : ℕ) → EditRefusal owners b count memory summary edit n p → n ≡ 14 → Fourteen owners b count memory summary × (p ≡ 0)
   only-fourteen n p (short-memory h) z = absurd (omega arith)
   only-fourteen n p (old-table r) z = absurd (omega (arith, whole-number n p r))
   only-fourteen n p (old-absent h) z = absurd (omega arith)
-  only-fourteen n p (not-its-summary h) z = h
+  only-fourteen n p (not-its-summary h) z = (h, refl)
   only-fourteen n p (absent-index h) z = absurd (omega arith)
   only-fourteen n p (new-table r) z = absurd (omega (arith, new-number n p r))
   only-fourteen n p (no-room h) z = absurd (omega arith)
   only-fourteen n p (no-summary-room h) z = absurd (omega arith)
 
--- the table as it is has no fault, and the summary is not what a fresh making writes
-pub record Fourteen (owners : ℕ) (b : Board) (count : ℕ) (memory summary : List ℕ) : Type 0 where
-  pub counted : 3 * count ≤ length memory
-  pub before : sharedFault owners b (tableIn count memory) ≡ fine
-  pub stale : begins (summaryIn b count memory) summary ≡ false
-
--- exactly then 14 is given, at place 0, whatever the edit
-module _ (owners : ℕ) (b : Board) (count : ℕ) (memory summary : List ℕ) (edit : Edit) where
+  -- it is given exactly then, at place 0, whatever the edit
   pub exactly-fourteen : (p : ℕ) → (editAnswer owners b count memory summary edit ≡ refused 14 p) ↔ (Fourteen owners b count memory summary × (p ≡ 0))
   unfolding editAnswer editFault countFault summaryFault
-  exactly-fourteen p = (only, so)
+  exactly-fourteen p = (λ e. only-fourteen 14 p (edit-refusal owners b count memory summary edit 14 p e) refl, so)
     where
-      F : Type 0
-      F = Fourteen owners b count memory summary × (p ≡ 0)
-
-      old : List ℕ
-      old = tableIn count memory
-
-      Stale : Type 0
-      Stale = begins (summaryOf b (own b old)) summary ≡ false
-
-      room : Fault
-      room = roomFault (length (editedList count memory edit)) (length memory) orElse roomFault (length (editedSummary b count memory edit)) (length summary)
-
-      later : Fault
-      later = faultIf (not (begins (summaryOf b (own b old)) summary)) 14 0
-          orElse indexFault edit count orElse sharedFault owners b (editedList count memory edit) orElse room
-
-      placed : 3 * count ≤ length memory → sharedFault owners b old ≡ fine → Stale → later ≡ fault 14 p → F
-      placed c o z e = (record { counted = c; before = o; stale = z }, (let y : fault 14 0 ≡ fault 14 p = rw z at e in cc))
-
-      before : 3 * count ≤ length memory → Stale → (g : Fault) → sharedFault owners b old ≡ g → (g orElse later) ≡ fault 14 p → F
-      before c z fine o e = placed c o z e
-      before c z (fault m q) o e = let y : m ≡ 14 = cc in absurd (omega (arith, shared-number owners b old m q o))
-
-      counted : Stale → (t : Bool) → ltb (length memory) (3 * count) ≡ t → (faultIf t 1 0 orElse sharedFault owners b old orElse later) ≡ fault 14 p → F
-      counted z true l e = let y : _≡_ {A = ℕ} 1 14 = cc in absurd (omega arith)
-      counted z false l e = before (ltb-false (length memory) (3 * count) l) z (sharedFault owners b old) refl e
-
-      only : editAnswer owners b count memory summary edit ≡ refused 14 p → F
-      only e =
-          counted (only-fourteen b count memory summary edit 14 p (edit-refusal owners b count memory summary edit 14 p e) refl)
-          (ltb (length memory) (3 * count)) refl (unless-refused (editFault owners b count memory summary edit) _ 14 p e)
-
-      so : F → editAnswer owners b count memory summary edit ≡ refused 14 p
+      so : Fourteen owners b count memory summary × (p ≡ 0) → editAnswer owners b count memory summary edit ≡ refused 14 p
       so (f, z) = rw (le-ltb (length memory) (3 * count) (f .counted), f .before, f .stale, z)
 
 -- so, once the tables as they are have no fault, whether it is given depends on the frame, the owner's windows and the summary, and on nothing else
@@ -799,7 +763,7 @@ numbers-unless : (f : Fault) (x : Edited) → numbersIn (unless f x) ≡ unless 
 numbers-unless fine x = refl
 numbers-unless (fault n p) x = refl
 
--- nothing else does: of two edits in equal frames and with one summary, whose owners have the same windows before and the same afterwards, and that are answered
+-- nothing else does: of two edits in equal frames and with one summary, whose owners have the same windows before and the same after, and that are answered
 -- differently or leave different summaries, one is refused so
 module _ (owners : ℕ) (b c : Board) (count k : ℕ) (memory m summary : List ℕ) (edit change : Edit) where
   abbrev pub Same : Type 0
