@@ -251,6 +251,7 @@ edited-length (remove i) count l n h = omega (arith, splice-length i l (omega ar
 
 -- ---- an edit is undone by another
 
+-- the one that undoes an edit of a list
 abbrev pub undo : Edit → List ℕ → Edit
 undo (move i s e) l = move i (getD l (3 * i) 0) (getD l (3 * i + 1) 0)
 undo (add i s e o) l = remove i
@@ -566,7 +567,7 @@ module _ (owners : ℕ) (b : Board) (count : ℕ) (memory summary : List ℕ) (e
   is : {m q : ℕ} → EditRefusal owners b count memory summary edit m q → fault m q ≡ fault n p → R
   is {m} {q} r e = let x : m ≡ n = cc in let y : q ≡ p = cc in rw (← x, ← y) r
 
-  pub edit-refusal : editAnswer owners b count memory summary edit ≡ refused n p → R
+  pub edit-refusal : editAnswer owners b count memory summary edit ≡ refused n p → EditRefusal owners b count memory summary edit n p
   unfolding editAnswer editFault countFault summaryFault roomFault
   edit-refusal f = counted (ltb (length memory) (3 * count)) refl (unless-refused (editFault owners b count memory summary edit) _ n p f)
     where

@@ -1,4 +1,4 @@
--- How sharp the theorems are: eight stronger claims, each refuted by an example
+-- How sharp the theorems are: stronger claims, each refuted by an example
 use mathlib.Core.Path.{_≡_, refl, sym, _∙_}
 use mathlib.Core.Bool.{Bool, true}
 use mathlib.Core.Option.{none, some}
@@ -160,6 +160,7 @@ two-teams = 0 ∷ 2 ∷ 0 ∷ 4 ∷ 6 ∷ 1 ∷ 9 ∷ 9 ∷ 9 ∷ []
 abbrev two-summary : List ℕ
 two-summary = 2 ∷ 12 ∷ 1 ∷ 6 ∷ 8 ∷ 9 ∷ 9 ∷ []
 
+-- an edit that is made
 abbrev left : ℕ → ℕ → Answer Edited
 left windows numbers = given (record { windows = windows; numbers = numbers })
 
@@ -215,18 +216,20 @@ not-own-count claim =
     let e : _≡_ {A = ℕ} 1 2 = claim (on 8) 1 2 two-teams two-summary (move 0 0 1) _ _ refl refl refl in
     omega arith
 
--- 1 of the new table by its number of windows: a window can be added beside owner 0's alone, and not beside 63 of owner 1's too
+-- so many windows of owner 1, a tick each, from tick k on
 abbrev others : ℕ → ℕ → List ℕ
 others k zero = []
 others k (suc n) = k ∷ suc k ∷ 1 ∷ others (suc (suc k)) n
 
+-- 64 windows, and room for one more
 abbrev crowd : List ℕ
 crowd = 0 ∷ 1 ∷ 0 ∷ others 3 64
 
--- its summary is not computed
+-- owner 0's summary, which nothing here computes
 abbrev crowd-summary : List ℕ
 crowd-summary = written (summaryOf (on 200) (0 ∷ 1 ∷ [])) []
 
+-- 1 of the new table by its number of windows: one can be added beside owner 0's alone, and not beside 63 of owner 1's too
 pub not-own-number : ByOwn 1 0 → ⊥
 unfolding numbers·compute tables·compute tableFaults·compute constructors·compute sharedFaults·compute edited
 not-own-number claim =
