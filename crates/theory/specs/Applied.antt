@@ -27,7 +27,7 @@ use Rattle.scope.specs.Trace.{Stamped, traceOf, Record, timed, ticksOf, release
 use Rattle.scope.specs.Replay.{endedFrom, recorded, Replayed.same, Replayed.differs, Replayed.missed, replayAnswer}
 use Rattle.scope.specs.Shared.{own, asOwned, sharedFault, ownAnswer, leastSupplyFor, marginFor, verdictFor, runOutFor, replayFor, planAnswer}
 use Rattle.scope.specs.Summary.{summaryOf, makeAnswer, makeOut, begins, summaryFault, ticksBefore, leastFrom, marginFrom, marginsAnswer, marginsOut, makeFor, makeOutFor}
-use Rattle.scope.specs.Summary.{leastFromFor, marginsFor, marginsOutFor, Edit.move, Edit.add, Edit.remove, tableIn, editedList, Edited, editFault, editAnswer, editWindows, editSummary}
+use Rattle.scope.specs.Summary.{leastFromFor, marginsFor, marginsOutFor, Edit, Edit.move, Edit.add, Edit.remove, tableIn, editedList, editAnswer, editWindows, editSummary}
 use Rattle.scope.specs.Demands.{Silent, LeastMiss, Way, Served}
 use Rattle.scope.specs.Examples.{Reply.amounts, Reply.windows, Reply.bytesIn, Reply.aVerdict, Reply.bounds, Reply.aRun, X, lab, XShared, on, onFor, onAtLeast, reply, table, examples, row}
 use Rattle.scope.specs.Examples.{Reply.aReplay}
@@ -53,10 +53,11 @@ use Rattle.theory.specs.Shared.{one-owner-a-tick, no-such-owner}
 use Rattle.theory.specs.Alone.{verdict-entry, run-out-entry, make-out-entry, margins-out-entry, teamsFault, alone, WholeRefusal, whole-refusal, Told, told-apart, own-alone, one-owner, replay-alone, replay-one-owner}
 use Rattle.theory.specs.Shortest.{verdict-known, least-from-known, Twelve, exactly-twelve, one-answer, never-twelve, smaller-same, replay-smaller, TraceTwelve, replay-twelve, PlanTwelve, plan-twelve}
 use Rattle.theory.specs.Shortest.{own-twelve, own-smaller, smaller-plan, old-form, old-refused}
-use Rattle.theory.specs.Summaries.{fine-begins, begins-written, least-from-exact, margin-from-exact, summary-agrees, summary-answers, not-belonging, fourteen}
+use Rattle.theory.specs.Buffers.{begins-written}
+use Rattle.theory.specs.Summaries.{fine-begins, least-from-exact, margin-from-exact, summary-agrees, summary-answers, not-belonging, fourteen}
 use Rattle.theory.specs.Summaries.{margins-agree, margins-each, margins-not-belonging, margins-fourteen, made-belongs}
 use Rattle.theory.specs.Forms.{withSettings, refused-behind}
-use Rattle.theory.specs.Edits.{edit-parts, edit-refused-keeps, Left, edit-leaves, new-refused, count-answered, add-then-remove, remove-then-add, move-back, other-owner, edit-own}
+use Rattle.theory.specs.Edits.{edit-parts, Left, edit-leaves, new-refused, count-answered, add-then-remove, remove-then-add, move-back, other-owner, edit-own}
 use Rattle.theory.specs.Edits.{EditRefusal, edit-refusal, Fourteen, exactly-fourteen, fourteen-own, EditTold, edit-told-apart}
 use Rattle.theory.specs.PlanBytes.{Writable, plan-length, round-trip, left-over, only-bytes}
 
@@ -787,7 +788,7 @@ x-moved-back = move-back teams (on 8) 4 edit-memory edit-summary 0 0 1 _ x-moved
 -- it can't grow into owner 1's, and then nothing is written
 x-grown : (windows-after (move 0 0 3) ≡ edit-memory) × (summary-after (move 0 0 3) ≡ edit-summary)
 unfolding everything
-x-grown = edit-refused-keeps teams (on 8) 4 edit-memory edit-summary (move 0 0 3) 3 1 refl
+x-grown = edit-kept 3 1 teams (on 8) 4 edit-memory edit-summary (move 0 0 3) refl
 
 x-grown-refusal : EditRefusal teams (on 8) 4 edit-memory edit-summary (move 0 0 3) 3 1
 unfolding everything

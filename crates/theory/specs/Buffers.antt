@@ -1,12 +1,12 @@
 -- Laws of a lent buffer with a list written at its front
-use mathlib.Core.Path.{_≡_, refl, ap, _∙_}
+use mathlib.Core.Path.{_≡_, refl, sym, ap, _∙_}
 use mathlib.Core.Bool.{true, false≢true}
 use mathlib.Core.List.{List, [], _∷_, _++_, append-assoc}
 use Prim.Native.Nat.{ℕ, suc, _+_, _≤_, _<_}
 use native.Mathlib.Numerals.{add-one}
 use native.Mathlib.Omega.{arith}
 use lib.Dec.{eqb}
-use lib.ListN.{length, getD, set, take, drop, length-set, length-append, length-drop, List·getD-append}
+use lib.ListN.{length, getD, set, take, drop, length-set, length-append, length-drop, take-append-drop, List·getD-append}
 use lib.Seq.{drop-cons, set-append-seam, take-append-seam, take-suc-set}
 use borrow.Author.Tests.{eqb-true, eq-eqb}
 use Rattle.scope.specs.Numbers.{written}
@@ -36,33 +36,47 @@ pub take-written : (l d : List ℕ) → take (length l) (written l d) ≡ l
 unfolding written
 take-written l d = take-append-seam l (drop (length l) d)
 
--- ---- a buffer that begins with a list
+-- ---- memory that begins with a list
 
-append-begins : (l r : List ℕ) → begins l (l ++ r) ≡ true
+-- the list, and whatever follows it
+pub begins-front : (l m : List ℕ) → begins l m ≡ true → m ≡ l ++ drop (length l) m
 unfolding begins
-append-begins [] r = refl
-append-begins (x ∷ l) r = both-and (eq-eqb x x refl) (append-begins l r)
+begins-front [] m e = refl
+begins-front (x ∷ l) [] e = absurd (false≢true e)
+begins-front (x ∷ l) (y ∷ m) e =
+    let p = and-both (eqb x y) (begins l m) e in
+    ap (λ (k : List ℕ). y ∷ k) (begins-front l m (p .1)) ∙ ap (λ (z : ℕ). z ∷ (l ++ drop (length l) m)) (sym (eqb-true x y (p .0)))
 
--- the list that was written
-pub written-begins : (l d : List ℕ) → begins l (written l d) ≡ true
-unfolding written
-written-begins l d = append-begins l (drop (length l) d)
-
--- it has room for it
-pub begins-room : (l d : List ℕ) → begins l d ≡ true → length l ≤ length d
+pub append-begins : (l rest : List ℕ) → begins l (l ++ rest) ≡ true
 unfolding begins
-begins-room [] d e = omega arith
-begins-room (x ∷ l) [] e = absurd (false≢true e)
-begins-room (x ∷ l) (y ∷ d) e = omega (arith, begins-room l d (and-both (eqb x y) (begins l d) e .1))
+append-begins [] rest = refl
+append-begins (x ∷ l) rest = both-and (eq-eqb x x refl) (append-begins l rest)
 
--- and writing it once more changes nothing
-pub begins-written : (l d : List ℕ) → begins l d ≡ true → written l d ≡ d
-unfolding begins written
-begins-written [] d e = refl
-begins-written (x ∷ l) [] e = absurd (false≢true e)
-begins-written (x ∷ l) (y ∷ d) e =
-    let p = and-both (eqb x y) (begins l d) e in
-    rw (eqb-true x y (p .0)) (ap (λ (k : List ℕ). y ∷ k) (begins-written l d (p .1)))
+module _ (l m : List ℕ) where
+  -- exactly when its front is the list
+  pub begins-take : begins l m ≡ true → take (length l) m ≡ l
+  begins-take e = ap (take (length l)) (begins-front l m e) ∙ take-append-seam l (drop (length l) m)
+
+  pub take-begins : take (length l) m ≡ l → begins l m ≡ true
+  take-begins e =
+      let n : ℕ = length l in
+      ap (begins l) (sym (take-append-drop n m) ∙ ap (λ (k : List ℕ). k ++ drop n m) e) ∙ append-begins l (drop n m)
+
+  pub begins-length : begins l m ≡ true → length l ≤ length m
+  begins-length e = omega (arith, ap length (begins-front l m e), length-append l (drop (length l) m))
+
+  pub begins-at : begins l m ≡ true → (i : ℕ) → i < length l → getD m i 0 ≡ getD l i 0
+  begins-at e i h = ap (λ (k : List ℕ). getD k i 0) (begins-front l m e) ∙ List·getD-append l (drop (length l) m) 0 i h
+
+  -- a list written to where it already stands changes nothing
+  pub begins-written : begins l m ≡ true → written l m ≡ m
+  unfolding written
+  begins-written e = sym (begins-front l m e)
+
+  -- and where it is written it stands
+  pub written-begins : begins l (written l m) ≡ true
+  unfolding written
+  written-begins = append-begins l (drop (length l) m)
 
 -- ---- three numbers more at the end of what is written
 

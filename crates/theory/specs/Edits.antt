@@ -22,7 +22,9 @@ use Rattle.scope.specs.Summary.{editedList, editedSummary, editFault, Edited, e
 use Rattle.theory.specs.Numbers.{first-some}
 use Rattle.theory.specs.Lists.{pieces-length, pieces-append, whole-count}
 use Rattle.theory.specs.Answers.{fault-not-fine, faultIf-fine, orElse-fine, unless-given, unless-refused}
-use Rattle.theory.specs.Buffers.{length-written, take-written, written-begins, begins-room, begins-written}
+use Rattle.theory.specs.Refused.{edit-kept}
+use Rattle.theory.specs.Summaries.{fine-begins, begins-fine}
+use Rattle.theory.specs.Buffers.{length-written, take-written, written-begins, begins-length, begins-written}
 use Rattle.theory.specs.Shared.{shared-parts, whole}
 use Rattle.theory.specs.Alone.{σ as supplied-same, teamsFault, WholeRefusal, WholeRefusal.by-count, WholeRefusal.by-frame, WholeRefusal.by-window, WholeRefusal.by-range, WholeRefusal.by-sliver, whole-refusal}
 
@@ -58,14 +60,6 @@ room-fault : (needed room : ℕ) → room < needed → roomFault needed room ≡
 unfolding roomFault
 room-fault needed room h = rw (lt-ltb room needed h)
 
-pub summary-begins : (b : Board) (ws summary : List ℕ) → summaryFault b ws summary ≡ fine → begins (summaryOf b ws) summary ≡ true
-unfolding summaryFault
-summary-begins b ws summary f = not-false _ (faultIf-fine _ 14 0 f)
-
-pub begins-summary : (b : Board) (ws summary : List ℕ) → begins (summaryOf b ws) summary ≡ true → summaryFault b ws summary ≡ fine
-unfolding summaryFault
-begins-summary b ws summary e = rw e
-
 -- what a fresh making writes for the list in lent window memory
 abbrev pub summaryIn : Board → ℕ → List ℕ → List ℕ
 summaryIn b count memory = summaryOf b (own b (tableIn count memory))
@@ -97,7 +91,7 @@ module _ (owners : ℕ) (b : Board) (count : ℕ) (memory summary : List ℕ) (e
       record {
         counted = ltb-false (length memory) (3 * count) (faultIf-fine _ 1 0 (p₁ .0));
         before = p₂ .0;
-        belongs = summary-begins b (own b (tableIn count memory)) summary (p₃ .0);
+        belongs = fine-begins b (own b (tableIn count memory)) summary (p₃ .0);
         allowed = index-allowed edit count (p₄ .0);
         after = p₅ .0;
         room = room-fine (length (editedList count memory edit)) (length memory) (p₆ .0);
@@ -111,7 +105,7 @@ module _ (owners : ℕ) (b : Board) (count : ℕ) (memory summary : List ℕ) (e
       rw (
         le-ltb (length memory) (3 * count) (p .counted),
         p .before,
-        begins-summary b (own b (tableIn count memory)) summary (p .belongs),
+        begins-fine b (own b (tableIn count memory)) summary (p .belongs),
         allowed-fine edit count (p .allowed),
         p .after,
         fine-room (length (editedList count memory edit)) (length memory) (p .room),
@@ -153,18 +147,10 @@ module _ (owners : ℕ) (b : Board) (count : ℕ) (memory summary : List ℕ) (e
       rw (
         le-ltb (length memory) (3 * count) counted,
         before,
-        begins-summary b (own b (tableIn count memory)) summary belongs,
+        begins-fine b (own b (tableIn count memory)) summary belongs,
         allowed-fine edit count allowed,
         f,
       )
-
-  -- ---- a refused edit leaves both memories as they were
-  pub edit-refused-keeps : (n p : ℕ) → editAnswer owners b count memory summary edit ≡ refused n p →
-      (editWindows owners b count memory summary edit ≡ memory) × (editSummary owners b count memory summary edit ≡ summary)
-  unfolding editAnswer editWindows editSummary
-  edit-refused-keeps n p e =
-      let f = unless-refused (editFault owners b count memory summary edit) _ n p e in
-      (rw f, rw f)
 
   -- ---- what an edit leaves belongs to the table it leaves: the list is the edited one and has no fault, and the summary is that of a fresh making
   pub record Left (x : Edited) (m s : List ℕ) : Type 0 where
@@ -186,7 +172,7 @@ module _ (owners : ℕ) (b : Board) (count : ℕ) (memory summary : List ℕ) (e
       record {
         list = list;
         legal = ap (sharedFault owners b) list ∙ p .after;
-        belongs = rw (list, g .summary-memory) (begins-summary b (own b l) _ (written-begins (editedSummary b count memory edit) summary));
+        belongs = rw (list, g .summary-memory) (begins-fine b (own b l) _ (written-begins (editedSummary b count memory edit) summary));
         window-length = ap length (g .window-memory) ∙ length-written l memory (p .room);
         summary-length = ap length (g .summary-memory) ∙ length-written (editedSummary b count memory edit) summary (p .summary-room);
       }
@@ -314,11 +300,11 @@ module _ (owners : ℕ) (b : Board) (count : ℕ) (memory summary : List ℕ) (e
       let p = edit-given owners b count memory summary edit x e .parts in
       let l = edit-leaves owners b count memory summary edit x e in
       let n = edited-length edit count (tableIn count memory) held (p .allowed) in
-      let room = begins-room (summaryIn b count memory) summary (p .belongs) in
+      let room = begins-length (summaryIn b count memory) summary (p .belongs) in
       record {
         counted = omega (arith, count-answered, n, p .room, l .window-length);
         before = l .legal;
-        belongs = summary-begins b (own b (tableIn (x .windows) m′)) s′ (l .belongs);
+        belongs = fine-begins b (own b (tableIn (x .windows) m′)) s′ (l .belongs);
         allowed = rw count-answered (undo-allowed edit count (tableIn count memory) (p .allowed));
         after = rw back-list (p .before);
         room = omega (arith, ap length back-list, held, p .counted, l .window-length);
@@ -336,7 +322,7 @@ module _ (owners : ℕ) (b : Board) (count : ℕ) (memory summary : List ℕ) (e
       record {
         answered = answered;
         list = list;
-        belongs = summary-begins b (own b (tableIn count memory)) _ (rw list at (l .belongs));
+        belongs = fine-begins b (own b (tableIn count memory)) _ (rw list at (l .belongs));
       }
 
 module _ (owners : ℕ) (b : Board) (count : ℕ) (memory summary : List ℕ) where
@@ -727,7 +713,7 @@ module _ (owners : ℕ) (b : Board) (count : ℕ) (memory summary : List ℕ) (e
 
       behind : editFault owners b count memory summary edit ≡ later
       behind =
-          rw (le-ltb (length memory) (3 * count) counted, before, begins-summary b (own b (tableIn count memory)) summary belongs)
+          rw (le-ltb (length memory) (3 * count) counted, before, begins-fine b (own b (tableIn count memory)) summary belongs)
 
       so : {n p : ℕ} → TeamsRefusal (countAfter edit count) n p → later ≡ fault n p → EditTold owners b count memory summary edit
       so {n} {p} r e = record { number = n; place = p; is = r; answered = rw (behind ∙ e) }
@@ -774,7 +760,7 @@ module _ (owners : ℕ) (b c : Board) (count k : ℕ) (memory m summary : List �
   refused-same : (n p : ℕ) → editAnswer owners b count memory summary edit ≡ refused n p → editAnswer owners c k m summary change ≡ refused n p → Same
   refused-same n p e f = (
     ap numbersIn (e ∙ sym f),
-    edit-refused-keeps owners b count memory summary edit n p e .1 ∙ sym (edit-refused-keeps owners c k m summary change n p f .1),
+    edit-kept n p owners b count memory summary edit e .1 ∙ sym (edit-kept n p owners c k m summary change f .1),
   )
 
   module _ (framed : b .frame ≡ c .frame) (after : own b (editedList count memory edit) ≡ own c (editedList k m change)) where

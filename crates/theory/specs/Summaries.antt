@@ -25,54 +25,13 @@ use Rattle.scope.specs.Summary.{summaryOf, makeFault, makeAnswer, makeOut, begi
 use Rattle.scope.specs.Summary.{lengthsFault, marginsFault, marginsAnswer, marginsOut, makeFor, makeOutFor, leastFromFor, marginsFor, marginsOutFor}
 use Rattle.theory.specs.Numbers.{and-both, both-and}
 use Rattle.theory.specs.Lists.{Rising, keep-rising}
+use Rattle.theory.specs.Buffers.{begins-front, begins-take, begins-at, written-begins}
 use Rattle.theory.specs.Ticks.{least-frames}
 use Rattle.theory.specs.Windows.{supplied-periodic}
 use Rattle.theory.specs.Partition.{critical-even, critical-supply}
 use Rattle.theory.specs.Answers.{fault-not-fine, faultIf-fine, orElse-fine, unless-given, unless-refused, table-legal}
 use Rattle.theory.specs.Shared.{own-fine, asked-fine, asked-same, asked-given}
 use Rattle.theory.specs.Shortest.{base-else, table-base, group-base, room-base, length-base, lengths-base, Never, base-never, shared-most}
-
--- ---- memory that begins with a list
-
--- the list, and whatever follows it
-pub begins-front : (l m : List ℕ) → begins l m ≡ true → m ≡ l ++ drop (length l) m
-unfolding begins
-begins-front [] m e = refl
-begins-front (x ∷ l) [] e = absurd (false≢true e)
-begins-front (x ∷ l) (y ∷ m) e =
-    let p = and-both (eqb x y) (begins l m) e in
-    ap (λ (k : List ℕ). y ∷ k) (begins-front l m (p .1)) ∙ ap (λ (z : ℕ). z ∷ (l ++ drop (length l) m)) (sym (eqb-true x y (p .0)))
-
-pub append-begins : (l rest : List ℕ) → begins l (l ++ rest) ≡ true
-unfolding begins
-append-begins [] rest = refl
-append-begins (x ∷ l) rest = both-and (eq-eqb x x refl) (append-begins l rest)
-
-module _ (l m : List ℕ) where
-  -- exactly when its front is the list
-  pub begins-take : begins l m ≡ true → take (length l) m ≡ l
-  begins-take e = ap (take (length l)) (begins-front l m e) ∙ take-append-seam l (drop (length l) m)
-
-  pub take-begins : take (length l) m ≡ l → begins l m ≡ true
-  take-begins e =
-      let n : ℕ = length l in
-      ap (begins l) (sym (take-append-drop n m) ∙ ap (λ (k : List ℕ). k ++ drop n m) e) ∙ append-begins l (drop n m)
-
-  pub begins-length : begins l m ≡ true → length l ≤ length m
-  begins-length e = omega (arith, ap length (begins-front l m e), length-append l (drop (length l) m))
-
-  pub begins-at : begins l m ≡ true → (i : ℕ) → i < length l → getD m i 0 ≡ getD l i 0
-  begins-at e i h = ap (λ (k : List ℕ). getD k i 0) (begins-front l m e) ∙ List·getD-append l (drop (length l) m) 0 i h
-
-  -- a list written to where it already stands changes nothing
-  pub begins-written : begins l m ≡ true → written l m ≡ m
-  unfolding written
-  begins-written e = sym (begins-front l m e)
-
-  -- and where it is written it stands
-  pub written-begins : begins l (written l m) ≡ true
-  unfolding written
-  written-begins = append-begins l (drop (length l) m)
 
 -- ---- the ticks of windows before a tick, counted window by window, are the supply from tick 0 on
 
