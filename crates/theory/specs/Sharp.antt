@@ -25,7 +25,8 @@ use Rattle.scope.specs.Computing.{numbers·compute, tables·compute, tableFault
 use Rattle.theory.specs.Tasks.{TaskRules, Periods}
 use Rattle.theory.specs.Answers.{LegalTable, table-legal}
 use Rattle.theory.specs.Buffers.{written-begins, begins-length}
-use Rattle.theory.specs.Edits.{begins-summary, parts-given, new-refused}
+use Rattle.theory.specs.Summaries.{begins-fine}
+use Rattle.theory.specs.Edits.{parts-given, new-refused}
 use Rattle.theory.specs.Rows.{endOf}
 use Rattle.theory.specs.Applied.{w6, w7, w13, w6-misses, w7-meets}
 
@@ -245,7 +246,7 @@ not-own-number claim =
       room = omega arith;
       summary-room = begins-length fresh crowd-summary front;
     }) in
-    let belongs = begins-summary (on 200) (0 ∷ 1 ∷ []) crowd-summary front in
+    let belongs = begins-fine (on 200) (0 ∷ 1 ∷ []) crowd-summary front in
     let e = sym alone ∙ claim (on 200) 64 1 crowd crowd crowd-summary (add 1 1 2 1) (omega arith) refl belongs (omega arith) refl refl refl full in
     let z : _≡_ {A = ℕ} 0 1 = cc in
     omega arith
