@@ -1,6 +1,6 @@
 pub mod Positions
 pub mod Ahead
-pub mod Marks
+pub mod Measures
 pub mod Refused
 pub mod Outage
 pub mod Applied

@@ -2,4 +2,5 @@
 pub mod partition;
 mod pieces;
 mod row;
+pub mod summary;
 pub mod supply;

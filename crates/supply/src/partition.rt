@@ -1,4 +1,5 @@
 use crate::pieces::larger;
+use crate::pieces::piece_from;
 use crate::supply::least_at_ends;
 use shared::table::Owned;
 use shared::table::own_windows;
@@ -10,95 +11,126 @@ use tables::board::Board;
 use tables::window::Window;
 use tables::window::window_at;
 ghost use mathlib.Core.Path.{_≡_};
-ghost use Prim.Native.Nat.{_+_, _-_, _<_, _≤_};
-ghost use lib.ListN.{length};
+ghost use mathlib.Core.List.{_++_};
+ghost use Prim.Native.Nat.{_+_, _-_, _*_, _≤_, max};
+ghost use lib.ListN.{length, take};
 ghost use Rattle.scope.specs.Limits.{mostFrame};
-ghost use Rattle.scope.specs.Numbers.{bit, written};
+ghost use Rattle.scope.specs.Numbers.{written};
 ghost use Rattle.scope.specs.Ticks.{perFrame};
 ghost use Rattle.scope.specs.Windows.{suppliedBy};
-ghost use Rattle.scope.specs.Partition.{rises, within, maximalRuns, lag, delay as delayBy, outage as outageBy};
-ghost use Rattle.scope.specs.Answers.{Fault.fine, tableFault, criticalAnswer, criticalOut, delayAnswer};
+ghost use Rattle.scope.specs.Partition.{outage as outageBy};
+ghost use Rattle.scope.specs.Answers.{Fault.fine, tableFault, criticalOf, criticalAnswer, criticalOut, delayAnswer};
 ghost use Rattle.scope.specs.Shared.{criticalFor, criticalOutFor, delayFor, outageFor};
 ghost use Rattle.theory.specs.Answers.{LegalTable};
 ghost use Rattle.tables.specs.Told.{boardOf, toldAmount, toldDelay};
-ghost use Rattle.supply.specs.Marks.{marked, Marked};
+ghost use Rattle.supply.specs.Measures.{hasAt, metOf, Measured};
 
-// Room for a mark for each tick of a frame.
-fn unmarked() -> [u8; Board::LONGEST as usize]
-    ensures { λ r. ⌜ length r ≡ mostFrame ⌝ }
-{
-    [0; Board::LONGEST as usize]
+// How many numbers the critical partition has, the delay, and whether the numbers that are held begin with the partition.
+pub(crate) struct Measure {
+    pub numbers: u32,
+    pub late: u32,
+    pub same: bool,
 }
 
-fn mark(set: bool) -> u8
-    ensures { λ r. ⌜ r ≡ bit set ⌝ }
-{
-    if set { 1 } else { 0 }
+// The edges of the critical partition that are met so far: how many, and whether the numbers that are held begin with them.
+struct Met {
+    count: u32,
+    same: bool,
 }
 
-// Marks the ticks of a frame at which the least supply rises: each length is asked for once.
-fn mark_rises(board: Board, windows: &[u32], marks: &mut [u8])
-    requires { ⌜ LegalTable (boardOf board) (now windows) × (board .frame ≤ length (now marks)) ⌝ }
-    ensures { λ _. ⌜ Marked (rises (suppliedBy (boardOf board) (now (windows .entry))) (board .frame)) (board .frame) (now (marks .exit))
-        × (length (now (marks .exit)) ≡ length (now (marks .entry))) ⌝ }
+// Whether a list has x at an index.
+pub(crate) fn has_at(list: &[u32], at: usize, x: u32) -> bool
+    ensures { λ r. ⌜ r ≡ hasAt (now (list .entry)) at x ⌝ }
+{
+    at < list.len() && x == list[at]
+}
+
+// One edge more, at length t, where there is one. What is held against the edges stands in a list from an index on.
+fn edge_met(met: Met, held: &[u32], from: usize, here: bool, t: u32) -> Met
+    requires { ⌜ (from ≤ 3) × (met .count ≤ mostFrame) ⌝ }
+    ensures { λ r. ⌜ r ≡ metOf met (now (held .entry)) from here t ⌝ }
+{
+    let count = met.count;
+    if here {
+        let same = has_at(held, from + count as usize, t);
+        return Met {
+            count: count + 1,
+            same: met.same && same,
+        };
+    }
+    met
+}
+
+fn later(a: u64, b: u64) -> u64
+    ensures { λ r. ⌜ r ≡ max a b ⌝ }
+{
+    if a < b { b } else { a }
+}
+
+// A·t − P·(least supply of t), where `whole` is A.
+fn lag_with(whole: u32, t: u32, frame: u32, least: u32) -> u64
+    requires { ⌜ frame * least ≤ whole * t ⌝ }
+    ensures { λ r. ⌜ r ≡ whole * t - frame * least ⌝ }
+{
+    (whole as u64) * (t as u64) - (frame as u64) * (least as u64)
+}
+
+// One pass over the pieces of a frame. The lag is greatest at an end of a piece.
+pub(crate) fn measured(board: Board, windows: &[u32], whole: u32, held: &[u32], from: usize) -> Measure
+    requires { ⌜ LegalTable (boardOf board) (now windows) × (from ≤ 3)
+        × (whole ≡ perFrame (suppliedBy (boardOf board) (now windows)) (board .frame)) ⌝ }
+    ensures { λ r. ⌜ Measured (boardOf board) (now (windows .entry)) (now (held .entry)) from r ⌝ }
 {
     let frame = board.frame;
+    let mut met = Met {
+        count: 0,
+        same: true,
+    };
+    let mut late = 0;
+    let mut before = false;
     let mut least = 0;
-    let mut k = 0;
-    while k < frame {
-        let next = least_at_ends(board, windows, k + 1);
-        marks[k as usize] = mark(least < next.supply);
-        least = next.supply;
-        k += 1;
+    let mut t = 0;
+    while t < frame {
+        let piece = piece_from(board, windows, t, least);
+        let rising = piece.rising;
+        met = edge_met(met, held, from, rising != before, t);
+        before = rising;
+        least = piece.least;
+        t = piece.end;
+        let here = lag_with(whole, t, frame, least);
+        late = later(late, here);
+    }
+    let all = edge_met(met, held, from, before, frame);
+    Measure {
+        numbers: all.count,
+        late: late as u32,
+        same: all.same,
     }
 }
 
-// Whether k is a tick of the frame that is marked.
-fn is_marked(frame: u32, marks: &[u8], k: u32) -> bool
-    requires { ⌜ frame ≤ length (now marks) ⌝ }
-    ensures { λ r. ⌜ r ≡ within (marked (now (marks .entry))) frame k ⌝ }
+// Writes the critical partition after the first `from` numbers of out.
+pub(crate) fn write_edges(board: Board, windows: &[u32], from: usize, out: &mut [u32])
+    requires { ⌜ LegalTable (boardOf board) (now windows) × (from + length (criticalOf (boardOf board) (now windows)) ≤ length (now out)) ⌝ }
+    ensures { λ _. ⌜ now (out .exit) ≡ written (take from (now (out .entry)) ++ criticalOf (boardOf board) (now (windows .entry))) (now (out .entry)) ⌝ }
 {
-    if frame <= k {
-        return false;
-    }
-    marks[k as usize] == 1
-}
-
-// How many numbers the maximal runs of marked ticks have.
-fn count_edges(frame: u32, marks: &[u8]) -> u32
-    requires { ⌜ (frame ≤ mostFrame) × (frame ≤ length (now marks)) ⌝ }
-    ensures { λ r. ⌜ r ≡ length (maximalRuns (marked (now (marks .entry))) frame) ⌝ }
-{
-    let mut n = 0;
+    let frame = board.frame;
+    let mut at = from;
     let mut before = false;
-    let mut k = 0;
-    while k < frame + 1 {
-        let here = is_marked(frame, marks, k);
-        if here != before {
-            n += 1;
-        }
-        before = here;
-        k += 1;
-    }
-    n
-}
-
-// Writes them at the front of out.
-fn write_edges(frame: u32, marks: &[u8], out: &mut [u32])
-    requires { ⌜ (frame ≤ mostFrame) × (frame ≤ length (now marks)) × (length (maximalRuns (marked (now marks)) frame) ≤ length (now out)) ⌝ }
-    ensures { λ r. ⌜ now (out .exit) ≡ written (maximalRuns (marked (now (marks .entry))) frame) (now (out .entry)) ⌝ }
-{
-    let mut at: usize = 0;
-    let mut before = false;
-    let mut k = 0;
-    while k < frame + 1 {
-        let here = is_marked(frame, marks, k);
-        if here != before {
-            out[at] = k;
+    let mut least = 0;
+    let mut t = 0;
+    while t < frame {
+        let piece = piece_from(board, windows, t, least);
+        let rising = piece.rising;
+        if rising != before {
+            out[at] = t;
             at += 1;
         }
-        before = here;
-        k += 1;
+        before = rising;
+        least = piece.least;
+        t = piece.end;
+    }
+    if before {
+        out[at] = frame;
     }
 }
 
@@ -108,15 +140,14 @@ fn critical_on(board: Board, windows: &[u32], out: &mut [u32]) -> Amount
     ensures answer { λ r. ⌜ toldAmount r ≡ criticalAnswer (boardOf board) (now (windows .entry)) (length (now (out .entry))) ⌝ }
     ensures buffer { λ r. ⌜ now (out .exit) ≡ criticalOut (boardOf board) (now (windows .entry)) (now (out .entry)) ⌝ }
 {
-    let frame = board.frame;
-    let mut marks = unmarked();
-    mark_rises(board, windows, &mut marks);
-    let numbers = count_edges(frame, &marks) as u64;
+    let whole = least_at_ends(board, windows, 0).whole;
+    let measure = measured(board, windows, whole, &windows[..0], 0);
+    let numbers = measure.numbers as u64;
     let count = numbers / 2;
     if (out.len() as u64) < numbers {
         refuse(Refusal::Room(numbers), out)
     } else {
-        write_edges(frame, &marks, out);
+        write_edges(board, windows, 0, out);
         Amount::Of(count)
     }
 }
@@ -133,42 +164,14 @@ pub fn critical(board: Board, windows: &[u32], out: &mut [u32]) -> Amount
     }
 }
 
-// A·t − P·(least supply of t), where `whole` is A.
-fn lag_of(board: Board, windows: &[u32], whole: u32, t: u32) -> u64
-    requires { ⌜ LegalTable (boardOf board) (now windows) × (t ≤ board .frame)
-        × (whole ≡ perFrame (suppliedBy (boardOf board) (now windows)) (board .frame)) ⌝ }
-    ensures { λ r. ⌜ r ≡ lag (suppliedBy (boardOf board) (now (windows .entry))) (board .frame) t ⌝ }
-{
-    let frame = board.frame;
-    let least = least_at_ends(board, windows, t);
-    (whole as u64) * (t as u64) - (frame as u64) * (least.supply as u64)
-}
-
-// The greatest of these over t in 0 to P: at 0 it is 0.
-fn delay_of(board: Board, windows: &[u32], whole: u32) -> u64
-    requires { ⌜ LegalTable (boardOf board) (now windows) × (whole ≡ perFrame (suppliedBy (boardOf board) (now windows)) (board .frame)) ⌝ }
-    ensures { λ r. ⌜ r ≡ delayBy (suppliedBy (boardOf board) (now (windows .entry))) (board .frame) ⌝ }
-{
-    let frame = board.frame;
-    let mut most = 0;
-    let mut t = 1;
-    while t < frame + 1 {
-        let here = lag_of(board, windows, whole, t);
-        if most < here {
-            most = here;
-        }
-        t += 1;
-    }
-    most
-}
-
 // The delay of a legal list of windows, with A beside it.
 fn delay_on(board: Board, windows: &[u32]) -> Delay
     requires { ⌜ tableFault (boardOf board) (now windows) ≡ fine ⌝ }
     ensures { λ r. ⌜ toldDelay r ≡ delayAnswer (boardOf board) (now (windows .entry)) ⌝ }
 {
     let per_frame = least_at_ends(board, windows, 0).whole;
-    let delay = delay_of(board, windows, per_frame);
+    let measure = measured(board, windows, per_frame, &windows[..0], 0);
+    let delay = measure.late as u64;
     Delay::Of { delay, per_frame }
 }
 

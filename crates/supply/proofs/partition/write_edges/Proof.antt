@@ -1,69 +1,69 @@
 use mathlib.Core.Path.{_≡_, refl, sym, ap, _∙_}
-use mathlib.Core.Bool.{not, Bool·beq}
-use mathlib.Core.List.{List}
-use mathlib.Core.Logic.{⊎-elim}
+use mathlib.Core.List.{[], _∷_, _++_}
 use Prim.Native.Nat.{ℕ, _+_, _-_, _≤_, _<_}
-use lib.ListN.{length, length-set}
-use Rattle.scope.specs.Numbers.{written}
-use Rattle.scope.specs.Partition.{within, edge, maximalRuns}
-use Rattle.theory.specs.Buffers.{written-none}
 use native.Mathlib.Omega.{arith}
-use Rattle.supply.specs.Marks.{marked}
-use borrow.Author.Needs.{needs}
-use Rattle.supply.proofs.PartitionLaws.{kept-none, count-hit, count-miss, count-up, keep-write, keep-skip, was, was-none, was-more, edge-is}
-use Rattle.supply.proofs.PartitionLaws.{edges, edges-all}
+use lib.ListN.{length, length-set, length-append}
+use Rattle.scope.specs.Ticks.{leastSupply}
+use Rattle.scope.specs.Windows.{suppliedBy}
+use Rattle.scope.specs.Answers.{criticalOf}
+use Rattle.theory.specs.Ticks.{least-none}
+use Rattle.theory.specs.Rows.{table-row}
+use Rattle.tables.specs.Told.{boardOf}
+use Rattle.supply.proofs.PartitionLaws.{was-none, edges, edges-none, rose, next-rose, next-edge, next-none, next-most, last-edge, last-none}
+use Rattle.supply.proofs.PartitionLaws.{after, after-none, after-more}
 use Rattle.supply.proofs.partition.write_edges.Statement.{statement}
 use Rattle.supply.proofs.partition.write_edges.Tie as tie
 use Rattle.supply.proofs.partition.write_edges.Reads as reads
 use Rattle.supply.proofs.partition.write_edges.Lts as lts
-use Rattle.supply.proofs.partition.is_marked.Reads as is-marked-reads
+use Rattle.supply.proofs.pieces.piece_from.Reads as piece-from-reads
 
 abbrev Inv-loop : tie.InvT-loop
-Inv-loop frame marks out₀ at₀ before₀ k₀ out at before k =
-    (k ≤ frame + 1)
-    × (before ≡ was (within (marked marks) frame) k)
-    × (at ≡ length (edges (marked marks) frame k))
-    × (length (maximalRuns (marked marks) frame) ≤ length out₀)
+Inv-loop board windows from out₀ frame at₀ before₀ least₀ t₀ out at before least t =
+    let b = boardOf board in
+    (t ≤ frame)
+    × (before ≡ rose b windows t)
+    × (least ≡ leastSupply (suppliedBy b windows) (board .frame) t)
+    × (at ≡ from + length (edges b windows t))
     × (length out ≡ length out₀)
-    × (out ≡ written (edges (marked marks) frame k) out₀)
+    × (from + length (criticalOf b windows) ≤ length out₀)
+    × (out ≡ after from out₀ (edges b windows t))
 
 abbrev μ-loop : tie.MeasureT-loop
-μ-loop frame marks out₀ at₀ before₀ k₀ out at before k = frame + 1 - k
+μ-loop board windows from out₀ frame at₀ before₀ least₀ t₀ out at before least t = frame - t
 
--- whether tick k is an edge
-edge-at : (c : tie.After-is-marked Inv-loop μ-loop) →
-    let a = c .before .before .before .before .before .args in
-    let l = c .before .before .loop in
-    edge (within (marked (a .marks .now)) (a .frame)) (l .k) ≡ not (Bool·beq (c .is-marked .result) (l .before))
-edge-at c = edge-is _ _ _ _ (c .is-marked .ensures) (c .before .before .loop .inv .1)
+loop-holds : tie.Need-loop-holds Inv-loop μ-loop
+loop-holds c = 
+    let a = c .before .before .args in
+    let p = c .before .before .pre in
+    let e = edges-none (boardOf (a .board)) (a .windows .now) in (
+      omega arith,
+      was-none _,
+      sym (least-none _ _ (table-row _ _ (p .0) .repeats)),
+      omega (arith, ap length e),
+      refl,
+      p .1,
+      after-none (a .from) (a .out .now) (omega (arith, p .1)) ∙ ap (after (a .from) (a .out .now)) (sym e),
+    )
 
--- where a number is to be written there is room for it
+piece-from-requires : tie.Need-piece-from-requires Inv-loop μ-loop
+piece-from-requires c κs = (c .before .before .before .before .pre .0, c .loop-test .taken, c .before .loop .inv .2)
+
+-- where an edge is to be written there is room for it
 room : (c : tie.Then1 Inv-loop μ-loop) → c .before .before .before .loop .at < length (c .before .before .before .loop .out)
 room c =
     let a = c .before .before .before .before .before .before .args in
     let l = c .before .before .before .loop in
-    let p = edge (within (marked (a .marks .now)) (a .frame)) in
+    let b = boardOf (a .board) in
+    let r = c .before .piece-from in
     omega (
       arith,
-      l .inv .2,
       l .inv .3,
       l .inv .4,
-      count-hit p (l .k) (edge-at (c .before) ∙ c .if1 .taken),
-      count-up p (l .k + 1) (a .frame + 1) (omega arith),
-      ap length (edges-all (marked (a .marks .now)) (a .frame)),
+      l .inv .5,
+      ap length (next-edge b (a .windows .now) (l .t) (r .result) (r .ensures) (l .before) (l .inv .1) (c .if1 .taken)),
+      length-append (edges b (a .windows .now) (l .t)) (l .t ∷ []),
+      next-most b (a .windows .now) (l .t) (r .result) (r .ensures) (l .before) (l .inv .1),
     )
-
-loop-holds : tie.Need-loop-holds Inv-loop μ-loop
-loop-holds c =
-    let a = c .before .before .args in
-    let e = kept-none (edge (within (marked (a .marks .now)) (a .frame))) in
-    (omega arith, was-none _, sym (ap length e), omega arith, refl, sym (ap (λ (l : List ℕ). written l (a .out .now)) e ∙ written-none _))
-
-add-loop : tie.Need-add-loop Inv-loop μ-loop
-add-loop c = search needs
-
-is-marked-requires : tie.Need-is-marked-requires Inv-loop μ-loop
-is-marked-requires c κs = search needs
 
 mul-out : tie.Need-mul-out Inv-loop μ-loop
 mul-out c = let h = room c in omega arith
@@ -74,50 +74,104 @@ slice-write-out c = room c
 add-at : tie.Need-add-at Inv-loop μ-loop
 add-at c = let h = room c in omega arith
 
-add-k : tie.Need-add-k Inv-loop μ-loop
-add-k c = search needs
-
 loop-less : tie.Need-loop-less Inv-loop μ-loop
-loop-less c = search needs
+loop-less c = let p = c .before .piece-from .ensures in omega (arith, p .most, p .piece .after)
 
 loop-again : tie.Need-loop-again Inv-loop μ-loop
-loop-again c =
+loop-again c = 
     let a = c .before .before .before .before .before .before .args in
     let l = c .before .before .before .loop in
-    let q = within (marked (a .marks .now)) (a .frame) in
-    let now-was = c .before .is-marked .ensures ∙ was-more q (l .k) in
-    let e = edge-at (c .before) in
-    ⊎-elim
-    (λ w. let hit = e ∙ w .0 .taken in
-    let r = room (record { before = c .before; if1 = w .0 }) in (
-      omega arith,
-      now-was,
-      omega (arith, w .2, l .inv .2, count-hit (edge q) (l .k) hit),
-      omega arith,
-      ap length (w .1) ∙ simp length-set (l .inv .4),
-      w .1 ∙ keep-write (edge q) (l .k) (l .at) (l .out) (a .out .now) (l .inv .2) (l .inv .5) hit (omega (arith, r, l .inv .4)),
-    ))
-    (λ w. let miss = e ∙ w .0 .left in (
-      omega arith,
-      now-was,
-      omega (arith, w .2, l .inv .2, count-miss (edge q) (l .k) miss),
-      omega arith,
-      ap length (w .1) ∙ l .inv .4,
-      w .1 ∙ keep-skip (edge q) (l .k) (l .at) (l .out) (a .out .now) (l .inv .2) (l .inv .5) miss,
-    ))
-    (c .if1 .came)
+    let b = boardOf (a .board) in
+    let r = c .before .piece-from .result in
+    let p = c .before .piece-from .ensures in
+    let e = next-edge b (a .windows .now) (l .t) r p (l .before) (l .inv .1) (c .if1 .taken) in (
+      p .most,
+      next-rose b (a .windows .now) (l .t) r p (l .before) (l .inv .1),
+      p .piece .ends,
+      omega (arith, l .inv .3, ap length e, length-append (edges b (a .windows .now) (l .t)) (l .t ∷ [])),
+      simp length-set (l .inv .4),
+      l .inv .5,
+      after-more (a .from) (a .out .now) (omega (arith, l .inv .5)) (edges b (a .windows .now) (l .t)) (l .out) (l .at) (l .t) (l .inv .3) (omega (arith, room c, l .inv .4)) (l .inv .6)
+          ∙ ap (after (a .from) (a .out .now)) (sym e),
+    )
+
+loop-less-2 : tie.Need-loop-less-2 Inv-loop μ-loop
+loop-less-2 c = let p = c .before .piece-from .ensures in omega (arith, p .most, p .piece .after)
+
+loop-again-2 : tie.Need-loop-again-2 Inv-loop μ-loop
+loop-again-2 c = 
+    let a = c .before .before .before .before .before .before .args in
+    let l = c .before .before .before .loop in
+    let b = boardOf (a .board) in
+    let r = c .before .piece-from .result in
+    let p = c .before .piece-from .ensures in
+    let e = next-none b (a .windows .now) (l .t) r p (l .before) (l .inv .1) (c .if1 .left) in (
+      p .most,
+      next-rose b (a .windows .now) (l .t) r p (l .before) (l .inv .1),
+      p .piece .ends,
+      omega (arith, l .inv .3, ap length e),
+      l .inv .4,
+      l .inv .5,
+      l .inv .6 ∙ ap (after (a .from) (a .out .now)) (sym e),
+    )
+
+-- at the end of the frame
+ended : (c : tie.After-loop Inv-loop μ-loop) → c .before .loop .t ≡ c .before .before .before .before .args .board .frame
+ended c = omega (arith, c .before .loop .inv .0, c .loop-test .left)
+
+-- an open run's end is the last number
+closed : (c : tie.Then2 Inv-loop μ-loop) →
+    let a = c .before .before .before .before .before .args in
+    criticalOf (boardOf (a .board)) (a .windows .now) ≡ edges (boardOf (a .board)) (a .windows .now) (c .before .before .loop .t) ++ (a .board .frame ∷ [])
+closed c =
+    let a = c .before .before .before .before .before .args in
+    let l = c .before .before .loop in
+    let b = boardOf (a .board) in
+    let e = ended (c .before) in
+    last-edge b (a .windows .now) (l .before) (l .inv .1 ∙ ap (rose b (a .windows .now)) e) (c .if2 .taken)
+    ∙ ap (λ (k : ℕ). edges b (a .windows .now) k ++ (a .board .frame ∷ [])) (sym e)
+
+room-2 : (c : tie.Then2 Inv-loop μ-loop) → c .before .before .loop .at < length (c .before .before .loop .out)
+room-2 c =
+    let a = c .before .before .before .before .before .args in
+    let l = c .before .before .loop in
+    omega (
+      arith,
+      l .inv .3,
+      l .inv .4,
+      l .inv .5,
+      ap length (closed c),
+      length-append (edges (boardOf (a .board)) (a .windows .now) (l .t)) (a .board .frame ∷ []),
+    )
+
+mul-out-2 : tie.Need-mul-out-2 Inv-loop μ-loop
+mul-out-2 c = let h = room-2 c in omega arith
+
+slice-write-out-2 : tie.Need-slice-write-out-2 Inv-loop μ-loop
+slice-write-out-2 c = room-2 c
 
 same-length : tie.Need-same-length Inv-loop μ-loop
-same-length c = c .before .loop .inv .4
+same-length c = simp length-set (c .before .before .loop .inv .4)
 
 returns : tie.Need-returns Inv-loop μ-loop
-returns c =
-    let a = c .before .before .before .before .args in
-    let l = c .before .loop in
-    let e : l .k ≡ a .frame + 1 = omega arith in
-    l .inv .5
-    ∙ ap (λ (k : ℕ). written (edges (marked (a .marks .now)) (a .frame) k) (a .out .now)) e
-    ∙ ap (λ (x : List ℕ). written x (a .out .now)) (edges-all (marked (a .marks .now)) (a .frame))
+returns c = 
+    let a = c .before .before .before .before .before .args in
+    let l = c .before .before .loop in
+    after-more (a .from) (a .out .now) (omega (arith, l .inv .5)) (edges (boardOf (a .board)) (a .windows .now) (l .t)) (l .out) (l .at) (a .board .frame) (l .inv .3)
+    (omega (arith, room-2 c, l .inv .4)) (l .inv .6)
+    ∙ ap (after (a .from) (a .out .now)) (sym (closed c))
+
+same-length-2 : tie.Need-same-length-2 Inv-loop μ-loop
+same-length-2 c = c .before .before .loop .inv .4
+
+returns-2 : tie.Need-returns-2 Inv-loop μ-loop
+returns-2 c = 
+    let a = c .before .before .before .before .before .args in
+    let l = c .before .before .loop in
+    let b = boardOf (a .board) in
+    let e = ended (c .before) in
+    l .inv .6
+    ∙ ap (after (a .from) (a .out .now)) (ap (edges b (a .windows .now)) e ∙ sym (last-none b (a .windows .now) (l .before) (l .inv .1 ∙ ap (rose b (a .windows .now)) e) (c .if2 .left)))
 
 pub write-edges-spec : {M : Type 1} → statement M
 write-edges-spec =
@@ -126,13 +180,17 @@ write-edges-spec =
     Inv-loop
     μ-loop
     loop-holds
-    add-loop
-    is-marked-requires
+    piece-from-requires
     mul-out
     slice-write-out
     add-at
-    add-k
     loop-less
     loop-again
+    loop-less-2
+    loop-again-2
+    mul-out-2
+    slice-write-out-2
     same-length
-    returns)
+    returns
+    same-length-2
+    returns-2)
