@@ -7,10 +7,11 @@ use Rattle.scope.specs.Windows as Windows
 use Rattle.scope.specs.Tasks as Tasks
 use Rattle.scope.specs.Verdict as Verdicts
 use Rattle.scope.specs.Bound as Bounds
+use Rattle.scope.specs.Summary as Summaries
 use Rattle.scope.specs.Answers as Answers
 use Rattle.scope.specs.Answers.{Fault, Fault.fine, Fault.fault, Answer, Answer.given, Answer.refused}
 use Rattle.tables.specs.declared.answer.Refusal.{Refusal}
-use Rattle.tables.specs.declared.answer.Refusal.the-variants.{WindowList, Frame, Window, TaskList, Task, Cycle, Asked, Room, Bytes, JobList, Job, Sliver}
+use Rattle.tables.specs.declared.answer.Refusal.the-variants.{WindowList, Frame, Window, TaskList, Task, Cycle, Asked, Room, Bytes, JobList, Job, Sliver, Summary}
 use Rattle.tables.specs.declared.answer.Checked.{Checked}
 use Rattle.tables.specs.declared.answer.Checked.the-variants.{Fine, Bad}
 use Rattle.tables.specs.declared.answer.Supplied as supplied
@@ -19,6 +20,7 @@ use Rattle.tables.specs.declared.answer.Delay as delay
 use Rattle.tables.specs.declared.answer.Margin as margin
 use Rattle.tables.specs.declared.answer.Verdict as verdict
 use Rattle.tables.specs.declared.answer.Bound as bound
+use Rattle.tables.specs.declared.answer.Edited as edited
 use Rattle.tables.specs.declared.board.MadeBoard as madeBoard
 use Rattle.tables.specs.declared.window.Window as window
 use Rattle.tables.specs.declared.window.MadeWindow as madeWindow
@@ -26,7 +28,7 @@ use Rattle.tables.specs.declared.task.Task as task
 use Rattle.tables.specs.declared.task.MadeTask as madeTask
 use Rattle.tables.specs.declared.length.MadeLength as madeLength
 use Rattle.tables.specs.Told.{number, place, faultOf, toldSupplied, toldAmount, toldDelay, toldMargin, toldVerdict, toldBound, toldBoard, toldWindow}
-use Rattle.tables.specs.Told.{toldTask, toldLength, windowOf, taskOf}
+use Rattle.tables.specs.Told.{toldEdited, toldTask, toldLength, windowOf, taskOf}
 
 -- what can be undone tells all cases apart
 pub undone : {A B : Type 0} (f : A → B) (g : B → A) → ((a : A) → g (f a) ≡ a) → (a b : A) → f a ≡ f b → a ≡ b
@@ -47,7 +49,8 @@ refusalOf n p =
     (cond (eqb n 9) (Bytes p)
     (cond (eqb n 10) JobList
     (cond (eqb n 11) (Job p)
-    (Sliver p)))))))))))
+    (cond (eqb n 12) (Sliver p)
+    Summary)))))))))))
 
 pub refusal-back : (r : Refusal) → refusalOf (number r) (place r) ≡ r
 refusal-back WindowList = refl
@@ -62,6 +65,7 @@ refusal-back (Bytes o) = refl
 refusal-back JobList = refl
 refusal-back (Job i) = refl
 refusal-back (Sliver i) = refl
+refusal-back Summary = refl
 
 abbrev checkedOf : Fault → Checked
 checkedOf fine = Fine
@@ -135,6 +139,16 @@ bound-determined = undone toldBound (made boundFrom bound.the-variants.Refused) 
     back (bound.the-variants.Of t) = refl
     back bound.the-variants.NoBound = refl
     back (bound.the-variants.Refused r) = ap bound.the-variants.Refused (refusal-back r)
+
+abbrev editedFrom : Summaries.Edited → edited.Edited
+editedFrom e = edited.the-variants.Is (e .windows) (e .numbers)
+
+pub edited-determined : (a b : edited.Edited) → toldEdited a ≡ toldEdited b → a ≡ b
+edited-determined = undone toldEdited (made editedFrom edited.the-variants.Refused) back
+  where
+    back : (a : edited.Edited) → made editedFrom edited.the-variants.Refused (toldEdited a) ≡ a
+    back (edited.the-variants.Is w n) = refl
+    back (edited.the-variants.Refused r) = ap edited.the-variants.Refused (refusal-back r)
 
 -- ---- structs
 

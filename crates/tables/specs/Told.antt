@@ -6,10 +6,11 @@ use Rattle.scope.specs.Windows as Windows
 use Rattle.scope.specs.Tasks as Tasks
 use Rattle.scope.specs.Verdict as Verdicts
 use Rattle.scope.specs.Bound as Bounds
+use Rattle.scope.specs.Summary as Summaries
 use Rattle.scope.specs.Answers as Answers
 use Rattle.scope.specs.Answers.{Fault, Fault.fine, Fault.fault, Answer, Answer.given, Answer.refused}
 use Rattle.tables.specs.declared.answer.Refusal.{Refusal}
-use Rattle.tables.specs.declared.answer.Refusal.the-variants.{WindowList, Frame, Window, TaskList, Task, Cycle, Asked, Room, Bytes, JobList, Job, Sliver}
+use Rattle.tables.specs.declared.answer.Refusal.the-variants.{WindowList, Frame, Window, TaskList, Task, Cycle, Asked, Room, Bytes, JobList, Job, Sliver, Summary}
 use Rattle.tables.specs.declared.answer.Checked.{Checked}
 use Rattle.tables.specs.declared.answer.Checked.the-variants.{Fine, Bad}
 use Rattle.tables.specs.declared.answer.Supplied as supplied
@@ -18,6 +19,7 @@ use Rattle.tables.specs.declared.answer.Delay as delay
 use Rattle.tables.specs.declared.answer.Margin as margin
 use Rattle.tables.specs.declared.answer.Verdict as verdict
 use Rattle.tables.specs.declared.answer.Bound as bound
+use Rattle.tables.specs.declared.answer.Edited as edited
 use Rattle.tables.specs.declared.board.Board as board
 use Rattle.tables.specs.declared.board.MadeBoard as madeBoard
 use Rattle.tables.specs.declared.window.Window as window
@@ -52,6 +54,7 @@ number (Bytes o) = 9
 number JobList = 10
 number (Job i) = 11
 number (Sliver i) = 12
+number Summary = 14
 
 abbrev pub place : Refusal → ℕ
 place WindowList = 0
@@ -66,6 +69,7 @@ place (Bytes o) = o
 place JobList = 0
 place (Job i) = i
 place (Sliver i) = i
+place Summary = 0
 
 abbrev pub faultOf : Checked → Fault
 faultOf Fine = fine
@@ -101,6 +105,10 @@ abbrev pub toldBound : bound.Bound → Answer Bounds.Bound
 toldBound (bound.the-variants.Of t) = given (Bounds.bound t)
 toldBound bound.the-variants.NoBound = given Bounds.noBound
 toldBound (bound.the-variants.Refused r) = no r
+
+abbrev pub toldEdited : edited.Edited → Answer Summaries.Edited
+toldEdited (edited.the-variants.Is w n) = given (record { windows = w; numbers = n })
+toldEdited (edited.the-variants.Refused r) = no r
 
 -- ---- constructors' answers
 

@@ -18,6 +18,7 @@ pub enum Refusal {
     JobList,
     Job(u64),
     Sliver(u64),
+    Summary,
 }
 
 impl Refusal {
@@ -38,6 +39,7 @@ impl Refusal {
             Refusal::JobList => 10,
             Refusal::Job(_) => 11,
             Refusal::Sliver(_) => 12,
+            Refusal::Summary => 14,
         }
     }
 
@@ -58,6 +60,7 @@ impl Refusal {
             Refusal::JobList => 0,
             Refusal::Job(i) => i,
             Refusal::Sliver(i) => i,
+            Refusal::Summary => 0,
         }
     }
 }
@@ -100,6 +103,14 @@ pub fn refuse(r: Refusal, out: &mut [u32]) -> Amount
     Amount::Refused(r)
 }
 
+// The same of memory for signed numbers.
+pub fn refuse_signed(why: Refusal, out: &mut [i64]) -> Amount
+    ensures answer { λ a. ⌜ toldAmount a ≡ no why ⌝ }
+    ensures buffer { λ _. ⌜ now (out .exit) ≡ now (out .entry) ⌝ }
+{
+    Amount::Refused(why)
+}
+
 // The delay times A, with A beside it.
 pub enum Delay {
     Of { delay: u64, per_frame: u32 },
@@ -139,5 +150,11 @@ pub enum Verdict {
 pub enum Bound {
     Of(u32),
     NoBound,
+    Refused(Refusal),
+}
+
+// What an edit leaves: how many windows, and how many numbers their summary has.
+pub enum Edited {
+    Is { windows: u64, numbers: u64 },
     Refused(Refusal),
 }
