@@ -1,0 +1,25 @@
+use borrow.Author.Needs.{needs}
+use native.Mathlib.Omega.{arith}
+use Prim.Native.Nat.{ℕ, _+_, _-_, _*_, _≤_, _<_}
+use lib.ListN.{length}
+use mathlib.Core.Path.{_≡_}
+use Rattle.supply.proofs.summary.check_belongs.Statement.{statement}
+use Rattle.supply.proofs.summary.check_belongs.Tie as tie
+use Rattle.supply.proofs.summary.check_belongs.Reads as reads
+use Rattle.supply.proofs.summary.check_belongs.Lts as lts
+use Rattle.supply.proofs.summary.belongs.Reads as belongs-reads
+
+-- src/summary.rt:93:8
+belongs-requires : tie.Need-belongs-requires
+belongs-requires c κs = search needs
+
+-- src/summary.rt:94:9
+returns : tie.Need-returns
+returns c = search needs
+
+-- src/summary.rt:89:1
+returns-2 : tie.Need-returns-2
+returns-2 c = search needs
+
+pub check-belongs-spec : {M : Type 1} → statement M
+check-belongs-spec = tie.close (tie.spec belongs-requires returns returns-2)
