@@ -8,7 +8,7 @@ use mathlib.Core.Bool.{Bool, true, false, _&&_}
 use mathlib.Core.Option.{none, some}
 use mathlib.Core.List.{List, [], _∷_, map}
 use lib.Dec.{eqb}
-use lib.IntN.{ℤ, ℤ.negsuc}
+use lib.IntN.{ℤ, ℤ.negsuc, pos}
 use lib.ListN.{length, replicate}
 use Rattle.scope.specs.Windows.{Board, Window, window}
 use Rattle.scope.specs.Tasks.{Task, task, tasksOf}
@@ -27,6 +27,8 @@ use Rattle.scope.specs.Limits.{teams}
 use Rattle.scope.specs.Shared.{Owned, owned, asOwned, ownedListFault, ownedAnswer, ownAnswer, ownOut, asOwnedAnswer, asOwnedOut}
 use Rattle.scope.specs.Shared.{suppliedFor, leastSupplyFor, criticalFor, criticalOutFor, delayFor, outageFor, marginFor, verdictFor, boundFor}
 use Rattle.scope.specs.Shared.{runFor, runOutFor, replayFor, planAnswer}
+use Rattle.scope.specs.Summary.{Edit, Edit.move, Edit.add, Edit.remove, Edited, makeFor, makeOutFor, leastFromFor, marginsFor, marginsOutFor}
+use Rattle.scope.specs.Summary.{editAnswer, editWindows, editSummary}
 use Rattle.scope.specs.Computing.{everything}
 
 -- ---- what is asked of an entry, and what it answers; of a lent buffer, what it holds before and after
@@ -68,6 +70,10 @@ pub data Question : Type 0 where
   ownedAlone : (frame start end owner : ℕ) → Question
   ownOf : (board : Board) (windows buffer : List ℕ) → Question
   ownedPairs : (owner : ℕ) (windows buffer : List ℕ) → Question
+  summaryMadeFor : (board : Board) (windows buffer : List ℕ) → Question
+  leastFromsFor : (board : Board) (windows summary lengths : List ℕ) → Question
+  marginsOfFor : (board : Board) (windows summary tasks lengths : List ℕ) (buffer : List ℤ) → Question
+  editOfFor : (board : Board) (count : ℕ) (windows summary : List ℕ) (edit : Edit) → Question
 
 pub data Reply : Type 0 where
   amounts : List (Answer ℕ) → Reply
@@ -86,6 +92,9 @@ pub data Reply : Type 0 where
   aReplay : Answer Replayed → Reply
   anOwned : Answer Owned → Reply
   ticks : List (Answer Bool) → Reply
+  summary : Answer ℕ → List ℕ → Reply
+  margins : Answer ℕ → List ℤ → Reply
+  anEdit : Answer Edited → (windows summary : List ℕ) → Reply
 
 -- a release at tick 0
 abbrev release : Record
@@ -143,6 +152,10 @@ reply (ownedAlone P s e o) = anOwned (ownedAnswer teams (on P) (owned s e o))
 reply (ownOf b ws out) = windows (ownAnswer teams b ws (length out)) (ownOut teams b ws out)
 reply (ownedPairs o ws out) = windows (asOwnedAnswer o ws (length out)) (asOwnedOut o ws out)
 reply (sharedLists l) = faults (map (λ n. ownedListFault (replicate n 0)) l)
+reply (summaryMadeFor b ws out) = summary (makeFor b ws (length out)) (makeOutFor b ws out)
+reply (leastFromsFor b ws s ts) = amounts (map (leastFromFor b ws s) ts)
+reply (marginsOfFor b ws s ts lengths out) = margins (marginsFor b ws s ts lengths (length out)) (marginsOutFor b ws s ts lengths out)
+reply (editOfFor b n ws s edit) = anEdit (editAnswer teams b n ws s edit) (editWindows teams b n ws s edit) (editSummary teams b n ws s edit)
 
 -- ---- the table
 
@@ -170,6 +183,28 @@ XShared = 0 ∷ 2 ∷ 0 ∷ 2 ∷ 5 ∷ 1 ∷ 5 ∷ 7 ∷ 0 ∷ 7 ∷ 8 ∷ 1 �
 -- the lab's window as owner 1's, and the rest of its frame as owner 0's
 abbrev pub labShared : List ℕ
 labShared = 0 ∷ 3 ∷ 0 ∷ 3 ∷ 5 ∷ 1 ∷ 5 ∷ 8 ∷ 0 ∷ []
+
+-- X as owner 0's, alone
+abbrev pub XAlone : List ℕ
+XAlone = 0 ∷ 2 ∷ 0 ∷ 5 ∷ 7 ∷ 0 ∷ []
+
+-- its windows as two owners'
+abbrev pub apart : List ℕ
+apart = 0 ∷ 2 ∷ 0 ∷ 5 ∷ 7 ∷ 1 ∷ []
+
+-- X's summary, that of the rest of its frame, and that of one window of two ticks in a frame of 8, wherever it is
+abbrev pub XSummary : List ℕ
+XSummary = 4 ∷ 12 ∷ 2 ∷ 3 ∷ 5 ∷ 6 ∷ 8 ∷ []
+
+abbrev pub hers : List ℕ
+hers = 4 ∷ 12 ∷ 2 ∷ 2 ∷ 3 ∷ 5 ∷ 8 ∷ []
+
+abbrev pub oneSummary : List ℕ
+oneSummary = 2 ∷ 12 ∷ 1 ∷ 6 ∷ 8 ∷ []
+
+-- and that one in memory that has held X's
+abbrev pub oneAndRoom : List ℕ
+oneAndRoom = 2 ∷ 12 ∷ 1 ∷ 6 ∷ 8 ∷ 6 ∷ 8 ∷ []
 
 -- n windows of owner 1, one tick each, every third tick from tick k on
 abbrev othersFrom : ℕ → ℕ → List ℕ
@@ -377,6 +412,108 @@ table =
     ∷ ("4 as soon as it is read, before 12" asks lineOf 1 (0 ∷ 8 ∷ 1 ∷ 0 ∷ 2 ∷ 33 ∷ []) gives text (bytes "REFUSED 4 at 0\n"))
     ∷ ("a plan written with m first" asks writtenPlan (record { settings = 300 ∷ []; frame = 8; windows = 0 ∷ 2 ∷ []; tasks = [] }) (9 ∷ 9 ∷ 9 ∷ 9 ∷ 9 ∷ 9 ∷ 9 ∷ 9 ∷ [])
     gives bytesIn (given 7) (172 ∷ 2 ∷ 8 ∷ 1 ∷ 0 ∷ 2 ∷ 0 ∷ 9 ∷ []))
+    -- request 6: X's summary is A, the delay, the number of critical windows, (3,5) and (6,8); owner 1's critical windows are (2,3) and (5,8)
+    ∷ ("X's summary" asks summaryMadeFor (on 8) XShared (9 ∷ 9 ∷ 9 ∷ 9 ∷ 9 ∷ 9 ∷ 9 ∷ 9 ∷ []) gives summary (given 7) (4 ∷ 12 ∷ 2 ∷ 3 ∷ 5 ∷ 6 ∷ 8 ∷ 9 ∷ []))
+    ∷ ("owner 1's summary" asks summaryMadeFor (onFor 8 1) XShared (9 ∷ 9 ∷ 9 ∷ 9 ∷ 9 ∷ 9 ∷ 9 ∷ []) gives summary (given 7) (4 ∷ 12 ∷ 2 ∷ 2 ∷ 3 ∷ 5 ∷ 8 ∷ []))
+    ∷ ("the whole frame's summary" asks summaryMadeFor (on 8) (0 ∷ 8 ∷ 0 ∷ []) (9 ∷ 9 ∷ 9 ∷ 9 ∷ 9 ∷ []) gives summary (given 5) (8 ∷ 0 ∷ 1 ∷ 0 ∷ 8 ∷ []))
+    ∷ ("a summary without room" asks summaryMadeFor (on 8) XShared (9 ∷ 9 ∷ 9 ∷ 9 ∷ 9 ∷ 9 ∷ []) gives summary (refused 8 7) (9 ∷ 9 ∷ 9 ∷ 9 ∷ 9 ∷ 9 ∷ []))
+    ∷ ("a summary without room for its count" asks summaryMadeFor (on 8) XShared (9 ∷ 9 ∷ []) gives summary (refused 8 7) (9 ∷ 9 ∷ []))
+    ∷ ("12 before a summary's 8" asks summaryMadeFor (onAtLeast 8 0 2) XShared (9 ∷ []) gives summary (refused 12 3) (9 ∷ []))
+    ∷ ("an absent owner before a summary's 8" asks summaryMadeFor (onFor 8 1) (0 ∷ 2 ∷ 0 ∷ []) (9 ∷ []) gives summary (refused 1 0) (9 ∷ []))
+    -- least supply from a summary; what follows it in lent memory is not looked at
+    ∷ ("W1 from the summary" asks leastFromsFor (on 8) XShared XSummary (0 ∷ 1 ∷ 2 ∷ 3 ∷ 4 ∷ 5 ∷ 6 ∷ 7 ∷ 8 ∷ [])
+    gives amounts (map given (0 ∷ 0 ∷ 0 ∷ 0 ∷ 1 ∷ 2 ∷ 2 ∷ 3 ∷ 4 ∷ [])))
+    ∷ ("owner 1's least supply from the summary" asks leastFromsFor (onFor 8 1) XShared hers (1 ∷ 2 ∷ 3 ∷ 4 ∷ 5 ∷ 6 ∷ 7 ∷ 8 ∷ 14 ∷ [])
+    gives amounts (map given (0 ∷ 0 ∷ 1 ∷ 1 ∷ 1 ∷ 2 ∷ 3 ∷ 4 ∷ 6 ∷ [])))
+    ∷ ("the longest lengths from the summary" asks leastFromsFor (on 8) XShared XSummary (999999 ∷ 1000000 ∷ 1000001 ∷ [])
+    gives amounts (given 499999 ∷ given 500000 ∷ refused 7 0 ∷ []))
+    ∷ ("what follows a summary" asks leastFromsFor (on 8) XShared (4 ∷ 12 ∷ 2 ∷ 3 ∷ 5 ∷ 6 ∷ 8 ∷ 0 ∷ 1 ∷ []) (7 ∷ 15 ∷ []) gives amounts (given 3 ∷ given 7 ∷ []))
+    -- a summary that does not belong to the windows: in one number, in its length, or another team's
+    ∷ ("a summary with another A" asks leastFromsFor (on 8) XShared (5 ∷ 12 ∷ 2 ∷ 3 ∷ 5 ∷ 6 ∷ 8 ∷ []) (3 ∷ []) gives amounts (refused 14 0 ∷ []))
+    ∷ ("a summary with another delay" asks leastFromsFor (on 8) XShared (4 ∷ 11 ∷ 2 ∷ 3 ∷ 5 ∷ 6 ∷ 8 ∷ []) (3 ∷ []) gives amounts (refused 14 0 ∷ []))
+    ∷ ("a summary with another count" asks leastFromsFor (on 8) XShared (4 ∷ 12 ∷ 1 ∷ 3 ∷ 5 ∷ 6 ∷ 8 ∷ []) (3 ∷ []) gives amounts (refused 14 0 ∷ []))
+    ∷ ("a summary with another first window" asks leastFromsFor (on 8) XShared (4 ∷ 12 ∷ 2 ∷ 2 ∷ 5 ∷ 6 ∷ 8 ∷ []) (3 ∷ []) gives amounts (refused 14 0 ∷ []))
+    ∷ ("a summary with another last number" asks leastFromsFor (on 8) XShared (4 ∷ 12 ∷ 2 ∷ 3 ∷ 5 ∷ 6 ∷ 7 ∷ []) (3 ∷ []) gives amounts (refused 14 0 ∷ []))
+    ∷ ("a summary one number short" asks leastFromsFor (on 8) XShared (4 ∷ 12 ∷ 2 ∷ 3 ∷ 5 ∷ 6 ∷ []) (3 ∷ []) gives amounts (refused 14 0 ∷ []))
+    ∷ ("an empty summary" asks leastFromsFor (on 8) XShared [] (3 ∷ []) gives amounts (refused 14 0 ∷ []))
+    ∷ ("another team's summary" asks leastFromsFor (on 8) XShared hers (3 ∷ []) gives amounts (refused 14 0 ∷ []))
+    ∷ ("X's summary to the other team" asks leastFromsFor (onFor 8 1) XShared XSummary (3 ∷ []) gives amounts (refused 14 0 ∷ []))
+    ∷ ("3 before 14" asks leastFromsFor (on 8) (0 ∷ 2 ∷ 0 ∷ 2 ∷ 4 ∷ 0 ∷ []) [] (3 ∷ []) gives amounts (refused 3 1 ∷ []))
+    ∷ ("an absent owner before 14" asks leastFromsFor (onFor 8 1) (0 ∷ 2 ∷ 0 ∷ []) [] (3 ∷ []) gives amounts (refused 1 0 ∷ []))
+    ∷ ("12 before 14" asks leastFromsFor (onAtLeast 8 0 2) XShared [] (3 ∷ []) gives amounts (refused 12 3 ∷ []))
+    ∷ ("14 before 7" asks leastFromsFor (on 8) XShared hers (1000001 ∷ []) gives amounts (refused 14 0 ∷ []))
+    -- margins from a summary, one a length; negsuc 1 is −2
+    ∷ ("W6's margins from the summary" asks marginsOfFor (on 8) XShared XSummary (1 ∷ 4 ∷ 4 ∷ 2 ∷ 8 ∷ 6 ∷ []) (6 ∷ 5 ∷ 8 ∷ 999999 ∷ []) (pos 9 ∷ pos 9 ∷ pos 9 ∷ pos 9 ∷ pos 9 ∷ [])
+    gives margins (given 4) (negsuc 0 ∷ pos 1 ∷ pos 0 ∷ pos 0 ∷ pos 9 ∷ []))
+    ∷ ("owner 1's margins from the summary" asks marginsOfFor (onFor 8 1) XShared hers (1 ∷ 4 ∷ 4 ∷ 2 ∷ 8 ∷ 6 ∷ []) (5 ∷ 6 ∷ []) (pos 9 ∷ pos 9 ∷ [])
+    gives margins (given 2) (pos 0 ∷ negsuc 0 ∷ []))
+    ∷ ("margins of one length, asked twice" asks marginsOfFor (on 8) XShared XSummary (3 ∷ 4 ∷ 4 ∷ []) (4 ∷ 4 ∷ []) (pos 9 ∷ pos 9 ∷ [])
+    gives margins (given 2) (negsuc 1 ∷ negsuc 1 ∷ []))
+    ∷ ("no margin at all" asks marginsOfFor (on 8) XShared XSummary [] [] (pos 9 ∷ []) gives margins (given 0) (pos 9 ∷ []))
+    ∷ ("no margin needs its summary too" asks marginsOfFor (on 8) XShared hers [] [] (pos 9 ∷ []) gives margins (refused 14 0) (pos 9 ∷ []))
+    ∷ ("margins for no task" asks marginsOfFor (on 8) XShared XSummary [] (3 ∷ 7 ∷ []) (pos 9 ∷ pos 9 ∷ []) gives margins (given 2) (pos 0 ∷ pos 3 ∷ []))
+    ∷ ("12 before 4, margins" asks marginsOfFor (onAtLeast 8 0 2) XShared [] (1 ∷ []) [] (pos 9 ∷ []) gives margins (refused 12 3) (pos 9 ∷ []))
+    ∷ ("4 before 14" asks marginsOfFor (on 8) XShared [] (1 ∷ []) [] (pos 9 ∷ []) gives margins (refused 4 0) (pos 9 ∷ []))
+    ∷ ("5 before 14" asks marginsOfFor (on 8) XShared [] (1 ∷ 4 ∷ 4 ∷ 0 ∷ 4 ∷ 4 ∷ []) [] (pos 9 ∷ []) gives margins (refused 5 1) (pos 9 ∷ []))
+    ∷ ("14 before 7, margins" asks marginsOfFor (on 8) XShared hers [] (1000001 ∷ []) (pos 9 ∷ []) gives margins (refused 14 0) (pos 9 ∷ []))
+    ∷ ("one length too long" asks marginsOfFor (on 8) XShared XSummary [] (3 ∷ 1000001 ∷ 4 ∷ []) (pos 9 ∷ pos 9 ∷ pos 9 ∷ [])
+    gives margins (refused 7 0) (pos 9 ∷ pos 9 ∷ pos 9 ∷ []))
+    ∷ ("7 before 8, margins" asks marginsOfFor (on 8) XShared XSummary [] (1000001 ∷ 3 ∷ []) (pos 9 ∷ []) gives margins (refused 7 0) (pos 9 ∷ []))
+    ∷ ("margins without room" asks marginsOfFor (on 8) XShared XSummary [] (3 ∷ 4 ∷ 5 ∷ []) (pos 9 ∷ pos 9 ∷ []) gives margins (refused 8 3) (pos 9 ∷ pos 9 ∷ []))
+    -- edits: how many windows and numbers there are now, and both memories, the rest of each as it was. A window that is moved keeps its owner
+    ∷ ("another team's window moved" asks editOfFor (on 8) 4 XShared XSummary (move 1 2 4)
+    gives anEdit (given (record { windows = 4; numbers = 7 })) (0 ∷ 2 ∷ 0 ∷ 2 ∷ 4 ∷ 1 ∷ 5 ∷ 7 ∷ 0 ∷ 7 ∷ 8 ∷ 1 ∷ []) XSummary)
+    ∷ ("owner 1's window moved" asks editOfFor (onFor 8 1) 4 XShared hers (move 1 2 4)
+    gives anEdit (given (record { windows = 4; numbers = 7 })) (0 ∷ 2 ∷ 0 ∷ 2 ∷ 4 ∷ 1 ∷ 5 ∷ 7 ∷ 0 ∷ 7 ∷ 8 ∷ 1 ∷ []) (3 ∷ 10 ∷ 2 ∷ 3 ∷ 4 ∷ 6 ∷ 8 ∷ []))
+    ∷ ("the last window moved" asks editOfFor (on 8) 2 (0 ∷ 2 ∷ 0 ∷ 5 ∷ 7 ∷ 0 ∷ 9 ∷ []) XSummary (move 1 4 6)
+    gives anEdit (given (record { windows = 2; numbers = 7 })) (0 ∷ 2 ∷ 0 ∷ 4 ∷ 6 ∷ 0 ∷ 9 ∷ []) (4 ∷ 8 ∷ 2 ∷ 2 ∷ 4 ∷ 6 ∷ 8 ∷ []))
+    ∷ ("a window added in the middle"
+    asks editOfFor (on 8) 2 (0 ∷ 2 ∷ 0 ∷ 5 ∷ 7 ∷ 0 ∷ 9 ∷ 9 ∷ 9 ∷ 9 ∷ []) (4 ∷ 12 ∷ 2 ∷ 3 ∷ 5 ∷ 6 ∷ 8 ∷ 9 ∷ 9 ∷ 9 ∷ []) (add 1 3 4 0)
+    gives anEdit (given (record { windows = 3; numbers = 9 })) (0 ∷ 2 ∷ 0 ∷ 3 ∷ 4 ∷ 0 ∷ 5 ∷ 7 ∷ 0 ∷ 9 ∷ []) (5 ∷ 7 ∷ 3 ∷ 1 ∷ 2 ∷ 3 ∷ 5 ∷ 6 ∷ 8 ∷ 9 ∷ []))
+    ∷ ("another team's window added before the first" asks editOfFor (on 8) 1 (3 ∷ 5 ∷ 0 ∷ 9 ∷ 9 ∷ 9 ∷ []) oneSummary (add 0 0 3 1)
+    gives anEdit (given (record { windows = 2; numbers = 5 })) (0 ∷ 3 ∷ 1 ∷ 3 ∷ 5 ∷ 0 ∷ []) oneSummary)
+    ∷ ("a window added at the count" asks editOfFor (on 8) 1 (0 ∷ 2 ∷ 0 ∷ 9 ∷ 9 ∷ 9 ∷ []) (2 ∷ 12 ∷ 1 ∷ 6 ∷ 8 ∷ 9 ∷ 9 ∷ []) (add 1 5 7 0)
+    gives anEdit (given (record { windows = 2; numbers = 7 })) XAlone XSummary)
+    ∷ ("a window removed" asks editOfFor (on 8) 2 XAlone XSummary (remove 0)
+    gives anEdit (given (record { windows = 1; numbers = 5 })) (5 ∷ 7 ∷ 0 ∷ 5 ∷ 7 ∷ 0 ∷ []) oneAndRoom)
+    ∷ ("the last window removed" asks editOfFor (on 8) 2 XAlone XSummary (remove 1)
+    gives anEdit (given (record { windows = 1; numbers = 5 })) XAlone oneAndRoom)
+    -- windows after the count are room
+    ∷ ("another team's window removed" asks editOfFor (on 8) 3 XShared XSummary (remove 1)
+    gives anEdit (given (record { windows = 2; numbers = 7 })) (0 ∷ 2 ∷ 0 ∷ 5 ∷ 7 ∷ 0 ∷ 5 ∷ 7 ∷ 0 ∷ 7 ∷ 8 ∷ 1 ∷ []) XSummary)
+    ∷ ("a move that touches another team's window" asks editOfFor (on 8) 2 apart oneSummary (move 1 2 4)
+    gives anEdit (given (record { windows = 2; numbers = 5 })) (0 ∷ 2 ∷ 0 ∷ 2 ∷ 4 ∷ 1 ∷ []) oneSummary)
+    -- refused edits, which leave both memories as they were: an absent index
+    ∷ ("a summary of a window after the count too" asks editOfFor (on 8) 1 XAlone XSummary (remove 0) gives anEdit (refused 14 0) XAlone XSummary)
+    ∷ ("a window moved at the count" asks editOfFor (on 8) 1 XAlone oneAndRoom (move 1 5 7) gives anEdit (refused 7 0) XAlone oneAndRoom)
+    ∷ ("a window added above the count" asks editOfFor (on 8) 1 XAlone oneAndRoom (add 2 5 7 0) gives anEdit (refused 7 0) XAlone oneAndRoom)
+    ∷ ("a window removed at the count" asks editOfFor (on 8) 1 XAlone oneAndRoom (remove 1) gives anEdit (refused 7 0) XAlone oneAndRoom)
+    -- the table as it is, whole and before its summary: an edit can't repair it
+    ∷ ("a memory shorter than the count" asks editOfFor (on 8) 3 XAlone XSummary (remove 0) gives anEdit (refused 1 0) XAlone XSummary)
+    ∷ ("a memory one number short" asks editOfFor (on 8) 2 (0 ∷ 2 ∷ 0 ∷ 5 ∷ 7 ∷ []) XSummary (remove 1) gives anEdit (refused 1 0) (0 ∷ 2 ∷ 0 ∷ 5 ∷ 7 ∷ []) XSummary)
+    ∷ ("a count of 0" asks editOfFor (on 8) 0 XAlone XSummary (add 0 0 2 0) gives anEdit (refused 1 0) XAlone XSummary)
+    ∷ ("1 before 2, an edit" asks editOfFor (on 0) 3 XAlone [] (remove 0) gives anEdit (refused 1 0) XAlone [])
+    ∷ ("an edit can't repair 3" asks editOfFor (on 8) 2 (0 ∷ 2 ∷ 0 ∷ 2 ∷ 4 ∷ 0 ∷ []) oneSummary (remove 1)
+    gives anEdit (refused 3 1) (0 ∷ 2 ∷ 0 ∷ 2 ∷ 4 ∷ 0 ∷ []) oneSummary)
+    ∷ ("an edit can't repair 12" asks editOfFor (onAtLeast 8 0 2) 4 XShared XSummary (remove 3) gives anEdit (refused 12 3) XShared XSummary)
+    ∷ ("an edit can't bring an absent owner" asks editOfFor (onFor 8 1) 1 XAlone [] (add 1 5 7 1) gives anEdit (refused 1 0) XAlone [])
+    ∷ ("14 before 7, an edit" asks editOfFor (on 8) 2 XAlone oneSummary (remove 2) gives anEdit (refused 14 0) XAlone oneSummary)
+    -- the table as it would be
+    ∷ ("7 before the new table's 3" asks editOfFor (on 8) 2 XAlone XSummary (move 2 6 9) gives anEdit (refused 7 0) XAlone XSummary)
+    ∷ ("a move onto the window before" asks editOfFor (on 8) 2 XAlone XSummary (move 1 1 3) gives anEdit (refused 3 1) XAlone XSummary)
+    ∷ ("a move onto the window after" asks editOfFor (on 8) 2 XAlone XSummary (move 0 3 6) gives anEdit (refused 3 1) XAlone XSummary)
+    ∷ ("a move that touches an own window" asks editOfFor (on 8) 2 XAlone XSummary (move 1 2 4) gives anEdit (refused 3 1) XAlone XSummary)
+    ∷ ("a window of no owner added" asks editOfFor (on 8) 1 XAlone oneAndRoom (add 1 5 7 2) gives anEdit (refused 3 1) XAlone oneAndRoom)
+    ∷ ("the owner's last window removed" asks editOfFor (on 8) 2 apart oneSummary (remove 0) gives anEdit (refused 1 0) apart oneSummary)
+    ∷ ("the only window removed" asks editOfFor (on 8) 1 XAlone oneAndRoom (remove 0) gives anEdit (refused 1 0) XAlone oneAndRoom)
+    ∷ ("a move that leaves a sliver" asks editOfFor (onAtLeast 8 0 2) 2 XAlone XSummary (move 1 5 6) gives anEdit (refused 12 1) XAlone XSummary)
+    -- room for the windows, then for the summary
+    ∷ ("3 before an edit's 8" asks editOfFor (on 8) 2 XAlone XSummary (add 1 2 4 0) gives anEdit (refused 3 1) XAlone XSummary)
+    ∷ ("12 before an edit's 8" asks editOfFor (onAtLeast 8 0 2) 2 XAlone XSummary (add 1 3 4 1) gives anEdit (refused 12 1) XAlone XSummary)
+    ∷ ("an edit without room for the windows" asks editOfFor (on 8) 1 (0 ∷ 2 ∷ 0 ∷ 9 ∷ 9 ∷ []) oneSummary (add 1 5 7 0)
+    gives anEdit (refused 8 6) (0 ∷ 2 ∷ 0 ∷ 9 ∷ 9 ∷ []) oneSummary)
+    ∷ ("an edit without room for the summary" asks editOfFor (on 8) 1 XAlone (2 ∷ 12 ∷ 1 ∷ 6 ∷ 8 ∷ 9 ∷ []) (add 1 5 7 0)
+    gives anEdit (refused 8 7) XAlone (2 ∷ 12 ∷ 1 ∷ 6 ∷ 8 ∷ 9 ∷ []))
     -- of the four errors, W5 and W9 show two: here supply counted from tick 0 passes the first, and starts at window ends miss the second's least start
     ∷ ("supply from tick 0" asks verdictOf 8 X (2 ∷ 8 ∷ 3 ∷ []) gives aVerdict (given (miss 3 2 2 0)))
     ∷ ("starts at window ends" asks verdictOf 8 X (2 ∷ 4 ∷ 4 ∷ []) gives aVerdict (given (miss 4 1 2 1)))
@@ -454,7 +591,7 @@ Hold (e ∷ rows) = (reply (e .question) ≡ e .expected) × Hold rows
 pub examples : Hold table
 unfolding everything reply table
 examples =
-    (refl, (refl, (refl, (refl, (refl, (refl, (refl, (refl, (refl, (refl, (refl, (refl, (refl, (refl, (refl, (refl, (refl, (refl, (refl, (refl, (refl, (refl, (refl, (refl, (refl, (refl, (refl, (refl, (refl, (refl, (refl, (refl, (refl, (refl, (refl, (refl, (refl, (refl, (refl, (refl, (refl, (refl, (refl, (refl, (refl, (refl, (refl, (refl, (refl, (refl, (refl, (refl, (refl, (refl, (refl, (refl, (refl, (refl, (refl, (refl, (refl, (refl, (refl, (refl, (refl, (refl, (refl, (refl, (refl, (refl, (refl, (refl, (refl, (refl, (refl, (refl, (refl, (refl, (refl, (refl, (refl, (refl, (refl, (refl, (refl, (refl, (refl, (refl, (refl, (refl, (refl, (refl, (refl, (refl, (refl, (refl, (refl, (refl, (refl, (refl, (refl, (refl, (refl, (refl, (refl, (refl, (refl, (refl, (refl, (refl, (refl, (refl, (refl, (refl, (refl, (refl, (refl, (refl, (refl, (refl, (refl, (refl, (refl, (refl, (refl, (refl, (refl, (refl, (refl, (refl, (refl, (refl, (refl, (refl, (refl, (refl, (refl, (refl, (refl, (refl, (refl, (refl, (refl, (refl, (refl, (refl, (refl, (refl, (refl, (refl, (refl, (refl, (refl, (refl, (refl, (refl, (refl, (refl, (refl, (refl, (refl, (refl, (refl, (refl, (refl, (refl, (refl, (refl, (refl, (refl, (refl, (refl, (refl, (refl, (refl, (refl, (refl, (refl, (refl, (refl, (refl, (refl, (refl, tt)))))))))))))))))))))))))))))))))))))))))))))))))))))))))))))))))))))))))))))))))))))))))))))))))))))))))))))))))))))))))))))))))))))))))))))))))))))))))))))))))))))))))))))))))))))))
+    (refl, (refl, (refl, (refl, (refl, (refl, (refl, (refl, (refl, (refl, (refl, (refl, (refl, (refl, (refl, (refl, (refl, (refl, (refl, (refl, (refl, (refl, (refl, (refl, (refl, (refl, (refl, (refl, (refl, (refl, (refl, (refl, (refl, (refl, (refl, (refl, (refl, (refl, (refl, (refl, (refl, (refl, (refl, (refl, (refl, (refl, (refl, (refl, (refl, (refl, (refl, (refl, (refl, (refl, (refl, (refl, (refl, (refl, (refl, (refl, (refl, (refl, (refl, (refl, (refl, (refl, (refl, (refl, (refl, (refl, (refl, (refl, (refl, (refl, (refl, (refl, (refl, (refl, (refl, (refl, (refl, (refl, (refl, (refl, (refl, (refl, (refl, (refl, (refl, (refl, (refl, (refl, (refl, (refl, (refl, (refl, (refl, (refl, (refl, (refl, (refl, (refl, (refl, (refl, (refl, (refl, (refl, (refl, (refl, (refl, (refl, (refl, (refl, (refl, (refl, (refl, (refl, (refl, (refl, (refl, (refl, (refl, (refl, (refl, (refl, (refl, (refl, (refl, (refl, (refl, (refl, (refl, (refl, (refl, (refl, (refl, (refl, (refl, (refl, (refl, (refl, (refl, (refl, (refl, (refl, (refl, (refl, (refl, (refl, (refl, (refl, (refl, (refl, (refl, (refl, (refl, (refl, (refl, (refl, (refl, (refl, (refl, (refl, (refl, (refl, (refl, (refl, (refl, (refl, (refl, (refl, (refl, (refl, (refl, (refl, (refl, (refl, (refl, (refl, (refl, (refl, (refl, (refl, (refl, (refl, (refl, (refl, (refl, (refl, (refl, (refl, (refl, (refl, (refl, (refl, (refl, (refl, (refl, (refl, (refl, (refl, (refl, (refl, (refl, (refl, (refl, (refl, (refl, (refl, (refl, (refl, (refl, (refl, (refl, (refl, (refl, (refl, (refl, (refl, (refl, (refl, (refl, (refl, (refl, (refl, (refl, (refl, (refl, (refl, (refl, (refl, (refl, (refl, (refl, (refl, (refl, (refl, (refl, (refl, (refl, (refl, (refl, (refl, (refl, (refl, (refl, (refl, (refl, (refl, (refl, (refl, (refl, (refl, (refl, tt))))))))))))))))))))))))))))))))))))))))))))))))))))))))))))))))))))))))))))))))))))))))))))))))))))))))))))))))))))))))))))))))))))))))))))))))))))))))))))))))))))))))))))))))))))))))))))))))))))))))))))))))))))))))))))))))))))))))))))))))))))))))))))))
 
 -- ---- a row by its name
 
