@@ -184,27 +184,35 @@ XShared = 0 ∷ 2 ∷ 0 ∷ 2 ∷ 5 ∷ 1 ∷ 5 ∷ 7 ∷ 0 ∷ 7 ∷ 8 ∷ 1 �
 abbrev pub labShared : List ℕ
 labShared = 0 ∷ 3 ∷ 0 ∷ 3 ∷ 5 ∷ 1 ∷ 5 ∷ 8 ∷ 0 ∷ []
 
--- X as owner 0's, alone
-abbrev pub XAlone : List ℕ
-XAlone = 0 ∷ 2 ∷ 0 ∷ 5 ∷ 7 ∷ 0 ∷ []
-
--- its windows as two owners'
-abbrev pub apart : List ℕ
-apart = 0 ∷ 2 ∷ 0 ∷ 5 ∷ 7 ∷ 1 ∷ []
-
--- X's summary, that of the rest of its frame, and that of one window of two ticks in a frame of 8, wherever it is
+-- the summary of X, and that of the rest of its frame
 abbrev pub XSummary : List ℕ
 XSummary = 4 ∷ 12 ∷ 2 ∷ 3 ∷ 5 ∷ 6 ∷ 8 ∷ []
 
 abbrev pub hers : List ℕ
 hers = 4 ∷ 12 ∷ 2 ∷ 2 ∷ 3 ∷ 5 ∷ 8 ∷ []
 
-abbrev pub oneSummary : List ℕ
-oneSummary = 2 ∷ 12 ∷ 1 ∷ 6 ∷ 8 ∷ []
+-- two windows of owner 0, whose frame is 4, and their summary; the same windows of two owners; and two windows that share that frame
+abbrev pub Y : List ℕ
+Y = 0 ∷ 1 ∷ 0 ∷ 2 ∷ 3 ∷ 0 ∷ []
 
--- and that one in memory that has held X's
+abbrev pub YSummary : List ℕ
+YSummary = 2 ∷ 2 ∷ 2 ∷ 1 ∷ 2 ∷ 3 ∷ 4 ∷ []
+
+abbrev pub apart : List ℕ
+apart = 0 ∷ 1 ∷ 0 ∷ 2 ∷ 3 ∷ 1 ∷ []
+
+abbrev pub halves : List ℕ
+halves = 0 ∷ 2 ∷ 0 ∷ 2 ∷ 4 ∷ 1 ∷ []
+
+-- the summary of one window of one tick in that frame, wherever it is, the same where Y's was, and that of one of two ticks
+abbrev pub oneSummary : List ℕ
+oneSummary = 1 ∷ 3 ∷ 1 ∷ 3 ∷ 4 ∷ []
+
 abbrev pub oneAndRoom : List ℕ
-oneAndRoom = 2 ∷ 12 ∷ 1 ∷ 6 ∷ 8 ∷ 6 ∷ 8 ∷ []
+oneAndRoom = 1 ∷ 3 ∷ 1 ∷ 3 ∷ 4 ∷ 3 ∷ 4 ∷ []
+
+abbrev pub halfSummary : List ℕ
+halfSummary = 2 ∷ 4 ∷ 1 ∷ 2 ∷ 4 ∷ []
 
 -- n windows of owner 1, one tick each, every third tick from tick k on
 abbrev othersFrom : ℕ → ℕ → List ℕ
@@ -414,106 +422,103 @@ table =
     gives bytesIn (given 7) (172 ∷ 2 ∷ 8 ∷ 1 ∷ 0 ∷ 2 ∷ 0 ∷ 9 ∷ []))
     -- request 6: X's summary is A, the delay, the number of critical windows, (3,5) and (6,8); owner 1's critical windows are (2,3) and (5,8)
     ∷ ("X's summary" asks summaryMadeFor (on 8) XShared (9 ∷ 9 ∷ 9 ∷ 9 ∷ 9 ∷ 9 ∷ 9 ∷ 9 ∷ []) gives summary (given 7) (4 ∷ 12 ∷ 2 ∷ 3 ∷ 5 ∷ 6 ∷ 8 ∷ 9 ∷ []))
-    ∷ ("owner 1's summary" asks summaryMadeFor (onFor 8 1) XShared (9 ∷ 9 ∷ 9 ∷ 9 ∷ 9 ∷ 9 ∷ 9 ∷ []) gives summary (given 7) (4 ∷ 12 ∷ 2 ∷ 2 ∷ 3 ∷ 5 ∷ 8 ∷ []))
-    ∷ ("the whole frame's summary" asks summaryMadeFor (on 8) (0 ∷ 8 ∷ 0 ∷ []) (9 ∷ 9 ∷ 9 ∷ 9 ∷ 9 ∷ []) gives summary (given 5) (8 ∷ 0 ∷ 1 ∷ 0 ∷ 8 ∷ []))
-    ∷ ("a summary without room" asks summaryMadeFor (on 8) XShared (9 ∷ 9 ∷ 9 ∷ 9 ∷ 9 ∷ 9 ∷ []) gives summary (refused 8 7) (9 ∷ 9 ∷ 9 ∷ 9 ∷ 9 ∷ 9 ∷ []))
-    ∷ ("a summary without room for its count" asks summaryMadeFor (on 8) XShared (9 ∷ 9 ∷ []) gives summary (refused 8 7) (9 ∷ 9 ∷ []))
+    ∷ ("owner 1's summary" asks summaryMadeFor (onFor 8 1) XShared (9 ∷ 9 ∷ 9 ∷ 9 ∷ 9 ∷ 9 ∷ 9 ∷ []) gives summary (given 7) hers)
+    ∷ ("a whole frame's summary" asks summaryMadeFor (on 4) (0 ∷ 4 ∷ 0 ∷ []) (9 ∷ 9 ∷ 9 ∷ 9 ∷ 9 ∷ []) gives summary (given 5) (4 ∷ 0 ∷ 1 ∷ 0 ∷ 4 ∷ []))
+    ∷ ("a summary without room" asks summaryMadeFor (on 4) Y (9 ∷ 9 ∷ 9 ∷ 9 ∷ 9 ∷ 9 ∷ []) gives summary (refused 8 7) (9 ∷ 9 ∷ 9 ∷ 9 ∷ 9 ∷ 9 ∷ []))
+    ∷ ("a summary without room for its count" asks summaryMadeFor (on 4) Y (9 ∷ 9 ∷ []) gives summary (refused 8 7) (9 ∷ 9 ∷ []))
     ∷ ("12 before a summary's 8" asks summaryMadeFor (onAtLeast 8 0 2) XShared (9 ∷ []) gives summary (refused 12 3) (9 ∷ []))
-    ∷ ("an absent owner before a summary's 8" asks summaryMadeFor (onFor 8 1) (0 ∷ 2 ∷ 0 ∷ []) (9 ∷ []) gives summary (refused 1 0) (9 ∷ []))
+    ∷ ("an absent owner before a summary's 8" asks summaryMadeFor (onFor 4 1) Y (9 ∷ []) gives summary (refused 1 0) (9 ∷ []))
     -- least supply from a summary; what follows it in lent memory is not looked at
-    ∷ ("W1 from the summary" asks leastFromsFor (on 8) XShared XSummary (0 ∷ 1 ∷ 2 ∷ 3 ∷ 4 ∷ 5 ∷ 6 ∷ 7 ∷ 8 ∷ [])
-    gives amounts (map given (0 ∷ 0 ∷ 0 ∷ 0 ∷ 1 ∷ 2 ∷ 2 ∷ 3 ∷ 4 ∷ [])))
-    ∷ ("owner 1's least supply from the summary" asks leastFromsFor (onFor 8 1) XShared hers (1 ∷ 2 ∷ 3 ∷ 4 ∷ 5 ∷ 6 ∷ 7 ∷ 8 ∷ 14 ∷ [])
-    gives amounts (map given (0 ∷ 0 ∷ 1 ∷ 1 ∷ 1 ∷ 2 ∷ 3 ∷ 4 ∷ 6 ∷ [])))
-    ∷ ("the longest lengths from the summary" asks leastFromsFor (on 8) XShared XSummary (999999 ∷ 1000000 ∷ 1000001 ∷ [])
-    gives amounts (given 499999 ∷ given 500000 ∷ refused 7 0 ∷ []))
-    ∷ ("what follows a summary" asks leastFromsFor (on 8) XShared (4 ∷ 12 ∷ 2 ∷ 3 ∷ 5 ∷ 6 ∷ 8 ∷ 0 ∷ 1 ∷ []) (7 ∷ 15 ∷ []) gives amounts (given 3 ∷ given 7 ∷ []))
+    ∷ ("least supply from X's summary" asks leastFromsFor (on 8) XShared XSummary (0 ∷ 3 ∷ 8 ∷ 999999 ∷ 1000000 ∷ 1000001 ∷ [])
+    gives amounts (given 0 ∷ given 0 ∷ given 4 ∷ given 499999 ∷ given 500000 ∷ refused 7 0 ∷ []))
+    ∷ ("owner 1's, from the summary" asks leastFromsFor (onFor 8 1) XShared hers (5 ∷ 14 ∷ []) gives amounts (given 1 ∷ given 6 ∷ []))
+    ∷ ("least supply from Y's summary" asks leastFromsFor (on 4) Y YSummary (0 ∷ 1 ∷ 2 ∷ 3 ∷ 4 ∷ 5 ∷ 6 ∷ []) gives amounts (map given (0 ∷ 0 ∷ 1 ∷ 1 ∷ 2 ∷ 2 ∷ 3 ∷ [])))
+    ∷ ("what follows a summary" asks leastFromsFor (on 4) Y (2 ∷ 2 ∷ 2 ∷ 1 ∷ 2 ∷ 3 ∷ 4 ∷ 0 ∷ 1 ∷ []) (3 ∷ 7 ∷ []) gives amounts (given 1 ∷ given 3 ∷ []))
     -- a summary that does not belong to the windows: in one number, in its length, or another team's
-    ∷ ("a summary with another A" asks leastFromsFor (on 8) XShared (5 ∷ 12 ∷ 2 ∷ 3 ∷ 5 ∷ 6 ∷ 8 ∷ []) (3 ∷ []) gives amounts (refused 14 0 ∷ []))
-    ∷ ("a summary with another delay" asks leastFromsFor (on 8) XShared (4 ∷ 11 ∷ 2 ∷ 3 ∷ 5 ∷ 6 ∷ 8 ∷ []) (3 ∷ []) gives amounts (refused 14 0 ∷ []))
-    ∷ ("a summary with another count" asks leastFromsFor (on 8) XShared (4 ∷ 12 ∷ 1 ∷ 3 ∷ 5 ∷ 6 ∷ 8 ∷ []) (3 ∷ []) gives amounts (refused 14 0 ∷ []))
-    ∷ ("a summary with another first window" asks leastFromsFor (on 8) XShared (4 ∷ 12 ∷ 2 ∷ 2 ∷ 5 ∷ 6 ∷ 8 ∷ []) (3 ∷ []) gives amounts (refused 14 0 ∷ []))
-    ∷ ("a summary with another last number" asks leastFromsFor (on 8) XShared (4 ∷ 12 ∷ 2 ∷ 3 ∷ 5 ∷ 6 ∷ 7 ∷ []) (3 ∷ []) gives amounts (refused 14 0 ∷ []))
-    ∷ ("a summary one number short" asks leastFromsFor (on 8) XShared (4 ∷ 12 ∷ 2 ∷ 3 ∷ 5 ∷ 6 ∷ []) (3 ∷ []) gives amounts (refused 14 0 ∷ []))
-    ∷ ("an empty summary" asks leastFromsFor (on 8) XShared [] (3 ∷ []) gives amounts (refused 14 0 ∷ []))
-    ∷ ("another team's summary" asks leastFromsFor (on 8) XShared hers (3 ∷ []) gives amounts (refused 14 0 ∷ []))
-    ∷ ("X's summary to the other team" asks leastFromsFor (onFor 8 1) XShared XSummary (3 ∷ []) gives amounts (refused 14 0 ∷ []))
-    ∷ ("3 before 14" asks leastFromsFor (on 8) (0 ∷ 2 ∷ 0 ∷ 2 ∷ 4 ∷ 0 ∷ []) [] (3 ∷ []) gives amounts (refused 3 1 ∷ []))
-    ∷ ("an absent owner before 14" asks leastFromsFor (onFor 8 1) (0 ∷ 2 ∷ 0 ∷ []) [] (3 ∷ []) gives amounts (refused 1 0 ∷ []))
+    ∷ ("a summary with another A" asks leastFromsFor (on 4) Y (3 ∷ 2 ∷ 2 ∷ 1 ∷ 2 ∷ 3 ∷ 4 ∷ []) (3 ∷ []) gives amounts (refused 14 0 ∷ []))
+    ∷ ("a summary with another delay" asks leastFromsFor (on 4) Y (2 ∷ 3 ∷ 2 ∷ 1 ∷ 2 ∷ 3 ∷ 4 ∷ []) (3 ∷ []) gives amounts (refused 14 0 ∷ []))
+    ∷ ("a summary with another count" asks leastFromsFor (on 4) Y (2 ∷ 2 ∷ 1 ∷ 1 ∷ 2 ∷ 3 ∷ 4 ∷ []) (3 ∷ []) gives amounts (refused 14 0 ∷ []))
+    ∷ ("a summary with another first window" asks leastFromsFor (on 4) Y (2 ∷ 2 ∷ 2 ∷ 0 ∷ 2 ∷ 3 ∷ 4 ∷ []) (3 ∷ []) gives amounts (refused 14 0 ∷ []))
+    ∷ ("a summary with another last number" asks leastFromsFor (on 4) Y (2 ∷ 2 ∷ 2 ∷ 1 ∷ 2 ∷ 3 ∷ 3 ∷ []) (3 ∷ []) gives amounts (refused 14 0 ∷ []))
+    ∷ ("a summary one number short" asks leastFromsFor (on 4) Y (2 ∷ 2 ∷ 2 ∷ 1 ∷ 2 ∷ 3 ∷ []) (3 ∷ []) gives amounts (refused 14 0 ∷ []))
+    ∷ ("an empty summary" asks leastFromsFor (on 4) Y [] (3 ∷ []) gives amounts (refused 14 0 ∷ []))
+    ∷ ("X's summary for the other team" asks leastFromsFor (onFor 8 1) XShared XSummary (3 ∷ []) gives amounts (refused 14 0 ∷ []))
+    ∷ ("3 before 14" asks leastFromsFor (on 4) (0 ∷ 1 ∷ 0 ∷ 1 ∷ 2 ∷ 0 ∷ []) [] (3 ∷ []) gives amounts (refused 3 1 ∷ []))
+    ∷ ("an absent owner before 14" asks leastFromsFor (onFor 4 1) Y YSummary (3 ∷ []) gives amounts (refused 1 0 ∷ []))
     ∷ ("12 before 14" asks leastFromsFor (onAtLeast 8 0 2) XShared [] (3 ∷ []) gives amounts (refused 12 3 ∷ []))
-    ∷ ("14 before 7" asks leastFromsFor (on 8) XShared hers (1000001 ∷ []) gives amounts (refused 14 0 ∷ []))
-    -- margins from a summary, one a length; negsuc 1 is −2
-    ∷ ("W6's margins from the summary" asks marginsOfFor (on 8) XShared XSummary (1 ∷ 4 ∷ 4 ∷ 2 ∷ 8 ∷ 6 ∷ []) (6 ∷ 5 ∷ 8 ∷ 999999 ∷ []) (pos 9 ∷ pos 9 ∷ pos 9 ∷ pos 9 ∷ pos 9 ∷ [])
+    ∷ ("14 before 7" asks leastFromsFor (on 4) Y [] (1000001 ∷ []) gives amounts (refused 14 0 ∷ []))
+    -- margins from a summary, one a length: W1 where no task asks for anything, and W6's; negsuc 1 is −2
+    ∷ ("W1, from the summary" asks marginsOfFor (on 8) XShared XSummary [] (0 ∷ 1 ∷ 2 ∷ 3 ∷ 4 ∷ 5 ∷ 6 ∷ 7 ∷ 8 ∷ []) (replicate 9 (pos 9))
+    gives margins (given 9) (map pos (0 ∷ 0 ∷ 0 ∷ 0 ∷ 1 ∷ 2 ∷ 2 ∷ 3 ∷ 4 ∷ [])))
+    ∷ ("W6's margins, from the summary" asks marginsOfFor (on 8) XShared XSummary (1 ∷ 4 ∷ 4 ∷ 2 ∷ 8 ∷ 6 ∷ []) (6 ∷ 5 ∷ 8 ∷ 999999 ∷ []) (replicate 5 (pos 9))
     gives margins (given 4) (negsuc 0 ∷ pos 1 ∷ pos 0 ∷ pos 0 ∷ pos 9 ∷ []))
-    ∷ ("owner 1's margins from the summary" asks marginsOfFor (onFor 8 1) XShared hers (1 ∷ 4 ∷ 4 ∷ 2 ∷ 8 ∷ 6 ∷ []) (5 ∷ 6 ∷ []) (pos 9 ∷ pos 9 ∷ [])
+    ∷ ("W6's margins as owner 1's" asks marginsOfFor (onFor 8 1) XShared hers (1 ∷ 4 ∷ 4 ∷ 2 ∷ 8 ∷ 6 ∷ []) (5 ∷ 6 ∷ []) (pos 9 ∷ pos 9 ∷ [])
     gives margins (given 2) (pos 0 ∷ negsuc 0 ∷ []))
-    ∷ ("margins of one length, asked twice" asks marginsOfFor (on 8) XShared XSummary (3 ∷ 4 ∷ 4 ∷ []) (4 ∷ 4 ∷ []) (pos 9 ∷ pos 9 ∷ [])
-    gives margins (given 2) (negsuc 1 ∷ negsuc 1 ∷ []))
-    ∷ ("no margin at all" asks marginsOfFor (on 8) XShared XSummary [] [] (pos 9 ∷ []) gives margins (given 0) (pos 9 ∷ []))
-    ∷ ("no margin needs its summary too" asks marginsOfFor (on 8) XShared hers [] [] (pos 9 ∷ []) gives margins (refused 14 0) (pos 9 ∷ []))
-    ∷ ("margins for no task" asks marginsOfFor (on 8) XShared XSummary [] (3 ∷ 7 ∷ []) (pos 9 ∷ pos 9 ∷ []) gives margins (given 2) (pos 0 ∷ pos 3 ∷ []))
-    ∷ ("12 before 4, margins" asks marginsOfFor (onAtLeast 8 0 2) XShared [] (1 ∷ []) [] (pos 9 ∷ []) gives margins (refused 12 3) (pos 9 ∷ []))
-    ∷ ("4 before 14" asks marginsOfFor (on 8) XShared [] (1 ∷ []) [] (pos 9 ∷ []) gives margins (refused 4 0) (pos 9 ∷ []))
-    ∷ ("5 before 14" asks marginsOfFor (on 8) XShared [] (1 ∷ 4 ∷ 4 ∷ 0 ∷ 4 ∷ 4 ∷ []) [] (pos 9 ∷ []) gives margins (refused 5 1) (pos 9 ∷ []))
-    ∷ ("14 before 7, margins" asks marginsOfFor (on 8) XShared hers [] (1000001 ∷ []) (pos 9 ∷ []) gives margins (refused 14 0) (pos 9 ∷ []))
-    ∷ ("one length too long" asks marginsOfFor (on 8) XShared XSummary [] (3 ∷ 1000001 ∷ 4 ∷ []) (pos 9 ∷ pos 9 ∷ pos 9 ∷ [])
-    gives margins (refused 7 0) (pos 9 ∷ pos 9 ∷ pos 9 ∷ []))
-    ∷ ("7 before 8, margins" asks marginsOfFor (on 8) XShared XSummary [] (1000001 ∷ 3 ∷ []) (pos 9 ∷ []) gives margins (refused 7 0) (pos 9 ∷ []))
-    ∷ ("margins without room" asks marginsOfFor (on 8) XShared XSummary [] (3 ∷ 4 ∷ 5 ∷ []) (pos 9 ∷ pos 9 ∷ []) gives margins (refused 8 3) (pos 9 ∷ pos 9 ∷ []))
+    ∷ ("a length asked twice" asks marginsOfFor (on 4) Y YSummary (4 ∷ 4 ∷ 4 ∷ []) (4 ∷ 4 ∷ []) (pos 9 ∷ pos 9 ∷ []) gives margins (given 2) (negsuc 1 ∷ negsuc 1 ∷ []))
+    ∷ ("no length at all" asks marginsOfFor (on 4) Y YSummary [] [] (pos 9 ∷ []) gives margins (given 0) (pos 9 ∷ []))
+    ∷ ("14 without a length" asks marginsOfFor (on 4) Y [] [] [] (pos 9 ∷ []) gives margins (refused 14 0) (pos 9 ∷ []))
+    ∷ ("12 before 4, margins" asks marginsOfFor (onAtLeast 4 0 2) Y [] (1 ∷ []) [] (pos 9 ∷ []) gives margins (refused 12 0) (pos 9 ∷ []))
+    ∷ ("4 before 14" asks marginsOfFor (on 4) Y [] (1 ∷ []) [] (pos 9 ∷ []) gives margins (refused 4 0) (pos 9 ∷ []))
+    ∷ ("5 before 14" asks marginsOfFor (on 4) Y [] (1 ∷ 4 ∷ 4 ∷ 0 ∷ 4 ∷ 4 ∷ []) [] (pos 9 ∷ []) gives margins (refused 5 1) (pos 9 ∷ []))
+    ∷ ("14 before 7, margins" asks marginsOfFor (on 4) Y [] [] (1000001 ∷ []) (pos 9 ∷ []) gives margins (refused 14 0) (pos 9 ∷ []))
+    ∷ ("one length too long" asks marginsOfFor (on 4) Y YSummary [] (3 ∷ 1000001 ∷ 4 ∷ []) (replicate 3 (pos 9)) gives margins (refused 7 0) (replicate 3 (pos 9)))
+    ∷ ("7 before 8, margins" asks marginsOfFor (on 4) Y YSummary [] (1000001 ∷ 3 ∷ []) (pos 9 ∷ []) gives margins (refused 7 0) (pos 9 ∷ []))
+    ∷ ("margins without room" asks marginsOfFor (on 4) Y YSummary [] (3 ∷ 4 ∷ 5 ∷ []) (pos 9 ∷ pos 9 ∷ []) gives margins (refused 8 3) (pos 9 ∷ pos 9 ∷ []))
     -- edits: how many windows and numbers there are now, and both memories, the rest of each as it was. A window that is moved keeps its owner
-    ∷ ("another team's window moved" asks editOfFor (on 8) 4 XShared XSummary (move 1 2 4)
-    gives anEdit (given (record { windows = 4; numbers = 7 })) (0 ∷ 2 ∷ 0 ∷ 2 ∷ 4 ∷ 1 ∷ 5 ∷ 7 ∷ 0 ∷ 7 ∷ 8 ∷ 1 ∷ []) XSummary)
     ∷ ("owner 1's window moved" asks editOfFor (onFor 8 1) 4 XShared hers (move 1 2 4)
     gives anEdit (given (record { windows = 4; numbers = 7 })) (0 ∷ 2 ∷ 0 ∷ 2 ∷ 4 ∷ 1 ∷ 5 ∷ 7 ∷ 0 ∷ 7 ∷ 8 ∷ 1 ∷ []) (3 ∷ 10 ∷ 2 ∷ 3 ∷ 4 ∷ 6 ∷ 8 ∷ []))
-    ∷ ("the last window moved" asks editOfFor (on 8) 2 (0 ∷ 2 ∷ 0 ∷ 5 ∷ 7 ∷ 0 ∷ 9 ∷ []) XSummary (move 1 4 6)
-    gives anEdit (given (record { windows = 2; numbers = 7 })) (0 ∷ 2 ∷ 0 ∷ 4 ∷ 6 ∷ 0 ∷ 9 ∷ []) (4 ∷ 8 ∷ 2 ∷ 2 ∷ 4 ∷ 6 ∷ 8 ∷ []))
-    ∷ ("a window added in the middle"
+    ∷ ("another team's window moved" asks editOfFor (on 4) 2 apart oneSummary (move 1 3 4)
+    gives anEdit (given (record { windows = 2; numbers = 5 })) (0 ∷ 1 ∷ 0 ∷ 3 ∷ 4 ∷ 1 ∷ []) oneSummary)
+    ∷ ("a move that touches another team's window" asks editOfFor (on 4) 2 apart oneSummary (move 1 1 2)
+    gives anEdit (given (record { windows = 2; numbers = 5 })) (0 ∷ 1 ∷ 0 ∷ 1 ∷ 2 ∷ 1 ∷ []) oneSummary)
+    ∷ ("a move to a shorter summary" asks editOfFor (on 4) 2 (0 ∷ 1 ∷ 0 ∷ 2 ∷ 3 ∷ 0 ∷ 9 ∷ []) YSummary (move 1 2 4)
+    gives anEdit (given (record { windows = 2; numbers = 5 })) (0 ∷ 1 ∷ 0 ∷ 2 ∷ 4 ∷ 0 ∷ 9 ∷ []) (3 ∷ 3 ∷ 1 ∷ 1 ∷ 4 ∷ 3 ∷ 4 ∷ []))
+    ∷ ("a window added to X"
     asks editOfFor (on 8) 2 (0 ∷ 2 ∷ 0 ∷ 5 ∷ 7 ∷ 0 ∷ 9 ∷ 9 ∷ 9 ∷ 9 ∷ []) (4 ∷ 12 ∷ 2 ∷ 3 ∷ 5 ∷ 6 ∷ 8 ∷ 9 ∷ 9 ∷ 9 ∷ []) (add 1 3 4 0)
     gives anEdit (given (record { windows = 3; numbers = 9 })) (0 ∷ 2 ∷ 0 ∷ 3 ∷ 4 ∷ 0 ∷ 5 ∷ 7 ∷ 0 ∷ 9 ∷ []) (5 ∷ 7 ∷ 3 ∷ 1 ∷ 2 ∷ 3 ∷ 5 ∷ 6 ∷ 8 ∷ 9 ∷ []))
-    ∷ ("another team's window added before the first" asks editOfFor (on 8) 1 (3 ∷ 5 ∷ 0 ∷ 9 ∷ 9 ∷ 9 ∷ []) oneSummary (add 0 0 3 1)
-    gives anEdit (given (record { windows = 2; numbers = 5 })) (0 ∷ 3 ∷ 1 ∷ 3 ∷ 5 ∷ 0 ∷ []) oneSummary)
-    ∷ ("a window added at the count" asks editOfFor (on 8) 1 (0 ∷ 2 ∷ 0 ∷ 9 ∷ 9 ∷ 9 ∷ []) (2 ∷ 12 ∷ 1 ∷ 6 ∷ 8 ∷ 9 ∷ 9 ∷ []) (add 1 5 7 0)
-    gives anEdit (given (record { windows = 2; numbers = 7 })) XAlone XSummary)
-    ∷ ("a window removed" asks editOfFor (on 8) 2 XAlone XSummary (remove 0)
-    gives anEdit (given (record { windows = 1; numbers = 5 })) (5 ∷ 7 ∷ 0 ∷ 5 ∷ 7 ∷ 0 ∷ []) oneAndRoom)
-    ∷ ("the last window removed" asks editOfFor (on 8) 2 XAlone XSummary (remove 1)
-    gives anEdit (given (record { windows = 1; numbers = 5 })) XAlone oneAndRoom)
+    ∷ ("another team's window added" asks editOfFor (on 4) 2 (0 ∷ 1 ∷ 0 ∷ 2 ∷ 3 ∷ 0 ∷ 9 ∷ 9 ∷ 9 ∷ []) YSummary (add 1 1 2 1)
+    gives anEdit (given (record { windows = 3; numbers = 7 })) (0 ∷ 1 ∷ 0 ∷ 1 ∷ 2 ∷ 1 ∷ 2 ∷ 3 ∷ 0 ∷ []) YSummary)
+    ∷ ("a window added before the first" asks editOfFor (on 4) 1 (2 ∷ 3 ∷ 0 ∷ 9 ∷ 9 ∷ 9 ∷ []) (1 ∷ 3 ∷ 1 ∷ 3 ∷ 4 ∷ 9 ∷ 9 ∷ []) (add 0 0 1 0)
+    gives anEdit (given (record { windows = 2; numbers = 7 })) Y YSummary)
+    ∷ ("a window added at the count" asks editOfFor (on 4) 1 (0 ∷ 1 ∷ 0 ∷ 9 ∷ 9 ∷ 9 ∷ []) (1 ∷ 3 ∷ 1 ∷ 3 ∷ 4 ∷ 9 ∷ 9 ∷ []) (add 1 2 3 0)
+    gives anEdit (given (record { windows = 2; numbers = 7 })) Y YSummary)
+    ∷ ("a window removed" asks editOfFor (on 4) 2 Y YSummary (remove 0)
+    gives anEdit (given (record { windows = 1; numbers = 5 })) (2 ∷ 3 ∷ 0 ∷ 2 ∷ 3 ∷ 0 ∷ []) oneAndRoom)
+    ∷ ("the last window removed" asks editOfFor (on 4) 2 Y YSummary (remove 1) gives anEdit (given (record { windows = 1; numbers = 5 })) Y oneAndRoom)
     -- windows after the count are room
-    ∷ ("another team's window removed" asks editOfFor (on 8) 3 XShared XSummary (remove 1)
-    gives anEdit (given (record { windows = 2; numbers = 7 })) (0 ∷ 2 ∷ 0 ∷ 5 ∷ 7 ∷ 0 ∷ 5 ∷ 7 ∷ 0 ∷ 7 ∷ 8 ∷ 1 ∷ []) XSummary)
-    ∷ ("a move that touches another team's window" asks editOfFor (on 8) 2 apart oneSummary (move 1 2 4)
-    gives anEdit (given (record { windows = 2; numbers = 5 })) (0 ∷ 2 ∷ 0 ∷ 2 ∷ 4 ∷ 1 ∷ []) oneSummary)
-    -- refused edits, which leave both memories as they were: an absent index
-    ∷ ("a summary of a window after the count too" asks editOfFor (on 8) 1 XAlone XSummary (remove 0) gives anEdit (refused 14 0) XAlone XSummary)
-    ∷ ("a window moved at the count" asks editOfFor (on 8) 1 XAlone oneAndRoom (move 1 5 7) gives anEdit (refused 7 0) XAlone oneAndRoom)
-    ∷ ("a window added above the count" asks editOfFor (on 8) 1 XAlone oneAndRoom (add 2 5 7 0) gives anEdit (refused 7 0) XAlone oneAndRoom)
-    ∷ ("a window removed at the count" asks editOfFor (on 8) 1 XAlone oneAndRoom (remove 1) gives anEdit (refused 7 0) XAlone oneAndRoom)
-    -- the table as it is, whole and before its summary: an edit can't repair it
-    ∷ ("a memory shorter than the count" asks editOfFor (on 8) 3 XAlone XSummary (remove 0) gives anEdit (refused 1 0) XAlone XSummary)
-    ∷ ("a memory one number short" asks editOfFor (on 8) 2 (0 ∷ 2 ∷ 0 ∷ 5 ∷ 7 ∷ []) XSummary (remove 1) gives anEdit (refused 1 0) (0 ∷ 2 ∷ 0 ∷ 5 ∷ 7 ∷ []) XSummary)
-    ∷ ("a count of 0" asks editOfFor (on 8) 0 XAlone XSummary (add 0 0 2 0) gives anEdit (refused 1 0) XAlone XSummary)
-    ∷ ("1 before 2, an edit" asks editOfFor (on 0) 3 XAlone [] (remove 0) gives anEdit (refused 1 0) XAlone [])
-    ∷ ("an edit can't repair 3" asks editOfFor (on 8) 2 (0 ∷ 2 ∷ 0 ∷ 2 ∷ 4 ∷ 0 ∷ []) oneSummary (remove 1)
-    gives anEdit (refused 3 1) (0 ∷ 2 ∷ 0 ∷ 2 ∷ 4 ∷ 0 ∷ []) oneSummary)
-    ∷ ("an edit can't repair 12" asks editOfFor (onAtLeast 8 0 2) 4 XShared XSummary (remove 3) gives anEdit (refused 12 3) XShared XSummary)
-    ∷ ("an edit can't bring an absent owner" asks editOfFor (onFor 8 1) 1 XAlone [] (add 1 5 7 1) gives anEdit (refused 1 0) XAlone [])
-    ∷ ("14 before 7, an edit" asks editOfFor (on 8) 2 XAlone oneSummary (remove 2) gives anEdit (refused 14 0) XAlone oneSummary)
+    ∷ ("another team's window removed" asks editOfFor (on 4) 3 (0 ∷ 1 ∷ 0 ∷ 1 ∷ 2 ∷ 1 ∷ 2 ∷ 3 ∷ 0 ∷ 3 ∷ 4 ∷ 1 ∷ []) YSummary (remove 1)
+    gives anEdit (given (record { windows = 2; numbers = 7 })) (0 ∷ 1 ∷ 0 ∷ 2 ∷ 3 ∷ 0 ∷ 2 ∷ 3 ∷ 0 ∷ 3 ∷ 4 ∷ 1 ∷ []) YSummary)
+    ∷ ("a summary of a window after the count too" asks editOfFor (on 4) 1 Y YSummary (add 1 2 3 0) gives anEdit (refused 14 0) Y YSummary)
+    -- refused edits leave both memories as they were. An absent index
+    ∷ ("a window moved at the count" asks editOfFor (on 4) 1 Y oneAndRoom (move 1 2 3) gives anEdit (refused 7 0) Y oneAndRoom)
+    ∷ ("a window added above the count" asks editOfFor (on 4) 1 Y oneAndRoom (add 2 2 3 0) gives anEdit (refused 7 0) Y oneAndRoom)
+    ∷ ("a window removed at the count" asks editOfFor (on 4) 1 Y oneAndRoom (remove 1) gives anEdit (refused 7 0) Y oneAndRoom)
+    -- the table as it is, whole, before its summary: an edit can't repair it
+    ∷ ("a memory shorter than the count" asks editOfFor (on 4) 3 Y YSummary (remove 0) gives anEdit (refused 1 0) Y YSummary)
+    ∷ ("a memory one number short" asks editOfFor (on 4) 2 (0 ∷ 1 ∷ 0 ∷ 2 ∷ 3 ∷ []) YSummary (remove 1) gives anEdit (refused 1 0) (0 ∷ 1 ∷ 0 ∷ 2 ∷ 3 ∷ []) YSummary)
+    ∷ ("a count of 0" asks editOfFor (on 4) 0 Y YSummary (add 0 0 1 0) gives anEdit (refused 1 0) Y YSummary)
+    ∷ ("1 before 2, an edit" asks editOfFor (on 0) 3 Y YSummary (remove 0) gives anEdit (refused 1 0) Y YSummary)
+    ∷ ("3 before 14, an edit" asks editOfFor (on 4) 2 (0 ∷ 1 ∷ 0 ∷ 1 ∷ 2 ∷ 0 ∷ []) oneSummary (remove 1)
+    gives anEdit (refused 3 1) (0 ∷ 1 ∷ 0 ∷ 1 ∷ 2 ∷ 0 ∷ []) oneSummary)
+    ∷ ("an absent owner before 14, an edit" asks editOfFor (onFor 4 1) 1 Y oneAndRoom (add 1 2 3 1) gives anEdit (refused 1 0) Y oneAndRoom)
+    ∷ ("12 before 14, an edit" asks editOfFor (onAtLeast 8 0 2) 4 XShared XSummary (remove 3) gives anEdit (refused 12 3) XShared XSummary)
+    ∷ ("14 before 7, an edit" asks editOfFor (on 4) 2 Y oneSummary (remove 2) gives anEdit (refused 14 0) Y oneSummary)
     -- the table as it would be
-    ∷ ("7 before the new table's 3" asks editOfFor (on 8) 2 XAlone XSummary (move 2 6 9) gives anEdit (refused 7 0) XAlone XSummary)
-    ∷ ("a move onto the window before" asks editOfFor (on 8) 2 XAlone XSummary (move 1 1 3) gives anEdit (refused 3 1) XAlone XSummary)
-    ∷ ("a move onto the window after" asks editOfFor (on 8) 2 XAlone XSummary (move 0 3 6) gives anEdit (refused 3 1) XAlone XSummary)
-    ∷ ("a move that touches an own window" asks editOfFor (on 8) 2 XAlone XSummary (move 1 2 4) gives anEdit (refused 3 1) XAlone XSummary)
-    ∷ ("a window of no owner added" asks editOfFor (on 8) 1 XAlone oneAndRoom (add 1 5 7 2) gives anEdit (refused 3 1) XAlone oneAndRoom)
-    ∷ ("the owner's last window removed" asks editOfFor (on 8) 2 apart oneSummary (remove 0) gives anEdit (refused 1 0) apart oneSummary)
-    ∷ ("the only window removed" asks editOfFor (on 8) 1 XAlone oneAndRoom (remove 0) gives anEdit (refused 1 0) XAlone oneAndRoom)
-    ∷ ("a move that leaves a sliver" asks editOfFor (onAtLeast 8 0 2) 2 XAlone XSummary (move 1 5 6) gives anEdit (refused 12 1) XAlone XSummary)
+    ∷ ("7 before the new table's 3" asks editOfFor (on 4) 2 Y YSummary (move 2 2 5) gives anEdit (refused 7 0) Y YSummary)
+    ∷ ("a move onto the window before" asks editOfFor (on 4) 2 Y YSummary (move 1 0 2) gives anEdit (refused 3 1) Y YSummary)
+    ∷ ("a move onto the window after" asks editOfFor (on 4) 2 Y YSummary (move 0 1 3) gives anEdit (refused 3 1) Y YSummary)
+    ∷ ("a move that touches an own window" asks editOfFor (on 4) 2 Y YSummary (move 1 1 2) gives anEdit (refused 3 1) Y YSummary)
+    ∷ ("a window of no owner added" asks editOfFor (on 4) 1 Y oneAndRoom (add 1 2 3 2) gives anEdit (refused 3 1) Y oneAndRoom)
+    ∷ ("the owner's last window removed" asks editOfFor (on 4) 2 apart oneSummary (remove 0) gives anEdit (refused 1 0) apart oneSummary)
+    ∷ ("the only window removed" asks editOfFor (on 4) 1 Y oneAndRoom (remove 0) gives anEdit (refused 1 0) Y oneAndRoom)
+    ∷ ("a move that leaves a sliver" asks editOfFor (onAtLeast 4 0 2) 2 halves halfSummary (move 1 2 3) gives anEdit (refused 12 1) halves halfSummary)
     -- room for the windows, then for the summary
-    ∷ ("3 before an edit's 8" asks editOfFor (on 8) 2 XAlone XSummary (add 1 2 4 0) gives anEdit (refused 3 1) XAlone XSummary)
-    ∷ ("12 before an edit's 8" asks editOfFor (onAtLeast 8 0 2) 2 XAlone XSummary (add 1 3 4 1) gives anEdit (refused 12 1) XAlone XSummary)
-    ∷ ("an edit without room for the windows" asks editOfFor (on 8) 1 (0 ∷ 2 ∷ 0 ∷ 9 ∷ 9 ∷ []) oneSummary (add 1 5 7 0)
-    gives anEdit (refused 8 6) (0 ∷ 2 ∷ 0 ∷ 9 ∷ 9 ∷ []) oneSummary)
-    ∷ ("an edit without room for the summary" asks editOfFor (on 8) 1 XAlone (2 ∷ 12 ∷ 1 ∷ 6 ∷ 8 ∷ 9 ∷ []) (add 1 5 7 0)
-    gives anEdit (refused 8 7) XAlone (2 ∷ 12 ∷ 1 ∷ 6 ∷ 8 ∷ 9 ∷ []))
+    ∷ ("3 before 8, an edit" asks editOfFor (on 4) 2 Y YSummary (add 1 1 2 0) gives anEdit (refused 3 1) Y YSummary)
+    ∷ ("12 before 8, an edit" asks editOfFor (onAtLeast 4 0 2) 1 (0 ∷ 2 ∷ 0 ∷ []) halfSummary (add 1 3 4 1) gives anEdit (refused 12 1) (0 ∷ 2 ∷ 0 ∷ []) halfSummary)
+    ∷ ("an edit without room for the windows" asks editOfFor (on 4) 1 (0 ∷ 1 ∷ 0 ∷ 9 ∷ 9 ∷ []) oneSummary (add 1 2 3 0)
+    gives anEdit (refused 8 6) (0 ∷ 1 ∷ 0 ∷ 9 ∷ 9 ∷ []) oneSummary)
+    ∷ ("an edit without room for the summary" asks editOfFor (on 4) 1 Y (1 ∷ 3 ∷ 1 ∷ 3 ∷ 4 ∷ 9 ∷ []) (add 1 2 3 0)
+    gives anEdit (refused 8 7) Y (1 ∷ 3 ∷ 1 ∷ 3 ∷ 4 ∷ 9 ∷ []))
     -- of the four errors, W5 and W9 show two: here supply counted from tick 0 passes the first, and starts at window ends miss the second's least start
     ∷ ("supply from tick 0" asks verdictOf 8 X (2 ∷ 8 ∷ 3 ∷ []) gives aVerdict (given (miss 3 2 2 0)))
     ∷ ("starts at window ends" asks verdictOf 8 X (2 ∷ 4 ∷ 4 ∷ []) gives aVerdict (given (miss 4 1 2 1)))
