@@ -429,10 +429,10 @@ table =
     ∷ ("12 before a summary's 8" asks summaryMadeFor (onAtLeast 8 0 2) XShared (9 ∷ []) gives summary (refused 12 3) (9 ∷ []))
     ∷ ("an absent owner before a summary's 8" asks summaryMadeFor (onFor 4 1) Y (9 ∷ []) gives summary (refused 1 0) (9 ∷ []))
     -- least supply from a summary; what follows it in lent memory is not looked at
-    ∷ ("least supply from X's summary" asks leastFromsFor (on 8) XShared XSummary (0 ∷ 3 ∷ 8 ∷ 999999 ∷ 1000000 ∷ 1000001 ∷ [])
-    gives amounts (given 0 ∷ given 0 ∷ given 4 ∷ given 499999 ∷ given 500000 ∷ refused 7 0 ∷ []))
-    ∷ ("owner 1's, from the summary" asks leastFromsFor (onFor 8 1) XShared hers (5 ∷ 14 ∷ []) gives amounts (given 1 ∷ given 6 ∷ []))
-    ∷ ("least supply from Y's summary" asks leastFromsFor (on 4) Y YSummary (0 ∷ 1 ∷ 2 ∷ 3 ∷ 4 ∷ 5 ∷ 6 ∷ []) gives amounts (map given (0 ∷ 0 ∷ 1 ∷ 1 ∷ 2 ∷ 2 ∷ 3 ∷ [])))
+    ∷ ("least supply from X's summary" asks leastFromsFor (on 8) XShared XSummary (3 ∷ 15 ∷ []) gives amounts (given 0 ∷ given 7 ∷ []))
+    ∷ ("least supply from owner 1's" asks leastFromsFor (onFor 8 1) XShared hers (14 ∷ []) gives amounts (given 6 ∷ []))
+    ∷ ("least supply from Y's summary" asks leastFromsFor (on 4) Y YSummary (0 ∷ 1 ∷ 2 ∷ 3 ∷ 4 ∷ 5 ∷ 6 ∷ 999999 ∷ 1000000 ∷ 1000001 ∷ [])
+    gives amounts (given 0 ∷ given 0 ∷ given 1 ∷ given 1 ∷ given 2 ∷ given 2 ∷ given 3 ∷ given 499999 ∷ given 500000 ∷ refused 7 0 ∷ []))
     ∷ ("what follows a summary" asks leastFromsFor (on 4) Y (2 ∷ 2 ∷ 2 ∷ 1 ∷ 2 ∷ 3 ∷ 4 ∷ 0 ∷ 1 ∷ []) (3 ∷ 7 ∷ []) gives amounts (given 1 ∷ given 3 ∷ []))
     -- a summary that does not belong to the windows: in one number, in its length, or another team's
     ∷ ("a summary with another A" asks leastFromsFor (on 4) Y (3 ∷ 2 ∷ 2 ∷ 1 ∷ 2 ∷ 3 ∷ 4 ∷ []) (3 ∷ []) gives amounts (refused 14 0 ∷ []))
@@ -448,8 +448,8 @@ table =
     ∷ ("12 before 14" asks leastFromsFor (onAtLeast 8 0 2) XShared [] (3 ∷ []) gives amounts (refused 12 3 ∷ []))
     ∷ ("14 before 7" asks leastFromsFor (on 4) Y [] (1000001 ∷ []) gives amounts (refused 14 0 ∷ []))
     -- margins from a summary, one a length: W1 where no task asks for anything, and W6's; negsuc 1 is −2
-    ∷ ("W1, from the summary" asks marginsOfFor (on 8) XShared XSummary [] (0 ∷ 1 ∷ 2 ∷ 3 ∷ 4 ∷ 5 ∷ 6 ∷ 7 ∷ 8 ∷ []) (replicate 9 (pos 9))
-    gives margins (given 9) (map pos (0 ∷ 0 ∷ 0 ∷ 0 ∷ 1 ∷ 2 ∷ 2 ∷ 3 ∷ 4 ∷ [])))
+    ∷ ("W1, from the summary" asks marginsOfFor (on 8) XShared XSummary [] (0 ∷ 1 ∷ 2 ∷ 3 ∷ 4 ∷ 5 ∷ 6 ∷ 7 ∷ 8 ∷ 999999 ∷ 1000000 ∷ []) (replicate 11 (pos 9))
+    gives margins (given 11) (map pos (0 ∷ 0 ∷ 0 ∷ 0 ∷ 1 ∷ 2 ∷ 2 ∷ 3 ∷ 4 ∷ 499999 ∷ 500000 ∷ [])))
     ∷ ("W6's margins, from the summary" asks marginsOfFor (on 8) XShared XSummary (1 ∷ 4 ∷ 4 ∷ 2 ∷ 8 ∷ 6 ∷ []) (6 ∷ 5 ∷ 8 ∷ 999999 ∷ []) (replicate 5 (pos 9))
     gives margins (given 4) (negsuc 0 ∷ pos 1 ∷ pos 0 ∷ pos 0 ∷ pos 9 ∷ []))
     ∷ ("W6's margins as owner 1's" asks marginsOfFor (onFor 8 1) XShared hers (1 ∷ 4 ∷ 4 ∷ 2 ∷ 8 ∷ 6 ∷ []) (5 ∷ 6 ∷ []) (pos 9 ∷ pos 9 ∷ [])
