@@ -433,7 +433,7 @@ table =
     ∷ ("least supply from owner 1's" asks leastFromsFor (onFor 8 1) XShared hers (14 ∷ []) gives amounts (given 6 ∷ []))
     ∷ ("least supply from Y's summary" asks leastFromsFor (on 4) Y YSummary (0 ∷ 1 ∷ 2 ∷ 3 ∷ 4 ∷ 5 ∷ 6 ∷ 999999 ∷ 1000000 ∷ 1000001 ∷ [])
     gives amounts (given 0 ∷ given 0 ∷ given 1 ∷ given 1 ∷ given 2 ∷ given 2 ∷ given 3 ∷ given 499999 ∷ given 500000 ∷ refused 7 0 ∷ []))
-    ∷ ("what follows a summary" asks leastFromsFor (on 4) Y (2 ∷ 2 ∷ 2 ∷ 1 ∷ 2 ∷ 3 ∷ 4 ∷ 0 ∷ 1 ∷ []) (3 ∷ 7 ∷ []) gives amounts (given 1 ∷ given 3 ∷ []))
+    ∷ ("what follows a summary" asks leastFromsFor (on 8) XShared (4 ∷ 12 ∷ 2 ∷ 3 ∷ 5 ∷ 6 ∷ 8 ∷ 0 ∷ 1 ∷ []) (7 ∷ []) gives amounts (given 3 ∷ []))
     -- a summary that does not belong to the windows: in one number, in its length, or another team's
     ∷ ("a summary with another A" asks leastFromsFor (on 4) Y (3 ∷ 2 ∷ 2 ∷ 1 ∷ 2 ∷ 3 ∷ 4 ∷ []) (3 ∷ []) gives amounts (refused 14 0 ∷ []))
     ∷ ("a summary with another delay" asks leastFromsFor (on 4) Y (2 ∷ 3 ∷ 2 ∷ 1 ∷ 2 ∷ 3 ∷ 4 ∷ []) (3 ∷ []) gives amounts (refused 14 0 ∷ []))
