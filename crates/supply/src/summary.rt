@@ -82,7 +82,17 @@ fn belongs(board: Board, windows: &[u32], summary: &[u32]) -> bool
     let measure = measured(board, windows, whole, summary, 3);
     let count = measure.numbers / 2;
     let late = measure.late;
-    has_at(summary, 0, whole) && has_at(summary, 1, late) && has_at(summary, 2, count) && measure.same
+    let same = measure.same;
+    if !has_at(summary, 0, whole) {
+        return false;
+    }
+    if !has_at(summary, 1, late) {
+        return false;
+    }
+    if !has_at(summary, 2, count) {
+        return false;
+    }
+    same
 }
 
 // Refusal 14 of a summary that does not belong to a legal list of windows.

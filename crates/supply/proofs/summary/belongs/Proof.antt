@@ -11,33 +11,32 @@ use Rattle.supply.proofs.partition.has_at.Reads as has-at-reads
 use Rattle.supply.proofs.partition.measured.Reads as measured-reads
 use Rattle.supply.proofs.supply.least_at_ends.Reads as least-at-ends-reads
 
--- src/summary.rt:81:17
 least-at-ends-requires : tie.Need-least-at-ends-requires
 least-at-ends-requires c κs = search needs
 
--- src/summary.rt:82:9
 measured-requires : tie.Need-measured-requires
 measured-requires c κs = search needs
 
--- src/summary.rt:85:5
 has-at-requires : tie.Need-has-at-requires
 has-at-requires c κs = search needs
 
--- src/summary.rt:85:34
-has-at-requires-2 : tie.Need-has-at-requires-2
-has-at-requires-2 c κs = search needs
-
--- src/summary.rt:85:62
-has-at-requires-3 : tie.Need-has-at-requires-3
-has-at-requires-3 c κs = search needs
-
--- src/summary.rt:77:1
 returns : tie.Need-returns
 returns c = search needs
 
--- src/summary.rt:77:1
+has-at-requires-2 : tie.Need-has-at-requires-2
+has-at-requires-2 c κs = search needs
+
 returns-2 : tie.Need-returns-2
 returns-2 c = search needs
+
+has-at-requires-3 : tie.Need-has-at-requires-3
+has-at-requires-3 c κs = search needs
+
+returns-3 : tie.Need-returns-3
+returns-3 c = search needs
+
+returns-4 : tie.Need-returns-4
+returns-4 c = search needs
 
 pub belongs-spec : {M : Type 1} → statement M
 belongs-spec =
@@ -46,7 +45,9 @@ belongs-spec =
     least-at-ends-requires
     measured-requires
     has-at-requires
-    has-at-requires-2
-    has-at-requires-3
     returns
-    returns-2)
+    has-at-requires-2
+    returns-2
+    has-at-requires-3
+    returns-3
+    returns-4)

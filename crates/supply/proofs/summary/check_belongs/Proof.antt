@@ -9,15 +9,12 @@ use Rattle.supply.proofs.summary.check_belongs.Reads as reads
 use Rattle.supply.proofs.summary.check_belongs.Lts as lts
 use Rattle.supply.proofs.summary.belongs.Reads as belongs-reads
 
--- src/summary.rt:93:8
 belongs-requires : tie.Need-belongs-requires
 belongs-requires c κs = search needs
 
--- src/summary.rt:94:9
 returns : tie.Need-returns
 returns c = search needs
 
--- src/summary.rt:89:1
 returns-2 : tie.Need-returns-2
 returns-2 c = search needs
 

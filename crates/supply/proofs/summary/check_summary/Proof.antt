@@ -10,27 +10,21 @@ use Rattle.supply.proofs.summary.check_summary.Lts as lts
 use Rattle.supply.proofs.summary.check_belongs.Reads as check-belongs-reads
 use Rattle.tables.proofs.window.check_table.Reads as check-table-reads
 
--- src/summary.rt:103:11
 check-table-requires : tie.Need-check-table-requires
 check-table-requires c κs = search needs
 
--- src/summary.rt:104:22
 enum-known-r : tie.Need-enum-known-r
 enum-known-r c = search needs
 
--- src/summary.rt:105:26
 enum-told : tie.Need-enum-told
 enum-told c = search needs
 
--- src/summary.rt:105:26
 check-belongs-requires : tie.Need-check-belongs-requires
 check-belongs-requires c κs = search needs
 
--- src/summary.rt:100:1
 returns : tie.Need-returns
 returns c = search needs
 
--- src/summary.rt:100:1
 returns-2 : tie.Need-returns-2
 returns-2 c = search needs
 

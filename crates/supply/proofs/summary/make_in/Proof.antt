@@ -11,39 +11,30 @@ use Rattle.supply.proofs.summary.make_on.Reads as make-on-reads
 use Rattle.tables.proofs.answer.refuse.Reads as refuse-reads
 use Rattle.tables.proofs.window.check_table.Reads as check-table-reads
 
--- src/summary.rt:58:11
 check-table-requires : tie.Need-check-table-requires
 check-table-requires c κs = search needs
 
--- src/summary.rt:59:22
 enum-known-r : tie.Need-enum-known-r
 enum-known-r c = search needs
 
--- src/summary.rt:59:28
 refuse-requires : tie.Need-refuse-requires
 refuse-requires c κs = search needs
 
--- src/summary.rt:60:50
 enum-told : tie.Need-enum-told
 enum-told c = search needs
 
--- src/summary.rt:60:26
 make-on-requires : tie.Need-make-on-requires
 make-on-requires c κs = search needs
 
--- src/summary.rt:54:1
 same-length : tie.Need-same-length
 same-length c = search needs
 
--- src/summary.rt:54:1
 returns : tie.Need-returns
 returns c = search needs
 
--- src/summary.rt:54:1
 same-length-2 : tie.Need-same-length-2
 same-length-2 c = search needs
 
--- src/summary.rt:54:1
 returns-2 : tie.Need-returns-2
 returns-2 c = search needs
 

@@ -13,51 +13,39 @@ use Rattle.supply.proofs.summary.write_head.Reads as write-head-reads
 use Rattle.supply.proofs.supply.least_at_ends.Reads as least-at-ends-reads
 use Rattle.tables.proofs.answer.refuse.Reads as refuse-reads
 
--- src/summary.rt:40:17
 least-at-ends-requires : tie.Need-least-at-ends-requires
 least-at-ends-requires c κs = search needs
 
--- src/summary.rt:41:51
 slice-aggregate-measured : tie.Need-slice-aggregate-measured
 slice-aggregate-measured c = search needs
 
--- src/summary.rt:41:9
 measured-requires : tie.Need-measured-requires
 measured-requires c κs = search needs
 
--- src/summary.rt:43:19
 cast-needed : tie.Need-cast-needed
 cast-needed c = search needs
 
--- src/summary.rt:43:18
 add-needed : tie.Need-add-needed
 add-needed c = search needs
 
--- src/summary.rt:45:9
 refuse-requires : tie.Need-refuse-requires
 refuse-requires c κs = search needs
 
--- src/summary.rt:47:9
 write-head-requires : tie.Need-write-head-requires
 write-head-requires c κs = search needs
 
--- src/summary.rt:48:9
 write-edges-requires : tie.Need-write-edges-requires
 write-edges-requires c κs = search needs
 
--- src/summary.rt:35:1
 same-length : tie.Need-same-length
 same-length c = search needs
 
--- src/summary.rt:35:1
 returns : tie.Need-returns
 returns c = search needs
 
--- src/summary.rt:35:1
 same-length-2 : tie.Need-same-length-2
 same-length-2 c = search needs
 
--- src/summary.rt:35:1
 returns-2 : tie.Need-returns-2
 returns-2 c = search needs
 

@@ -11,51 +11,39 @@ use Rattle.shared.proofs.table.own_windows.Reads as own-windows-reads
 use Rattle.supply.proofs.summary.make_on.Reads as make-on-reads
 use Rattle.tables.proofs.answer.refuse.Reads as refuse-reads
 
--- src/summary.rt:70:53
 slice-aggregate-own-windows : tie.Need-slice-aggregate-own-windows
 slice-aggregate-own-windows c = search needs
 
--- src/summary.rt:70:11
 own-windows-requires : tie.Need-own-windows-requires
 own-windows-requires c κs = search needs
 
--- src/summary.rt:71:25
 enum-known-r : tie.Need-enum-known-r
 enum-known-r c = search needs
 
--- src/summary.rt:71:31
 refuse-requires : tie.Need-refuse-requires
 refuse-requires c κs = search needs
 
--- src/summary.rt:72:20
 enum-known-n : tie.Need-enum-known-n
 enum-known-n c = search needs
 
--- src/summary.rt:72:41
 array-share-prefix-own : tie.Need-array-share-prefix-own
 array-share-prefix-own c = search needs
 
--- src/summary.rt:72:41
 slice-aggregate-make-on : tie.Need-slice-aggregate-make-on
 slice-aggregate-make-on c = search needs
 
--- src/summary.rt:72:26
 make-on-requires : tie.Need-make-on-requires
 make-on-requires c κs = search needs
 
--- src/summary.rt:65:1
 same-length : tie.Need-same-length
 same-length c = search needs
 
--- src/summary.rt:65:1
 returns : tie.Need-returns
 returns c = search needs
 
--- src/summary.rt:65:1
 same-length-2 : tie.Need-same-length-2
 same-length-2 c = search needs
 
--- src/summary.rt:65:1
 returns-2 : tie.Need-returns-2
 returns-2 c = search needs
 

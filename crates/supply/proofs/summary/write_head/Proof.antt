@@ -8,23 +8,18 @@ use Rattle.supply.proofs.summary.write_head.Tie as tie
 use Rattle.supply.proofs.summary.write_head.Reads as reads
 use Rattle.supply.proofs.summary.write_head.Lts as lts
 
--- src/summary.rt:29:5
 slice-write-out : tie.Need-slice-write-out
 slice-write-out c = search needs
 
--- src/summary.rt:30:5
 slice-write-out-2 : tie.Need-slice-write-out-2
 slice-write-out-2 c = search needs
 
--- src/summary.rt:31:5
 slice-write-out-3 : tie.Need-slice-write-out-3
 slice-write-out-3 c = search needs
 
--- src/summary.rt:25:1
 same-length : tie.Need-same-length
 same-length c = search needs
 
--- src/summary.rt:25:1
 returns : tie.Need-returns
 returns c = search needs
 
