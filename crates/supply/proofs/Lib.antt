@@ -2,3 +2,5 @@ pub mod PositionLaws
 pub mod SupplyLaws
 pub mod PieceLaws
 pub mod PartitionLaws
+pub mod SummaryLaws
+pub mod SearchLaws

@@ -5,3 +5,4 @@ pub mod Refused
 pub mod Outage
 pub mod Applied
 pub mod Owners
+pub mod Search

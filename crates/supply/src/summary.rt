@@ -2,6 +2,7 @@
 use crate::partition::has_at;
 use crate::partition::measured;
 use crate::partition::write_edges;
+use crate::search::least_from;
 use crate::supply::least_at_ends;
 use shared::table::Owned;
 use shared::table::own_windows;
@@ -17,7 +18,7 @@ ghost use mathlib.Core.List.{_∷_};
 ghost use Prim.Native.Nat.{_≤_};
 ghost use lib.ListN.{length, drop};
 ghost use Rattle.scope.specs.Answers.{Fault.fine, tableFault, _orElse_};
-ghost use Rattle.scope.specs.Summary.{summaryOf, makeAnswer, makeOut, begins, summaryFault, makeFor, makeOutFor};
+ghost use Rattle.scope.specs.Summary.{summaryOf, makeAnswer, makeOut, begins, summaryFault, leastFromAnswer, makeFor, makeOutFor, leastFromFor};
 ghost use Rattle.theory.specs.Answers.{LegalTable};
 ghost use Rattle.tables.specs.Told.{boardOf, faultOf, toldAmount};
 
@@ -113,5 +114,27 @@ pub fn check_summary(board: Board, windows: &[u32], summary: &[u32]) -> Checked
     match check_table(board, windows) {
         Checked::Bad(r) => Checked::Bad(r),
         Checked::Fine => check_belongs(board, windows, summary),
+    }
+}
+
+// The least supply of a length on a legal list of windows, from its summary. Refusals 14 7.
+fn least_from_on(board: Board, windows: &[u32], summary: &[u32], length: u32) -> Amount
+    requires { ⌜ tableFault (boardOf board) (now windows) ≡ fine ⌝ }
+    ensures { λ r. ⌜ toldAmount r ≡ leastFromAnswer (boardOf board) (now (windows .entry)) (now (summary .entry)) length ⌝ }
+{
+    match check_belongs(board, windows, summary) {
+        Checked::Bad(r) => Amount::Refused(r),
+        Checked::Fine => least_from(board, summary, length),
+    }
+}
+
+// The least supply of a length from the summary of the asked owner's windows. Refusals: a table's, then 14 7.
+pub fn least_supply(board: Board, windows: &[u32], summary: &[u32], length: u32) -> Amount
+    ensures { λ r. ⌜ toldAmount r ≡ leastFromFor (boardOf board) (now (windows .entry)) (now (summary .entry)) length ⌝ }
+{
+    let mut own = [0; 2 * Window::MOST];
+    match own_windows(Owned::TEAMS, board, windows, &mut own) {
+        Amount::Refused(r) => Amount::Refused(r),
+        Amount::Of(n) => least_from_on(board, &own[..n as usize], summary, length),
     }
 }

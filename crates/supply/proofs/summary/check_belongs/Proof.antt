@@ -1,8 +1,7 @@
+use mathlib.Core.Path.{sym, _∙_}
 use borrow.Author.Needs.{needs}
-use native.Mathlib.Omega.{arith}
-use Prim.Native.Nat.{ℕ, _+_, _-_, _*_, _≤_, _<_}
-use lib.ListN.{length}
-use mathlib.Core.Path.{_≡_}
+use Rattle.theory.specs.Answers.{table-legal}
+use Rattle.theory.specs.Summaries.{begins-fine, begins-not}
 use Rattle.supply.proofs.summary.check_belongs.Statement.{statement}
 use Rattle.supply.proofs.summary.check_belongs.Tie as tie
 use Rattle.supply.proofs.summary.check_belongs.Reads as reads
@@ -10,13 +9,13 @@ use Rattle.supply.proofs.summary.check_belongs.Lts as lts
 use Rattle.supply.proofs.summary.belongs.Reads as belongs-reads
 
 belongs-requires : tie.Need-belongs-requires
-belongs-requires c κs = search needs
+belongs-requires c κs = table-legal _ _ (c .before .before .pre)
 
 returns : tie.Need-returns
-returns c = search needs
+returns c = sym (begins-fine _ _ _ (sym (c .before .belongs .ensures) ∙ c .if1 .taken))
 
 returns-2 : tie.Need-returns-2
-returns-2 c = search needs
+returns-2 c = sym (begins-not _ _ _ (sym (c .before .belongs .ensures) ∙ c .if1 .left))
 
 pub check-belongs-spec : {M : Type 1} → statement M
 check-belongs-spec = tie.close (tie.spec belongs-requires returns returns-2)

@@ -1,8 +1,8 @@
-use native.Mathlib.Omega.{arith}
-use Prim.Native.Nat.{ℕ, _+_, _-_, _*_, _≤_, _<_}
-use lib.ListN.{length}
-use mathlib.Core.Path.{_≡_}
+use mathlib.Core.Path.{sym, ap, _∙_}
 use borrow.Author.Needs.{needs}
+use Rattle.scope.specs.Answers.{tableFault}
+use Rattle.tables.specs.Told.{faultOf}
+use Rattle.tables.proofs.FaultLaws.{or-fault, or-fine}
 use Rattle.supply.proofs.summary.check_summary.Statement.{statement}
 use Rattle.supply.proofs.summary.check_summary.Tie as tie
 use Rattle.supply.proofs.summary.check_summary.Reads as reads
@@ -20,13 +20,14 @@ enum-told : tie.Need-enum-told
 enum-told c = search needs
 
 check-belongs-requires : tie.Need-check-belongs-requires
-check-belongs-requires c κs = search needs
+check-belongs-requires c κs = sym (c .before .before .check-table .ensures) ∙ ap faultOf (c .enum-told .given .1)
 
 returns : tie.Need-returns
-returns c = search needs
+returns c = sym (or-fault (tableFault _ _) _ (sym (c .before .before .before .check-table .ensures) ∙ ap faultOf (c .before .r .given .1)))
 
 returns-2 : tie.Need-returns-2
-returns-2 c = search needs
+returns-2 c = 
+    c .check-belongs .ensures ∙ sym (or-fine (tableFault _ _) _ (sym (c .before .before .before .check-table .ensures) ∙ ap faultOf (c .before .enum-told .given .1)))
 
 pub check-summary-spec : {M : Type 1} → statement M
 check-summary-spec =

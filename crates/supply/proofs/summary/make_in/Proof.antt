@@ -1,8 +1,6 @@
-use native.Mathlib.Omega.{arith}
-use Prim.Native.Nat.{ℕ, _+_, _-_, _*_, _≤_, _<_}
-use lib.ListN.{length}
-use mathlib.Core.Path.{_≡_}
+use mathlib.Core.Path.{sym, ap, _∙_}
 use borrow.Author.Needs.{needs}
+use Rattle.tables.specs.Told.{faultOf}
 use Rattle.supply.proofs.summary.make_in.Statement.{statement}
 use Rattle.supply.proofs.summary.make_in.Tie as tie
 use Rattle.supply.proofs.summary.make_in.Reads as reads
@@ -24,7 +22,7 @@ enum-told : tie.Need-enum-told
 enum-told c = search needs
 
 make-on-requires : tie.Need-make-on-requires
-make-on-requires c κs = search needs
+make-on-requires c κs = sym (c .before .before .check-table .ensures) ∙ ap faultOf (c .enum-told .given .1)
 
 same-length : tie.Need-same-length
 same-length c = search needs

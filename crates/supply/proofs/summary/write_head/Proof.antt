@@ -1,8 +1,7 @@
 use native.Mathlib.Omega.{arith}
-use Prim.Native.Nat.{ℕ, _+_, _-_, _*_, _≤_, _<_}
-use lib.ListN.{length}
-use mathlib.Core.Path.{_≡_}
+use lib.ListN.{length-set}
 use borrow.Author.Needs.{needs}
+use Rattle.supply.proofs.SummaryLaws.{head-is}
 use Rattle.supply.proofs.summary.write_head.Statement.{statement}
 use Rattle.supply.proofs.summary.write_head.Tie as tie
 use Rattle.supply.proofs.summary.write_head.Reads as reads
@@ -12,16 +11,16 @@ slice-write-out : tie.Need-slice-write-out
 slice-write-out c = search needs
 
 slice-write-out-2 : tie.Need-slice-write-out-2
-slice-write-out-2 c = search needs
+slice-write-out-2 c = simp length-set (omega (arith, c .pre))
 
 slice-write-out-3 : tie.Need-slice-write-out-3
-slice-write-out-3 c = search needs
+slice-write-out-3 c = simp length-set (omega (arith, c .pre))
 
 same-length : tie.Need-same-length
 same-length c = search needs
 
 returns : tie.Need-returns
-returns c = search needs
+returns c = head-is (c .args .out .now) _ _ _ (c .pre)
 
 pub write-head-spec : {M : Type 1} → statement M
 write-head-spec =
