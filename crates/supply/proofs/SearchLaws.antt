@@ -4,18 +4,14 @@ use mathlib.Core.List.{List, [], _∷_}
 use Prim.Native.Nat.{ℕ, zero, suc, _+_, _-_, _*_, _/_, _^_, _≤_, _<_, min}
 use native.Mathlib.Omega.{arith}
 use native.Mathlib.Decide.{decLt}
-use lib.Dec.{ltb, eqb}
 use lib.ListN.{length, getD, take, drop, length-take, length-drop}
 use lib.Seq.{drop-cons}
-use borrow.Author.Tests.{le-leb, lt-leb, ltb-false, eqb-false}
+use borrow.Author.Tests.{le-leb, lt-leb}
 use Rattle.scope.specs.Limits.{mostFrame}
 use Rattle.scope.specs.Numbers.{pieces, piecesFrom}
-use Rattle.scope.specs.Windows.{Board, Window, window, windowsOf}
-use Rattle.scope.specs.Answers.{Fault.fine, frameFault}
+use Rattle.scope.specs.Windows.{Window, window, windowsOf}
 use Rattle.scope.specs.Summary.{windowsIn, ticksBefore}
-use Rattle.theory.specs.Numbers.{or-neither}
 use Rattle.theory.specs.Lists.{pieces-length}
-use Rattle.theory.specs.Answers.{faultIf-fine}
 use Rattle.supply.specs.Search.{mostTicks}
 
 -- what is left from window i on, as code that has counted the windows before it finds it
@@ -79,10 +75,3 @@ numbers-in s end h =
 -- in memory that is too short for their number there are none
 pub none-in : (s : List ℕ) (r : ℕ) → length s < 3 → ticksBefore (windowsIn s) r ≡ 0
 none-in s r h = none-of (take (2 * getD s 2 0) (drop 3 s)) r (omega (arith, length-take (2 * getD s 2 0) (drop 3 s), length-drop 3 s))
-
-pub frame-legal : (b : Board) → frameFault b ≡ fine → (0 < b .frame) × (b .frame ≤ mostFrame)
-unfolding frameFault
-frame-legal b e =
-    let f = or-neither (eqb (b .frame) 0) (ltb mostFrame (b .frame)) (faultIf-fine _ 2 0 e) in
-    let framed = eqb-false (b .frame) 0 (f .0) in
-    (omega arith, ltb-false mostFrame (b .frame) (f .1))

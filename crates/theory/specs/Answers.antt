@@ -74,17 +74,23 @@ pub window-list-fine : (ws : List ℕ) → length ws % 2 ≡ 0 → 0 < length ws
 unfolding windowListFault
 window-list-fine ws e p h = rw (fine-count 2 mostWindows ws e (omega arith), ne-eqb (length ws) 0 (λ z. omega arith))
 
+pub frame-legal : (b : Board) → frameFault b ≡ fine → (0 < b .frame) × (b .frame ≤ mostFrame)
+unfolding frameFault
+frame-legal b e =
+    let f = or-neither (eqb (b .frame) 0) (ltb mostFrame (b .frame)) (faultIf-fine _ 2 0 e) in
+    let framed = eqb-false (b .frame) 0 (f .0) in
+    (omega (arith, framed), ltb-false mostFrame (b .frame) (f .1))
+
 pub table-legal : (b : Board) (ws : List ℕ) → tableFault b ws ≡ fine → LegalTable b ws
-unfolding tableFault frameFault windowFault
+unfolding tableFault windowFault
 table-legal b ws e =
     let p = orElse-fine (windowListFault ws) (frameFault b orElse windowFault b (windowsOf ws)) e in
     let q = orElse-fine (frameFault b) (windowFault b (windowsOf ws)) (p .1) in
     let l = window-list-legal ws (p .0) in
-    let f = or-neither (eqb (b .frame) 0) (ltb mostFrame (b .frame)) (faultIf-fine _ 2 0 (q .0)) in
-    let framed = eqb-false (b .frame) 0 (f .0) in
+    let f = frame-legal b (q .0) in
     record {
-      frame = omega (arith, framed);
-      frame-most = ltb-false mostFrame (b .frame) (f .1);
+      frame = f .0;
+      frame-most = f .1;
       even = l .0;
       some = l .1;
       few = l .2;

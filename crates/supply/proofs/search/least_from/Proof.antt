@@ -1,10 +1,9 @@
 use mathlib.Core.Path.{_≡_, sym, ap, ap₂, _∙_}
 use Rattle.scope.specs.Answers.{Fault.fine, Answer.given, _orElse_, frameFault, lengthFault}
-use Rattle.theory.specs.Answers.{orElse-fine, length-legal}
+use Rattle.theory.specs.Answers.{orElse-fine, frame-legal, length-legal}
 use Rattle.tables.specs.Told.{boardOf, faultOf}
 use Rattle.tables.proofs.FaultLaws.{refused-by, given-by}
 use Rattle.supply.specs.Search.{fromAnswer}
-use Rattle.supply.proofs.SearchLaws.{frame-legal}
 use borrow.Author.Needs.{needs}
 use Rattle.supply.proofs.search.least_from.Statement.{statement}
 use Rattle.supply.proofs.search.least_from.Tie as tie
