@@ -9,10 +9,12 @@ use Rattle.scope.specs.Numbers.{written}
 use Rattle.scope.specs.Ticks.{perFrame}
 use Rattle.scope.specs.Windows.{Board, suppliedBy}
 use Rattle.scope.specs.Partition.{delay}
-use Rattle.scope.specs.Answers.{Fault.fine, Fault.fault, tableFault, roomFault, criticalOf}
-use Rattle.scope.specs.Summary.{summaryOf, makeFault, begins}
+use Rattle.scope.specs.Answers.{Fault.fine, Fault.fault, windowListFault, frameFault, tableFault, criticalOf}
+use Rattle.scope.specs.Summary.{summaryOf, makeFault, begins, summaryFault, leastFromAnswer}
+use Rattle.theory.specs.Answers.{orElse-fine}
 use Rattle.tables.proofs.FaultLaws.{then-short, then-roomy}
 use Rattle.supply.specs.Measures.{hasAt}
+use Rattle.supply.specs.Search.{fromAnswer}
 use Rattle.supply.proofs.PartitionLaws.{after}
 
 -- ---- making
@@ -57,10 +59,10 @@ module _ (b : Board) (ws : List ℕ) where
 -- ---- belonging
 
 -- the first three numbers of a fresh making, as the code has found them
-pub record Head (b : Board) (ws : List ℕ) (whole late count : ℕ) : Type 0 where
-  pub whole : whole ≡ perFrame (suppliedBy b ws) (b .frame)
-  pub late : late ≡ delay (suppliedBy b ws) (b .frame)
-  pub count : count ≡ length (criticalOf b ws) / 2
+pub record Head (b : Board) (ws : List ℕ) (a d n : ℕ) : Type 0 where
+  pub whole : a ≡ perFrame (suppliedBy b ws) (b .frame)
+  pub late : d ≡ delay (suppliedBy b ws) (b .frame)
+  pub count : n ≡ length (criticalOf b ws) / 2
 
 -- four tests: three numbers, and the rest
 begins-tests : (a d n : ℕ) (l s : List ℕ) → begins (a ∷ d ∷ n ∷ l) s ≡ (hasAt s 0 a && (hasAt s 1 d && (hasAt s 2 n && begins l (drop 3 s))))
@@ -91,3 +93,14 @@ module _ {b : Board} {ws : List ℕ} {a d n : ℕ} (head : Head b ws a d n) (s :
 
   pub all-three : hasAt s 0 a ≡ true → hasAt s 1 d ≡ true → hasAt s 2 n ≡ true → begins (summaryOf b ws) s ≡ begins (criticalOf b ws) (drop 3 s)
   all-three e f g = tests ∙ rw (e, f, g)
+
+-- ---- a legal list of windows has a frame
+
+frame-fine : (b : Board) (ws : List ℕ) → tableFault b ws ≡ fine → frameFault b ≡ fine
+unfolding tableFault
+frame-fine b ws e = orElse-fine (frameFault b) _ (orElse-fine (windowListFault ws) _ e .1) .0
+
+-- what its summary tells is the answer, where it belongs
+pub from-belonging : (b : Board) (ws s : List ℕ) (t : ℕ) → tableFault b ws ≡ fine → summaryFault b ws s ≡ fine → fromAnswer b s t ≡ leastFromAnswer b ws s t
+unfolding fromAnswer leastFromAnswer
+from-belonging b ws s t e f = rw (frame-fine b ws e, e, f)

@@ -76,7 +76,13 @@ fn lag_with(whole: u32, t: u32, frame: u32, least: u32) -> u64
 }
 
 // One pass over the pieces of a frame. The lag is greatest at an end of a piece.
-pub(crate) fn measured(board: Board, windows: &[u32], whole: u32, held: &[u32], from: usize) -> Measure
+pub(crate) fn measured(
+    board: Board,
+    windows: &[u32],
+    whole: u32,
+    held: &[u32],
+    from: usize,
+) -> Measure
     requires { ⌜ LegalTable (boardOf board) (now windows) × (from ≤ 3)
         × (whole ≡ perFrame (suppliedBy (boardOf board) (now windows)) (board .frame)) ⌝ }
     ensures { λ r. ⌜ Measured (boardOf board) (now (windows .entry)) (now (held .entry)) from r ⌝ }

@@ -33,7 +33,7 @@ refuse-requires : tie.Need-refuse-requires
 refuse-requires c κs = search needs
 
 write-edges-requires : tie.Need-write-edges-requires
-write-edges-requires c κs = 
+write-edges-requires c κs =
     let e = c .before .before .before .before .before .before .before .before in
     (table-legal _ _ (e .pre), omega (arith, c .before .before .before .measured .ensures .numbers, c .before .if1 .left))
 
@@ -42,7 +42,7 @@ same-length c = search needs
 
 returns : tie.Need-returns
 unfolding criticalAnswer criticalOut
-returns c = 
+returns c =
     let e = c .before .before .before .before .before .before .before .before .before .before .before in
     let a = e .args in
     let m = c .before .before .before .before .before .before .measured .ensures .numbers in
@@ -56,7 +56,7 @@ same-length-2 c = search needs
 
 returns-2 : tie.Need-returns-2
 unfolding criticalAnswer criticalOut
-returns-2 c = 
+returns-2 c =
     let e = c .before .before .before .before .before .before .before .before .before .before .before in
     let a = e .args in
     let m = c .before .before .before .before .before .before .measured .ensures .numbers in

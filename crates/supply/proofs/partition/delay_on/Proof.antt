@@ -26,7 +26,7 @@ cast-delay c = search needs
 
 returns : tie.Need-returns
 unfolding delayAnswer
-returns c = 
+returns c =
     ap₂ (λ (d a : ℕ). given (record { delay = d; A = a })) (c .before .measured .ensures .late) (c .before .before .before .least-at-ends .ensures .1)
     ∙ given-by _ _ (c .before .before .before .before .before .pre)
 

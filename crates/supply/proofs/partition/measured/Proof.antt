@@ -45,13 +45,13 @@ piece-from-requires : tie.Need-piece-from-requires Inv-loop μ-loop
 piece-from-requires c κs = (c .before .before .before .before .pre .0, c .loop-test .taken, c .before .loop .inv .2)
 
 edge-met-requires : tie.Need-edge-met-requires Inv-loop μ-loop
-edge-met-requires c κs = 
+edge-met-requires c κs =
     let e = c .before .before .before .before .before in
     let l = c .before .before .loop in
     (e .pre .1, omega (arith, l .inv .0, l .inv .3 .count, edges-few (boardOf (e .args .board)) (e .args .windows .now) (l .t), e .pre .0 .frame-most))
 
 lag-with-requires : tie.Need-lag-with-requires Inv-loop μ-loop
-lag-with-requires c κs = 
+lag-with-requires c κs =
     let e = c .before .before .before .before .before .before in
     lag-order _ _ (table-row _ _ (e .pre .0) .repeats) _ _ _ (c .before .piece-from .ensures .piece .ends) (e .pre .2)
 
@@ -62,7 +62,7 @@ loop-less : tie.Need-loop-less Inv-loop μ-loop
 loop-less c = let p = c .before .before .before .piece-from .ensures in omega (arith, p .most, p .piece .after)
 
 loop-again : tie.Need-loop-again Inv-loop μ-loop
-loop-again c = 
+loop-again c =
     let e = c .before .before .before .before .before .before .before .before in
     let a = e .args in
     let l = c .before .before .before .before .before .loop in
@@ -103,18 +103,18 @@ delay-is c =
     c .before .loop .inv .4 ∙ ap (λ (k : ℕ). greatest (lag σ P) (k + 1)) (ended c) ∙ lag-all σ P (table-row _ _ (e .pre .0) .repeats)
 
 edge-met-requires-2 : tie.Need-edge-met-requires-2 Inv-loop μ-loop
-edge-met-requires-2 c κs = 
+edge-met-requires-2 c κs =
     let e = c .before .before .before .before in
     let l = c .before .loop in
     (e .pre .1, omega (arith, l .inv .0, l .inv .3 .count, edges-few (boardOf (e .args .board)) (e .args .windows .now) (l .t), e .pre .0 .frame-most))
 
 cast-t17 : tie.Need-cast-t17 Inv-loop μ-loop
-cast-t17 c = 
+cast-t17 c =
     let e = c .before .before .before .before .before in
     omega (arith, delay-is (c .before), delay-fits _ _ (table-row (boardOf (e .args .board)) (e .args .windows .now) (e .pre .0) .repeats) (e .pre .0 .frame-most))
 
 returns : tie.Need-returns Inv-loop μ-loop
-returns c = 
+returns c =
     let e = c .before .before .before .before .before in
     let l = c .before .before .loop in
     let b = boardOf (e .args .board) in

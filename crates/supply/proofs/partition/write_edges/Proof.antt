@@ -32,7 +32,7 @@ abbrev μ-loop : tie.MeasureT-loop
 μ-loop board windows from out₀ frame at₀ before₀ least₀ t₀ out at before least t = frame - t
 
 loop-holds : tie.Need-loop-holds Inv-loop μ-loop
-loop-holds c = 
+loop-holds c =
     let a = c .before .before .args in
     let p = c .before .before .pre in
     let e = edges-none (boardOf (a .board)) (a .windows .now) in (
@@ -78,7 +78,7 @@ loop-less : tie.Need-loop-less Inv-loop μ-loop
 loop-less c = let p = c .before .piece-from .ensures in omega (arith, p .most, p .piece .after)
 
 loop-again : tie.Need-loop-again Inv-loop μ-loop
-loop-again c = 
+loop-again c =
     let a = c .before .before .before .before .before .before .args in
     let l = c .before .before .before .loop in
     let b = boardOf (a .board) in
@@ -99,7 +99,7 @@ loop-less-2 : tie.Need-loop-less-2 Inv-loop μ-loop
 loop-less-2 c = let p = c .before .piece-from .ensures in omega (arith, p .most, p .piece .after)
 
 loop-again-2 : tie.Need-loop-again-2 Inv-loop μ-loop
-loop-again-2 c = 
+loop-again-2 c =
     let a = c .before .before .before .before .before .before .args in
     let l = c .before .before .before .loop in
     let b = boardOf (a .board) in
@@ -154,7 +154,7 @@ same-length : tie.Need-same-length Inv-loop μ-loop
 same-length c = simp length-set (c .before .before .loop .inv .4)
 
 returns : tie.Need-returns Inv-loop μ-loop
-returns c = 
+returns c =
     let a = c .before .before .before .before .before .args in
     let l = c .before .before .loop in
     after-more (a .from) (a .out .now) (omega (arith, l .inv .5)) (edges (boardOf (a .board)) (a .windows .now) (l .t)) (l .out) (l .at) (a .board .frame) (l .inv .3)
@@ -165,7 +165,7 @@ same-length-2 : tie.Need-same-length-2 Inv-loop μ-loop
 same-length-2 c = c .before .before .loop .inv .4
 
 returns-2 : tie.Need-returns-2 Inv-loop μ-loop
-returns-2 c = 
+returns-2 c =
     let a = c .before .before .before .before .before .args in
     let l = c .before .before .loop in
     let b = boardOf (a .board) in

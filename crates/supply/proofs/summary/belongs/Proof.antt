@@ -48,7 +48,7 @@ returns-3 : tie.Need-returns-3
 returns-3 c = sym (not-third (expected (c .before .before .before .before .before .before .before)) _ (sym (c .before .has-at3 .ensures) ∙ not-true _ (c .if3 .taken)))
 
 returns-4 : tie.Need-returns-4
-returns-4 c = 
+returns-4 c =
     let m = c .before .before .before .before .before .before .before in
     m .measured .ensures .same
     ∙ sym (all-three (expected m) _ (sym (c .before .before .before .before .before .has-at .ensures) ∙ not-false _ (c .before .before .before .before .if1 .left))

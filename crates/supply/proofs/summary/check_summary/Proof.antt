@@ -26,7 +26,7 @@ returns : tie.Need-returns
 returns c = sym (or-fault (tableFault _ _) _ (sym (c .before .before .before .check-table .ensures) ∙ ap faultOf (c .before .r .given .1)))
 
 returns-2 : tie.Need-returns-2
-returns-2 c = 
+returns-2 c =
     c .check-belongs .ensures ∙ sym (or-fine (tableFault _ _) _ (sym (c .before .before .before .check-table .ensures) ∙ ap faultOf (c .before .enum-told .given .1)))
 
 pub check-summary-spec : {M : Type 1} → statement M

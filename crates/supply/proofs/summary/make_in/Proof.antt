@@ -1,6 +1,9 @@
 use mathlib.Core.Path.{sym, ap, _∙_}
 use borrow.Author.Needs.{needs}
+use Rattle.scope.specs.Answers.{tableFault}
+use Rattle.scope.specs.Summary.{makeFault, makeAnswer, makeOut}
 use Rattle.tables.specs.Told.{faultOf}
+use Rattle.tables.proofs.FaultLaws.{or-fault, refused-by, kept-by}
 use Rattle.supply.proofs.summary.make_in.Statement.{statement}
 use Rattle.supply.proofs.summary.make_in.Tie as tie
 use Rattle.supply.proofs.summary.make_in.Reads as reads
@@ -22,13 +25,17 @@ enum-told : tie.Need-enum-told
 enum-told c = search needs
 
 make-on-requires : tie.Need-make-on-requires
-make-on-requires c κs = sym (c .before .before .check-table .ensures) ∙ ap faultOf (c .enum-told .given .1)
+make-on-requires c κs = sym (c .before .before .before .check-table .ensures) ∙ ap faultOf (c .before .enum-told .given .1)
 
 same-length : tie.Need-same-length
 same-length c = search needs
 
 returns : tie.Need-returns
-returns c = search needs
+unfolding makeAnswer makeOut makeFault
+returns c =
+    let x = c .before .before in
+    let e = or-fault (tableFault _ _) _ (sym (x .before .before .before .before .before .check-table .ensures) ∙ ap faultOf (x .before .before .r .given .1)) in
+    (x .refuse .ensures .0 ∙ refused-by _ _ e, x .refuse .ensures .1 ∙ kept-by _ _ _ e)
 
 same-length-2 : tie.Need-same-length-2
 same-length-2 c = search needs

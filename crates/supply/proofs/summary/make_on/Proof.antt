@@ -41,7 +41,7 @@ write-head-requires : tie.Need-write-head-requires
 write-head-requires c κs = search needs
 
 write-edges-requires : tie.Need-write-edges-requires
-write-edges-requires c κs = 
+write-edges-requires c κs =
     let e = c .before .before .before .before .before .before .before .before .before .before .before in (
       table-legal _ _ (e .pre),
       omega (
@@ -58,7 +58,7 @@ same-length c = search needs
 
 returns : tie.Need-returns
 unfolding makeAnswer makeOut
-returns c = 
+returns c =
     let e = c .before .before .before .before .before .before .before .before .before .before in
     let a = e .args in
     let b = boardOf (a .board) in
@@ -72,7 +72,7 @@ same-length-2 c = search needs
 
 returns-2 : tie.Need-returns-2
 unfolding makeAnswer makeOut
-returns-2 c = 
+returns-2 c =
     let m = c .before .before .before .before .before .before .before .before .before in
     let e = m .before .before .before .before .before in
     let a = e .args in
