@@ -34,7 +34,7 @@ returns : tie.Need-returns
 unfolding makeAnswer makeOut makeFault
 returns c =
     let x = c .before .before in
-    let e = or-fault (tableFault _ _) _ (sym (x .before .before .before .before .before .check-table .ensures) ∙ ap faultOf (x .before .before .r .given .1)) in
+    let e = or-fault (tableFault _ _) _ (sym (x .before .before .before .before .before .check-table .ensures) ∙ ap faultOf (x .before .before .before .r .given .1)) in
     (x .refuse .ensures .0 ∙ refused-by _ _ e, x .refuse .ensures .1 ∙ kept-by _ _ _ e)
 
 same-length-2 : tie.Need-same-length-2
