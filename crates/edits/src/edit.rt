@@ -15,7 +15,7 @@ ghost use Prim.Native.Nat.{_+_, _*_, _/_, _%_, _≤_};
 ghost use lib.ListN.{length};
 ghost use Rattle.scope.specs.Numbers.{written};
 ghost use Rattle.scope.specs.Limits.{teams, mostWindows};
-ghost use Rattle.scope.specs.Answers.{Fault.fine};
+ghost use Rattle.scope.specs.Answers.{Fault.fine, faultIf};
 ghost use Rattle.scope.specs.Summary.{edited, indexFault, editAnswer, editWindows, editSummary};
 ghost use Rattle.tables.specs.Told.{boardOf, faultOf, toldEdited};
 ghost use Rattle.edits.specs.Told.{editOf};
@@ -39,28 +39,34 @@ pub enum Edit {
     },
 }
 
+// Refusal 7 of an index that is absent.
+fn present(absent: bool) -> Checked
+    ensures { λ r. ⌜ faultOf r ≡ faultIf absent 7 0 ⌝ }
+{
+    if absent {
+        return Checked::Bad(Refusal::Asked);
+    }
+    Checked::Fine
+}
+
 // Refusal 7: no window has the index. Adding may be at the number of windows.
 fn check_index(edit: Edit, count: usize) -> Checked
     ensures { λ r. ⌜ faultOf r ≡ indexFault (editOf edit) count ⌝ }
 {
-    let absent = match edit {
+    match edit {
         Edit::Move {
             index,
             start: _,
             end: _,
-        } => count <= index as usize,
+        } => present(count <= index as usize),
         Edit::Add {
             index,
             start: _,
             end: _,
             owner: _,
-        } => count < index as usize,
-        Edit::Remove { index } => count <= index as usize,
-    };
-    if absent {
-        return Checked::Bad(Refusal::Asked);
+        } => present(count < index as usize),
+        Edit::Remove { index } => present(count <= index as usize),
     }
-    Checked::Fine
 }
 
 // The list that an edit leaves, at the front of out: how many numbers it has.
