@@ -105,6 +105,9 @@ module _ (a b : ℕ) (ha : a < 2 ^ 63) (hb : b < 2 ^ 63) where
   kept : toZ w64 (ofZ w64 (pos a -ℤ pos b)) ≡ pos a -ℤ pos b
   kept = toZ-ofZ w64 (pos a -ℤ pos b) fits
 
+  pub sub-kept : (z : ℤ) → z ≡ pos a -ℤ pos b → toZ w64 (ofZ w64 z) ≡ pos a -ℤ pos b
+  sub-kept z e = rw e kept
+
   pub sub-is : toZ w64 (ofZ w64 (toZ w64 a -ℤ toZ w64 b)) ≡ pos a -ℤ pos b
   sub-is = ap₂ (λ (x y : ℤ). toZ w64 (ofZ w64 (x -ℤ y))) (as-pos a ha) (as-pos b hb) ∙ kept
 
@@ -112,7 +115,7 @@ module _ (a b : ℕ) (ha : a < 2 ^ 63) (hb : b < 2 ^ 63) where
 pub margin-is : (σ : ℕ → Bool) (P : ℕ) (ts : List Task) (t n d : ℕ) (z : ℤ) → n < 2 ^ 63 → d < 2 ^ 63 →
     n ≡ leastSupply σ P t → d ≡ demand ts t → z ≡ pos n -ℤ pos d → toZ w64 (ofZ w64 z) ≡ margin σ P ts t
 unfolding margin
-margin-is σ P ts t n d z hn hd s w e = rw e (kept n d hn hd) ∙ ap₂ (λ (x y : ℕ). pos x -ℤ pos y) s w
+margin-is σ P ts t n d z hn hd s w e = sub-kept n d hn hd z e ∙ ap₂ (λ (x y : ℕ). pos x -ℤ pos y) s w
 
 -- ---- the answers of `margin`: the table and the group are checked together, then the length
 

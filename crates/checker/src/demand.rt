@@ -10,7 +10,7 @@ use tables::task::check_tasks;
 use tables::task::task_at;
 use tables::window::Window;
 ghost use mathlib.Core.Path.{_≡_};
-ghost use Prim.Native.Nat.{_*_, _≤_};
+ghost use Prim.Native.Nat.{_*_, _^_, _<_, _≤_};
 ghost use lib.IntN.{pos, _-ℤ_};
 ghost use Rattle.scope.specs.Limits.{mostTasks, mostOfTask, mostLength};
 ghost use Rattle.scope.specs.Tasks.{tasksOf, demand as demandBy};
@@ -36,8 +36,8 @@ pub(crate) fn demand_of(tasks: &[u32], length: u32) -> u64
 }
 
 // Supply minus demand, a signed number.
-fn difference(supply: u32, demand: u64) -> i64
-    requires { ⌜ demand ≤ mostTasks * (mostLength * mostOfTask) ⌝ }
+pub(crate) fn difference(supply: u64, demand: u64) -> i64
+    requires { ⌜ (supply < 2 ^ 63) × (demand < 2 ^ 63) ⌝ }
     ensures { λ r. ⌜ r ≡ pos supply -ℤ pos demand ⌝ }
 {
     (supply as i64) - (demand as i64)
@@ -68,7 +68,7 @@ fn margin_on(board: Board, windows: &[u32], tasks: &[u32], length: u32) -> Margi
             Checked::Fine => {
                 let supply = least_of(board, windows, length);
                 let demand = demand_of(tasks, length);
-                Margin::Of(difference(supply, demand))
+                Margin::Of(difference(supply as u64, demand))
             }
         },
     }

@@ -3,6 +3,7 @@ pub mod bound;
 pub mod cycle;
 pub mod demand;
 mod least;
+pub mod margins;
 mod rise;
 mod stretch;
 pub mod verdict;

@@ -25,7 +25,7 @@ module _ {n p : ℕ} where
   pub refused-by : {A : Type 0} (f : Fault) (a : A) → f ≡ fault n p → refused n p ≡ unless f a
   refused-by f a e = rw e
 
-  pub kept-by : (f : Fault) (new old : List ℕ) → f ≡ fault n p → old ≡ unlessKept f new old
+  pub kept-by : {A : Type 0} (f : Fault) (new old : List A) → f ≡ fault n p → old ≡ unlessKept f new old
   kept-by f new old e = rw e
 
   -- a refusal was this fault, and of a value that was given there was none
@@ -53,7 +53,7 @@ module _ (f : Fault) (needed room : ℕ) (e : f ≡ fine) where
 pub given-by : {A : Type 0} (f : Fault) (a : A) → f ≡ fine → given a ≡ unless f a
 given-by f a e = rw e
 
-pub written-by : (f : Fault) (new old : List ℕ) → f ≡ fine → new ≡ unlessKept f new old
+pub written-by : {A : Type 0} (f : Fault) (new old : List A) → f ≡ fine → new ≡ unlessKept f new old
 written-by f new old e = rw e
 
 -- ---- a constructor answers the value, or refuses it: which of the two says whether the value keeps its rule

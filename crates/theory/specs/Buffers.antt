@@ -13,19 +13,19 @@ use Rattle.scope.specs.Numbers.{written}
 use Rattle.scope.specs.Summary.{begins}
 use Rattle.theory.specs.Numbers.{and-both, both-and}
 
-pub written-none : (d : List ℕ) → written [] d ≡ d
+pub written-none : {A : Type 0} (d : List A) → written [] d ≡ d
 unfolding written
 written-none d = refl
 
 -- the buffer keeps its length
-pub length-written : (l d : List ℕ) → length l ≤ length d → length (written l d) ≡ length d
+pub length-written : {A : Type 0} (l d : List A) → length l ≤ length d → length (written l d) ≡ length d
 unfolding written
 length-written l d h = simp (length-append, length-drop) (omega arith)
 
--- one number more, stored just after the list
-pub written-more : (l d : List ℕ) (a : ℕ) → length l < length d → set (written l d) (length l) a ≡ written (l ++ (a ∷ [])) d
+-- one more, stored just after the list
+pub written-more : {A : Type 0} (l d : List A) (a : A) → length l < length d → set (written l d) (length l) a ≡ written (l ++ (a ∷ [])) d
 unfolding written
-written-more l d a h = rw (drop-cons d (length l) 0 h, set-append-seam, length-append, append-assoc, add-one)
+written-more l d a h = rw (drop-cons d (length l) a h, set-append-seam, length-append, append-assoc, add-one)
 
 -- the list stands at its front
 pub written-at : (l d : List ℕ) (j : ℕ) → j < length l → getD (written l d) j 0 ≡ getD l j 0

@@ -51,8 +51,11 @@ demand-of-requires : tie.Need-demand-of-requires
 demand-of-requires c κs =
     (checked-legal _ _ _ (group-fine (c .before .before .before .before)) .1, length-legal _ (length-fine (c .before)))
 
+cast-difference : tie.Need-cast-difference
+cast-difference c = search needs
+
 difference-requires : tie.Need-difference-requires
-difference-requires c κs = c .demand-of .ensures .1
+difference-requires c κs = (omega arith, omega (arith, c .demand-of .ensures .1))
 
 returns : tie.Need-returns
 returns c =
@@ -82,6 +85,7 @@ margin-on-spec =
     enum-told-2
     least-of-requires
     demand-of-requires
+    cast-difference
     difference-requires
     returns
     returns-2
