@@ -64,8 +64,8 @@ loop-again c =
     let n = told 2 in
     let asked = each-asked (a .lengths .now) i (e .pre .2) t in
     let stored =
-        margin-kept (boardOf (a .board)) (a .summary .now) (getD (a .lengths .now) i 0) (e .pre .0) asked (a .tasks .now) (e .pre .1)
-        (omega arith) (omega arith) _ (c .margin-from .ensures)
+    margin-kept (boardOf (a .board)) (a .summary .now) (getD (a .lengths .now) i 0) (e .pre .0) asked (a .tasks .now) (e .pre .1)
+    (omega arith) (omega arith) _ (c .margin-from .ensures)
     in (
       omega arith,
       simp length-set (l .1),

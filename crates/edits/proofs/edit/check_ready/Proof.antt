@@ -53,12 +53,12 @@ or-else-requires : tie.Need-or-else-requires
 or-else-requires c κs = search needs
 
 returns : tie.Need-returns
-returns c = 
+returns c =
     let r = c .before .before .before .before .own-windows in
     asked-not _ _ _ fault (readied _ _ _ _) _ _ _ (omega arith) (sym (r .ensures .0) ∙ ap toldAmount (c .before .r .given .1)) ∙ ready-asked _ _ _ _ _ _
 
 returns-2 : tie.Need-returns-2
-returns-2 c = 
+returns-2 c =
     c .or-else .ensures ∙ ap₂ _orElse_ (c .before .before .check-summary .ensures) (c .before .check-index .ensures)
     ∙ asked-taken _ _ _ fault (readied _ _ _ _) (own-at (c .before .before .before .before)) ∙ ready-asked _ _ _ _ _ _
 

@@ -1,8 +1,19 @@
+use mathlib.Core.Path.{_≡_, sym, ap, _∙_}
+use mathlib.Core.List.{List}
+use Prim.Native.Nat.{ℕ, _/_}
 use native.Mathlib.Omega.{arith}
-use Prim.Native.Nat.{ℕ, _+_, _-_, _*_, _≤_, _<_}
 use lib.ListN.{length}
-use mathlib.Core.Path.{_≡_}
+use lib.Seq.{length-take-le}
 use borrow.Author.Needs.{needs}
+use Rattle.scope.specs.Limits.{teams}
+use Rattle.scope.specs.Answers.{Fault.fault, Answer.given, _orElse_, roomFault}
+use Rattle.scope.specs.Summary.{summaryOf, makeAnswer, makeOut}
+use Rattle.theory.specs.Answers.{unless-given}
+use Rattle.theory.specs.Shared.{Taken, taken, asked-not}
+use Rattle.tables.specs.Told.{boardOf, toldAmount}
+use Rattle.tables.proofs.FaultLaws.{refused-by, given-by, kept-by, written-by, fault-of}
+use Rattle.edits.specs.Stored.{storeAnswer, storeWindows, storeSummary}
+use Rattle.edits.proofs.EditLaws.{store-asked, store-short, store-make, stored-summary}
 use Rattle.edits.proofs.edit.store.Statement.{statement}
 use Rattle.edits.proofs.edit.store.Tie as tie
 use Rattle.edits.proofs.edit.store.Reads as reads
@@ -10,6 +21,15 @@ use Rattle.edits.proofs.edit.store.Lts as lts
 use Rattle.edits.proofs.splice.copy.Reads as copy-reads
 use Rattle.shared.proofs.table.own_windows.Reads as own-windows-reads
 use Rattle.supply.proofs.summary.make_in.Reads as make-in-reads
+
+-- the owner's windows stand in the memory
+own-at : (c : tie.After-known-told2) →
+    let a = c .before .before .before .before .before .before .before .before .before .args in
+    let r = c .before .before .before .before .own-windows in
+    Taken teams (boardOf (a .board)) (a .new .now) (c .before .n .given .0 .0) (r .last .1 .1 .1 .0)
+own-at c =
+    let r = c .before .before .before .before .own-windows in
+    taken _ _ _ _ _ _ (sym (r .ensures .0) ∙ ap toldAmount (c .before .n .given .1)) (r .ensures .1)
 
 slice-aggregate-own-windows : tie.Need-slice-aggregate-own-windows
 slice-aggregate-own-windows c = search needs
@@ -24,13 +44,17 @@ enum-known-n : tie.Need-enum-known-n
 enum-known-n c = search needs
 
 returns : tie.Need-returns
-returns c = search needs
+unfolding storeAnswer storeWindows storeSummary
+returns c =
+    let a = c .before .before .before .before .before .before .before .before .before .before .args in
+    let f = store-short teams (boardOf (a .board)) (a .new .now) (length (a .windows .now)) (length (a .summary .now)) (own-at (c .before) .shared) (c .if1 .taken) in
+    (refused-by _ _ f, (kept-by _ _ _ f, kept-by _ _ _ f))
 
 array-share-prefix-own : tie.Need-array-share-prefix-own
-array-share-prefix-own c = search needs
+array-share-prefix-own c = let t = own-at (c .before) in omega (arith, t .few)
 
 slice-aggregate-make-in : tie.Need-slice-aggregate-make-in
-slice-aggregate-make-in c = search needs
+slice-aggregate-make-in c = sym (length-take-le _ _ (array-share-prefix-own (c .before)))
 
 make-in-requires : tie.Need-make-in-requires
 make-in-requires c κs = search needs
@@ -42,16 +66,31 @@ enum-known-numbers : tie.Need-enum-known-numbers
 enum-known-numbers c = search needs
 
 copy-requires : tie.Need-copy-requires
-copy-requires c κs = search needs
+copy-requires c κs = omega (arith, c .before .before .before .before .before .before .before .before .before .if1 .left)
 
 returns-2 : tie.Need-returns-2
-returns-2 c = search needs
+unfolding storeAnswer storeWindows storeSummary
+returns-2 c =
+    let a = c .before .before .before .before .before .before .before .before .before .args in
+    let r = c .before .before .before .before .own-windows in
+    let e = asked-not _ _ _ fault (λ mine. roomFault (length (a .new .now)) (length (a .windows .now)) orElse roomFault (length (summaryOf (boardOf (a .board)) mine)) (length (a .summary .now)))
+    _ _ _ (omega arith) (sym (r .ensures .0) ∙ ap toldAmount (c .before .r .given .1)) in
+    let f = sym (e ∙ store-asked teams (boardOf (a .board)) (a .new .now) (length (a .windows .now)) (length (a .summary .now))) in
+    (refused-by _ _ f, (kept-by _ _ _ f, kept-by _ _ _ f))
 
 same-length : tie.Need-same-length
 same-length c = search needs
 
 returns-3 : tie.Need-returns-3
-returns-3 c = search needs
+unfolding storeAnswer storeWindows makeAnswer
+returns-3 c =
+    let e = c .before .before .before .before .before .before .before .before .before .before .before .before .before .before .before .before .before .before in
+    let a = e .args in
+    let m = c .before .before .before .before .before .make-in in
+    let t = own-at (c .before .before .before .before .before .before .before .before .before) in
+    let same = store-make teams (boardOf (a .board)) (a .new .now) (length (a .windows .now)) (length (a .summary .now)) (t .shared) (c .before .before .before .before .before .before .before .before .if1 .left) in
+    let f = same ∙ sym (fault-of _ _ (ap toldAmount (sym (c .before .r2 .given .1)) ∙ m .ensures .0 ∙ ap (λ (l : List ℕ). makeAnswer (boardOf (a .board)) l (length (a .summary .now))) (t .front))) in
+    (refused-by _ _ f, (kept-by _ _ _ f, m .ensures .1 ∙ ap (λ (l : List ℕ). makeOut (boardOf (a .board)) l (a .summary .now)) (t .front) ∙ stored-summary _ _ _ _ _ same))
 
 same-length-2 : tie.Need-same-length-2
 same-length-2 c = search needs
@@ -60,7 +99,21 @@ same-length-3 : tie.Need-same-length-3
 same-length-3 c = search needs
 
 returns-4 : tie.Need-returns-4
-returns-4 c = search needs
+unfolding storeAnswer storeWindows makeAnswer
+returns-4 c =
+    let e = c .before .before .before .before .before .before .before .before .before .before .before .before .before .before .before .before .before .before .before .before .before .before in
+    let a = e .args in
+    let m = c .before .before .before .before .before .before .before .before .before .make-in in
+    let t = own-at (c .before .before .before .before .before .before .before .before .before .before .before .before .before) in
+    let same = store-make teams (boardOf (a .board)) (a .new .now) (length (a .windows .now)) (length (a .summary .now)) (t .shared) (c .before .before .before .before .before .before .before .before .before .before .before .before .if1 .left) in
+    let u = unless-given _ _ _ (sym (ap toldAmount (sym (c .before .before .before .before .before .numbers .given .1)) ∙ m .ensures .0 ∙ ap (λ (l : List ℕ). makeAnswer (boardOf (a .board)) l (length (a .summary .now))) (t .front))) in
+    let f = same ∙ u .0 in (
+      ap (λ (k : ℕ). given (record { windows = length (a .new .now) / 3; numbers = k })) (sym (u .1)) ∙ given-by _ _ f,
+      (
+        c .before .before .copy .ensures ∙ written-by _ _ _ f,
+        m .ensures .1 ∙ ap (λ (l : List ℕ). makeOut (boardOf (a .board)) l (a .summary .now)) (t .front) ∙ stored-summary _ _ _ _ _ same,
+      ),
+    )
 
 pub store-spec : {M : Type 1} → statement M
 store-spec =

@@ -45,7 +45,7 @@ loop-less : tie.Need-loop-less Inv-loop μ-loop
 loop-less c = search needs
 
 loop-again : tie.Need-loop-again Inv-loop μ-loop
-loop-again c = 
+loop-again c =
     let a = c .before .before .before .args in
     let l = c .before .before .loop in
     let h : l .i < length (a .numbers .now) = omega arith in (
@@ -61,7 +61,7 @@ same-length : tie.Need-same-length Inv-loop μ-loop
 same-length c = c .before .loop .inv .2
 
 returns : tie.Need-returns Inv-loop μ-loop
-returns c = 
+returns c =
     let a = c .before .before .args in
     let l = c .before .loop in
     let e : l .i ≡ length (a .numbers .now) = omega (arith, l .inv .0, c .loop-test .left) in

@@ -1,8 +1,10 @@
+use mathlib.Core.Path.{sym, ap}
+use Prim.Native.Nat.{_+_, _*_}
 use native.Mathlib.Omega.{arith}
-use Prim.Native.Nat.{ℕ, _+_, _-_, _*_, _≤_, _<_}
-use lib.ListN.{length}
-use mathlib.Core.Path.{_≡_}
+use lib.ListN.{length, take}
+use lib.Seq.{length-take-le}
 use borrow.Author.Needs.{needs}
+use Rattle.edits.proofs.EditLaws.{after-length, spliced-copies}
 use Rattle.edits.proofs.splice.splice.Statement.{statement}
 use Rattle.edits.proofs.splice.splice.Tie as tie
 use Rattle.edits.proofs.splice.splice.Reads as reads
@@ -22,13 +24,18 @@ add-last : tie.Need-add-last
 add-last c = search needs
 
 slice-aggregate-copy : tie.Need-slice-aggregate-copy
-slice-aggregate-copy c = search needs
+slice-aggregate-copy c = sym (length-take-le _ _ (omega arith))
 
 copy-requires : tie.Need-copy-requires
-copy-requires c κs = search needs
+copy-requires c κs =
+    let e = c .before .before .before .before .before in
+    omega (arith, e .pre, length-take-le (3 * e .args .index) (e .args .list .now) (omega (arith, e .pre)))
 
 copy-requires-2 : tie.Need-copy-requires-2
-copy-requires-2 c κs = search needs
+copy-requires-2 c κs =
+    let e = c .before .before .before .before .before .before .before .before .before in
+    let one = c .before .before .before .copy .ensures in
+    omega (arith, e .pre, ap length one, after-length 0 (e .args .out .now) (take (3 * e .args .index) (e .args .list .now)) (omega (arith, e .pre, length-take-le (3 * e .args .index) (e .args .list .now) (omega (arith, e .pre)))))
 
 mul-copy : tie.Need-mul-copy
 mul-copy c = search needs
@@ -49,7 +56,10 @@ same-length : tie.Need-same-length
 same-length c = search needs
 
 returns : tie.Need-returns
-returns c = search needs
+returns c =
+    let e = c .before .before .before .before .before .before .before .before .before .before .before .before .before .before .before .before .before in
+    let a = e .args in
+    spliced-copies (a .list .now) (a .come .now) (a .index) (a .gone) (e .pre .0) _ _ _ _ (c .before .before .before .before .before .before .before .before .before .before .before .copy .ensures) (c .before .before .before .before .before .before .before .copy2 .ensures) (c .before .before .copy3 .ensures)
 
 pub splice-spec : {M : Type 1} → statement M
 splice-spec =
