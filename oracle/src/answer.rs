@@ -3,8 +3,8 @@
 use std::fmt;
 
 /// Document 01, "Refusal numbers", and those that document 02 adds. When several hold, the order
-/// is 9, 1, 2, 3, 12, 4, 5, 6, 7, 10, 11, 8: every entry makes the checks it needs one after another
-/// in this order.
+/// is 9, 1, 2, 3, 12, 4, 5, 6, 14, 7, 10, 11, 8: every entry makes the checks it needs one after
+/// another in this order. An edit checks its new table between 7 and 8.
 #[derive(Clone, Copy, Debug, PartialEq, Eq)]
 pub enum Reason {
     WindowList = 1,
@@ -21,6 +21,8 @@ pub enum Reason {
     Job = 11,
     /// A window shorter than the shortest allowed one, or no such shortest one.
     Sliver = 12,
+    /// A summary that does not belong to the windows lent with it.
+    Summary = 14,
 }
 
 /// A refusal is a reason and a place.
@@ -95,6 +97,15 @@ pub enum Answer {
         instant: u64,
         job: usize,
     },
+    /// How many numbers a summary has.
+    Summary(usize),
+    /// How many margins were asked.
+    Margins(usize),
+    /// How many windows there are after an edit, and how many numbers their summary has.
+    Edited {
+        count: usize,
+        summary: usize,
+    },
     Refused(Refusal),
 }
 
@@ -139,6 +150,11 @@ impl fmt::Display for Answer {
             }
             Answer::ReplayMissed { instant, job } => {
                 write!(f, "MISSED instant {instant} job {job}")
+            }
+            Answer::Summary(numbers) => write!(f, "SUMMARY {numbers}"),
+            Answer::Margins(count) => write!(f, "MARGINS {count}"),
+            Answer::Edited { count, summary } => {
+                write!(f, "EDITED count {count} summary {summary}")
             }
             Answer::Refused(Refusal { reason, place }) => {
                 write!(f, "REFUSED {} at {place}", *reason as u8)

@@ -5,7 +5,10 @@ use std::iter;
 use crate::generate;
 use crate::large;
 use crate::numbers::{encode, GREATEST};
-use crate::query::{Query, BOARD, MOST_NEW_NUMBERS, MOST_OLD_NUMBERS};
+use crate::query::{
+    Query, BOARD, MOST_LENGTHS, MOST_NEW_NUMBERS, MOST_OLD_NUMBERS, MOST_SUMMARY_NUMBERS,
+    ONLY_ON_A_BOARD,
+};
 use crate::random::Random;
 use crate::spoil;
 use crate::stream::MOST_BYTES;
@@ -49,7 +52,7 @@ pub fn any_stream(r: &mut Random, most: u64) -> Vec<u8> {
 /// Bytes that begin no complete query.
 fn bad_end(r: &mut Random) -> Vec<u8> {
     let numbers = generate::query(r).numbers();
-    match r.below(6) {
+    match r.below(9) {
         0 => {
             let index = r.index(numbers.len());
             spoil::with_bad_number(r, &numbers, index)
@@ -62,7 +65,8 @@ fn bad_end(r: &mut Random) -> Vec<u8> {
             cut
         }
         2..=4 => with_bad_code(r, numbers),
-        _ => over_a_limit(r),
+        5 => over_a_limit(r),
+        _ => over_a_limit_of_a_summary(r),
     }
 }
 
@@ -80,12 +84,18 @@ fn with_bad_code(r: &mut Random, mut numbers: Vec<u64>) -> Vec<u8> {
         }
         BOARD => {
             let code = 2 + numbers[1] as usize;
-            let others = [
-                0, 5, 10, 11, 16, 18, 18, 19, 20, 23, 24, 28, 30, 129, GREATEST,
-            ];
-            numbers[code] = r.one_of(&others);
+            if ONLY_ON_A_BOARD.contains(&numbers[code]) && r.once_in(2) {
+                // Alone.
+                numbers.drain(..code);
+            } else {
+                let others = [
+                    0, 5, 10, 11, 16, 18, 18, 19, 24, 24, 25, 27, 28, 30, 129, GREATEST,
+                ];
+                numbers[code] = r.one_of(&others);
+            }
         }
-        _ => numbers[0] = r.one_of(&[0, 19, 26, 127, 128, 255, 256, GREATEST]),
+        _ if r.once_in(3) => numbers[0] = r.one_of(&ONLY_ON_A_BOARD),
+        _ => numbers[0] = r.one_of(&[0, 19, 24, 26, 127, 128, 255, 256, GREATEST]),
     }
     encode(&numbers)
 }
@@ -118,14 +128,48 @@ fn over_a_limit(r: &mut Random) -> Vec<u8> {
         _ if r.once_in(2) => (vec![r.one_of(&[10, 18])], 4_096),
         _ => (vec![r.one_of(&[10, 18]), 3, 8], 255),
     };
-    let over = r.one_of(&[limit + 1, limit + 1, 2 * limit, GREATEST]);
     numbers.extend(before);
+    announced(r, numbers, limit)
+}
+
+/// The numbers and one over its limit.
+fn announced(r: &mut Random, mut numbers: Vec<u64>, limit: u64) -> Vec<u8> {
+    let over = r.one_of(&[limit + 1, limit + 1, 2 * limit, GREATEST]);
     numbers.push(over);
     // Sometimes what the count announces is there.
     if over < 500 && r.once_in(2) {
         numbers.resize(numbers.len() + 3 * over as usize, 1);
     }
     encode(&numbers)
+}
+
+/// A query under code 16 with a list, a room or a kind of codes 20 to 23 over its limit.
+fn over_a_limit_of_a_summary(r: &mut Random) -> Vec<u8> {
+    let settings: &[u64] = match r.below(2) {
+        0 => &[BOARD, 1, 0],
+        _ => &[BOARD, 2, 0, 8],
+    };
+    let table: &[u64] = &[8, 3, 0, 8, 0];
+    let summary: &[u64] = &[5, 8, 0, 1, 0, 8];
+    let tasks: &[u64] = &[3, 1, 4, 4];
+    // One window in the memory.
+    let memory = [&table[..1], &[1], &table[1..]].concat();
+    let (before, limit) = match r.below(13) {
+        0 => (vec![r.between(20, 22), 8], MOST_NEW_NUMBERS),
+        1 => ([&[20], table].concat(), 12_400),
+        2 => ([&[21], table].concat(), MOST_SUMMARY_NUMBERS),
+        3 => ([&[22], table].concat(), MOST_SUMMARY_NUMBERS),
+        4 => ([&[22], table, summary].concat(), MOST_NEW_NUMBERS),
+        5 => ([&[22], table, summary, tasks].concat(), MOST_LENGTHS),
+        6 => {
+            let lengths = [2, 3, GREATEST];
+            ([&[22], table, summary, tasks, &lengths].concat(), 12_400)
+        }
+        7 => (vec![23, 8, r.below(99)], MOST_NEW_NUMBERS),
+        8 => ([&[23], &memory[..]].concat(), MOST_SUMMARY_NUMBERS),
+        _ => ([&[23], &memory[..], summary].concat(), 2),
+    };
+    announced(r, [settings, &before].concat(), limit)
 }
 
 /// Queries up to the last byte used, then nothing, or a byte or a query more.
@@ -155,5 +199,39 @@ fn fill_exactly(r: &mut Random, bytes: &mut Vec<u8>) {
 fn overflow(r: &mut Random, bytes: &mut Vec<u8>) {
     while bytes.len() <= MOST_BYTES {
         bytes.extend(encode(&generate::query(r).numbers()));
+    }
+}
+
+#[cfg(test)]
+mod tests {
+    use super::*;
+    use crate::stream;
+
+    #[test]
+    fn bad_ends_are_bad() {
+        let mut random = Random::new(37);
+        for _ in 0..3_000 {
+            let bytes = bad_end(&mut random);
+            let stream = stream::read(&bytes);
+            assert!(
+                stream.queries.is_empty() && stream.bad.is_some(),
+                "{bytes:?}"
+            );
+        }
+    }
+
+    /// Each limit of codes 20 to 23, under both counts of settings.
+    #[test]
+    fn limits_of_summaries_are_asked() {
+        let mut random = Random::new(38);
+        let mut asked = std::collections::BTreeSet::new();
+        for _ in 0..2_000 {
+            let bytes = over_a_limit_of_a_summary(&mut random);
+            let settings = usize::from(bytes[1]);
+            asked.insert((settings, bytes[2 + settings], stream::read(&bytes).bad));
+        }
+        // 20 windows and room, 21 windows and summary, 22 windows, summary, tasks, lengths and
+        // room, 23 windows, summary and kind.
+        assert_eq!(asked.len(), 2 * (2 + 2 + 5 + 3), "{asked:?}");
     }
 }

@@ -1,14 +1,17 @@
 //! Every small table, and every small group on the smaller ones; every small table that two teams
 //! share, and every one of up to two windows that may break every rule, without a shortest allowed
-//! window m and with every one that is not far longer than the frame; every short plan file, of the
-//! old form and with m first; every bad query by a code or a count of code 16.
+//! window m and with every one that is not far longer than the frame; every summary and every edit of
+//! small ones (`enumerate_edits`); every short plan file, of the old form and with m first; every bad
+//! query by a code or a count of code 16.
 
+use crate::enumerate_edits;
 use crate::generate;
 use crate::numbers::encode;
 use crate::owners::OWNERS;
 use crate::plan::Form;
 use crate::query::{
-    Query, BOARD, MOST_NEW_NUMBERS, MOST_OLD_NUMBERS, MOST_PLAN_BYTES, MOST_RECORDS, ON_A_BOARD,
+    Query, BOARD, MOST_LENGTHS, MOST_NEW_NUMBERS, MOST_OLD_NUMBERS, MOST_PLAN_BYTES, MOST_RECORDS,
+    MOST_ROOM, MOST_SUMMARY_NUMBERS, ONLY_ON_A_BOARD, ON_A_BOARD,
 };
 use crate::shortest::MOST_SHORTEST;
 use crate::stream::MOST_BYTES;
@@ -26,7 +29,7 @@ const FRAME_OF_ANY_WINDOWS: u64 = 3;
 const MOST_ANY_BYTES: usize = 7;
 const ANY_BYTES: [u8; 6] = [0, 1, 2, 3, 4, 0x80];
 
-/// Streams of bad queries, then of every small outage, shared table, plan and verdict.
+/// Streams of bad queries, then of every small outage, shared table, summary, edit, plan and verdict.
 pub fn streams() -> impl Iterator<Item = Vec<u8>> {
     let bad = bad_queries().into_iter().map(|numbers| encode(&numbers));
     bad.chain(streams_of_queries())
@@ -35,7 +38,8 @@ pub fn streams() -> impl Iterator<Item = Vec<u8>> {
 fn streams_of_queries() -> impl Iterator<Item = Vec<u8>> {
     let shared = any_windows().chain(shared()).chain(with_shortest());
     let plans = any_plans().chain(plans());
-    let queries = outages().chain(shared).chain(plans).chain(verdicts());
+    let tables = outages().chain(shared).chain(enumerate_edits::queries());
+    let queries = tables.chain(plans).chain(verdicts());
     let mut encoded = queries.map(|query| encode(&query.numbers())).peekable();
     std::iter::from_fn(move || {
         encoded.peek()?;
@@ -59,6 +63,11 @@ fn bad_queries() -> Vec<Vec<u64>> {
         bad.extend(bad_queries_under(settings));
     }
     for code in ON_A_BOARD {
+        if ONLY_ON_A_BOARD.contains(&code) {
+            // Alone, with what would be its table and summary under 16.
+            bad.push([&[code], &FULL[..], &[5, 8, 0, 1, 0, 8, 0, 0, 0]].concat());
+            continue;
+        }
         let over = match code {
             17 => MOST_NEW_NUMBERS + 1,
             _ => MOST_OLD_NUMBERS + 1,
@@ -87,13 +96,44 @@ fn bad_queries_under(settings: &[u64]) -> Vec<Vec<u64>> {
     for code in ON_A_BOARD {
         let over = MOST_NEW_NUMBERS + 1;
         let ones = vec![1; over as usize];
-        bad.push([settings, &[code, 8, over], &ones].concat());
+        let before_windows = match code {
+            23 => &[8, 1][..],
+            _ => &[8],
+        };
+        bad.push([settings, &[code], before_windows, &[over], &ones].concat());
         let tasks = match code {
             6..=9 | 17 => over,
             12..=15 => MOST_RECORDS + 1,
             _ => continue,
         };
         bad.push([settings, &[code], full, &[tasks], &ones].concat());
+    }
+    bad.extend(bad_summaries_under(settings));
+    bad
+}
+
+/// Room, summaries, tasks, lengths and a kind over their limits; each edit, cut short.
+fn bad_summaries_under(settings: &[u64]) -> Vec<Vec<u64>> {
+    let full = &FULL[..];
+    let memory = &[8, 1, 3, 0, 8, 0][..];
+    let summary = &[5, 8, 0, 1, 0, 8][..];
+    let over = |before: &[&[u64]], limit: u64| {
+        let ones = vec![1; limit as usize + 9];
+        [settings, &before.concat(), &[limit + 1], &ones].concat()
+    };
+    let mut bad = vec![
+        over(&[&[20], full], MOST_ROOM),
+        over(&[&[21], full], MOST_SUMMARY_NUMBERS),
+        over(&[&[22], full], MOST_SUMMARY_NUMBERS),
+        over(&[&[22], full, summary], MOST_NEW_NUMBERS),
+        over(&[&[22], full, summary, &[0]], MOST_LENGTHS),
+        over(&[&[22], full, summary, &[0, 1, 4]], MOST_ROOM),
+        over(&[&[23], memory], MOST_SUMMARY_NUMBERS),
+        over(&[&[23], memory, summary], 2),
+    ];
+    for kind in 0..3 {
+        let edit = [settings, &[23], memory, summary, &[kind, 0, 0, 8, 0]].concat();
+        bad.extend((settings.len() + 1..edit.len()).map(|end| edit[..end].to_vec()));
     }
     bad
 }
@@ -224,7 +264,7 @@ fn any_plans() -> impl Iterator<Item = Query> {
 
 /// Each tick is nobody's or begins a window of one owner, or it goes on with the window before.
 /// The legal lists are those without a cut, where no window begins at the end of its owner's.
-fn shared_lists(frame: u64) -> Vec<Vec<u64>> {
+pub fn shared_lists(frame: u64) -> Vec<Vec<u64>> {
     let mut lists: Vec<Vec<u64>> = vec![Vec::new()];
     for tick in 0..frame {
         let mut longer = Vec::new();
@@ -322,9 +362,11 @@ mod tests {
 
     #[test]
     fn bad_queries_are_bad() {
-        // 4 counts; twice 41 codes without the 13, 13 tables and 9 groups; after each number but
-        // the last of 9 and of 10; 13 tables alone; 2 plans twice.
-        assert_eq!(bad_queries().len(), 4 + 2 * (28 + 13 + 9) + 8 + 9 + 13 + 4);
+        // 4 counts; twice 41 codes without the 17, 17 tables and 9 groups; after each number but
+        // the last of 9 and of 10; 13 tables and 4 codes alone; 2 plans twice; 8 limits of
+        // summaries and edits, and 17 ends of three edits, twice.
+        let old = 4 + 2 * (24 + 17 + 9) + 8 + 9 + 13 + 4 + 4;
+        assert_eq!(bad_queries().len(), old + 2 * (8 + 3 * 17));
         for numbers in bad_queries() {
             let stream = stream::read(&encode(&numbers));
             assert!(

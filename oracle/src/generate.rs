@@ -11,6 +11,7 @@ use crate::query::{Query, RunNumbers};
 use crate::random::Random;
 use crate::slivers;
 use crate::spoil;
+use crate::summaries;
 use crate::table::{TableNumbers, MOST_FRAME, MOST_WINDOWS};
 use crate::tasks::{least_common_multiple, TaskNumbers};
 use crate::teams;
@@ -39,15 +40,26 @@ pub fn query(r: &mut Random) -> Query {
     if r.once_in(200) {
         return slivers::query_at_a_limit(r);
     }
-    // A quarter of the queries has m, another one is for one of two teams without it.
+    if r.once_in(200) {
+        return summaries::query_at_a_limit(r);
+    }
+    // A third of the queries is about summaries. A quarter of the others has m, another one is for
+    // one of two teams without it.
+    let is_about_summaries = r.once_in(3);
     let kind = r.below(4);
     loop {
         let faults = faults(r);
-        let plain = any_query(r, faults);
         let query = match kind {
-            0 => slivers::with_shortest(r, faults, plain),
-            1 => teams::share(r, faults, plain),
-            _ => plain,
+            _ if is_about_summaries => summaries::query(r, faults),
+            0 => {
+                let plain = any_query(r, faults);
+                slivers::with_shortest(r, faults, plain)
+            }
+            1 => {
+                let plain = any_query(r, faults);
+                teams::share(r, faults, plain)
+            }
+            _ => any_query(r, faults),
         };
         if steps(&query) <= allowance {
             return query;
@@ -94,6 +106,18 @@ pub fn steps(query: &Query) -> u64 {
             plan::read(*form, bytes).map_or(0, |(t, g)| verdict_steps(&t, &g))
         }
         Query::Replay(_, _, trace) => replay_steps(trace),
+        Query::MakeSummary(table, _) | Query::SummaryAmount(table, _, _) => {
+            legal_frame(table).pow(2)
+        }
+        Query::Margins(margins) => {
+            let frame = legal_frame(&margins.table);
+            frame.pow(2) + margins.lengths.len() as u64 * frame
+        }
+        // The summaries of the old table and of the new one.
+        Query::Edit(edit) => {
+            let frame = edit.old().map_or(0, |table| legal_frame(&table));
+            2 * frame.pow(2)
+        }
         Query::Outage(_) | Query::Demand(..) | Query::Run(_) => 0,
     }
 }

@@ -10,16 +10,20 @@ use crate::query::{Query, MOST_ROOM};
 use crate::random::Random;
 use crate::slivers;
 use crate::spoil;
+use crate::summaries;
 use crate::table::{Table, TableNumbers, MOST_FRAME, MOST_LENGTH};
 use crate::tasks::{MOST_TASKS, MOST_TICKS};
 use crate::teams;
 use crate::tight::Ground;
 use crate::traces;
 
-/// Some queries on one table, a third of them on one that it shares with another team, half of
-/// those with a shortest allowed window. One that tries every start at every length takes up to
+/// Some queries on one table: in a third of the sets about its summary, else a third of them on one
+/// that it shares with another team, half of those with a shortest allowed window. One that tries every start at every length takes up to
 /// `most_steps` such steps, or as many as the frame `frames::LEAST_FRAME` needs.
 pub fn queries(r: &mut Random, most_steps: u64) -> Vec<Query> {
+    if r.once_in(3) {
+        return summaries::large_queries(r, most_steps);
+    }
     let mut queries = plain_queries(r, most_steps);
     for query in &mut queries {
         if r.once_in(3) {
@@ -660,7 +664,8 @@ mod tests {
         let mut random = Random::new(11);
         let most_steps = 1_000_000;
         let all = (0..300).flat_map(|_| queries(&mut random, most_steps));
-        for query in all.filter(|query| matches!(query.code(), 2 | 3 | 7 | 8 | 10 | 13 | 14)) {
+        let has_many = |code| matches!(code, 2 | 3 | 7 | 8 | 10 | 13 | 14 | 20 | 21 | 23);
+        for query in all.filter(|query| has_many(query.code())) {
             assert!(generate::steps(&query) <= most_steps, "{query:?}");
         }
     }

@@ -1,15 +1,16 @@
-//! The independent second program of Palikudyom: document 01 and requests 1, 2, 4 and 5 of
+//! The independent second program of Palikudyom: document 01 and requests 1, 2, 4, 5 and 6 of
 //! document 02, read from scratch, by brute force. Request 3 makes the first program faster and
 //! changes no answer: this one goes on to try every start, and `oracle large` asks where that
 //! counts.
 //!
 //! To believe its answers, read `numbers`, `answer`, `table`, `owners`, `shortest`, `tasks`,
-//! `verdict`, `bound`, `machine`, `plan`, `trace` and `replay`, in this order, and `examples`,
-//! `owner_examples` and `shortest_examples`, which are the documents' own and some worked out by
-//! hand; then `query` and `stream`, which are docs/ASK.md's.
-//! The other files make streams (`generate`, `outages`, `traces`, `teams`, `slivers`, `large` with
-//! `frames`, `tight` and `edge_jobs`, `spoil`, `batch`, `enumerate`, `random`, `text`) and compare
-//! (`compare`): a fault there can hide a difference in the first program but can't change an
+//! `verdict`, `bound`, `machine`, `plan`, `trace`, `replay`, `summary` and `edit`, in this order,
+//! and `examples`, `owner_examples`, `shortest_examples`, `summary_examples` and `edit_examples`,
+//! which are the documents' own and some worked out by hand; then `query` and `stream`, which are
+//! docs/ASK.md's.
+//! The other files make streams (`generate`, `outages`, `traces`, `teams`, `slivers`, `summaries`,
+//! `edits`, `large` with `frames`, `tight` and `edge_jobs`, `spoil`, `batch`, `enumerate`,
+//! `enumerate_edits`, `random`, `text`) and compare (`compare`): a fault there can hide a difference in the first program but can't change an
 //! answer.
 
 mod answer;
@@ -17,7 +18,12 @@ mod batch;
 mod bound;
 mod compare;
 mod edge_jobs;
+mod edit;
+#[cfg(test)]
+mod edit_examples;
+mod edits;
 mod enumerate;
+mod enumerate_edits;
 #[cfg(test)]
 mod examples;
 mod frames;
@@ -39,6 +45,10 @@ mod shortest_examples;
 mod slivers;
 mod spoil;
 mod stream;
+mod summaries;
+mod summary;
+#[cfg(test)]
+mod summary_examples;
 mod table;
 mod tasks;
 mod teams;

@@ -1,11 +1,12 @@
 //! One query of a stream: its entry and arguments, its numbers and its line (docs/ASK.md).
 
 use crate::answer::Answer;
+use crate::edit::{self, Edit, Kind};
 use crate::numbers::Cursor;
 use crate::plan::{self, Form};
 use crate::table::{self, TableNumbers};
 use crate::tasks::{self, TaskNumbers};
-use crate::{bound, machine, replay, verdict};
+use crate::{bound, machine, replay, summary, verdict};
 
 /// Windows and tasks of codes 1 to 15 alone.
 pub const MOST_OLD_NUMBERS: u64 = 200;
@@ -16,13 +17,18 @@ pub const MOST_RECORDS: u64 = 40;
 /// Windows and tasks under code 16 and of the codes that document 02 adds (ASK-02.md).
 pub const MOST_NEW_NUMBERS: u64 = 400;
 pub const MOST_TRACE_BYTES: u64 = 20_000;
+/// A summary, or the memory lent for one.
+pub const MOST_SUMMARY_NUMBERS: u64 = 9_000;
+pub const MOST_LENGTHS: u64 = 1_000;
 
 /// Code 16, "on a board": settings, then a query whose windows are in threes.
 pub const BOARD: u64 = 16;
 /// How many settings there may be: the owner asked for, or the owner and m.
 const SETTINGS: [u64; 2] = [1, 2];
 /// The codes that may stand under 16.
-pub const ON_A_BOARD: [u64; 13] = [1, 2, 3, 4, 6, 7, 8, 9, 12, 13, 14, 15, 17];
+pub const ON_A_BOARD: [u64; 17] = [1, 2, 3, 4, 6, 7, 8, 9, 12, 13, 14, 15, 17, 20, 21, 22, 23];
+/// "Codes 20 to 23 stand under 16 only."
+pub const ONLY_ON_A_BOARD: [u64; 4] = [20, 21, 22, 23];
 
 /// What every number of a lent buffer is at entry.
 const AT_ENTRY: u64 = 7;
@@ -41,6 +47,10 @@ pub enum Query {
     Plan(Form, Vec<u8>),
     /// The group in triples; the trace as bytes.
     Replay(TableNumbers, TaskNumbers, Vec<u8>),
+    MakeSummary(TableNumbers, u64),
+    SummaryAmount(TableNumbers, Vec<u64>, u64),
+    Margins(MarginNumbers),
+    Edit(EditNumbers),
 }
 
 #[derive(Clone, Debug, PartialEq, Eq)]
@@ -50,6 +60,36 @@ pub struct RunNumbers {
     pub ticks: u64,
     pub jobs: Vec<u64>,
     pub room: u64,
+}
+
+/// The group in triples.
+#[derive(Clone, Debug, PartialEq, Eq)]
+pub struct MarginNumbers {
+    pub table: TableNumbers,
+    pub summary: Vec<u64>,
+    pub tasks: TaskNumbers,
+    pub lengths: Vec<u64>,
+    pub room: u64,
+}
+
+#[derive(Clone, Debug, PartialEq, Eq)]
+pub struct EditNumbers {
+    /// Its windows are the windows memory, of which the first `count` threes are the list.
+    pub memory: TableNumbers,
+    pub count: u64,
+    pub summary: Vec<u64>,
+    pub edit: Edit,
+}
+
+impl EditNumbers {
+    /// The table before the edit; none where the memory is shorter than the count says.
+    pub fn old(&self) -> Option<TableNumbers> {
+        let list = self.memory.windows.get(..3 * self.count as usize)?;
+        Some(TableNumbers {
+            windows: list.to_vec(),
+            ..self.memory.clone()
+        })
+    }
 }
 
 impl Query {
@@ -80,13 +120,17 @@ impl Query {
             [] if code <= 15 => MOST_OLD_NUMBERS,
             _ => MOST_NEW_NUMBERS,
         };
-        let table = |c: &mut Cursor| -> Result<TableNumbers, usize> {
+        let table_in = |c: &mut Cursor, frame: u64| -> Result<TableNumbers, usize> {
             Ok(TableNumbers {
-                frame: c.number()?,
+                frame,
                 windows: read_list(c, most_numbers)?,
                 owner: settings.first().copied(),
                 shortest: settings.get(1).copied(),
             })
+        };
+        let table = |c: &mut Cursor| {
+            let frame = c.number()?;
+            table_in(c, frame)
         };
         let tasks = |c: &mut Cursor| match records {
             true => read_records(c),
@@ -110,11 +154,33 @@ impl Query {
             }),
             10 => Query::Plan(Form::Old, read_bytes(c, MOST_PLAN_BYTES)?),
             17 => Query::Replay(table(c)?, tasks(c)?, read_bytes(c, MOST_TRACE_BYTES)?),
+            20 => Query::MakeSummary(table(c)?, c.number_up_to(MOST_ROOM)?),
+            21 => {
+                let (table, summary) = (table(c)?, read_list(c, MOST_SUMMARY_NUMBERS)?);
+                Query::SummaryAmount(table, summary, c.number()?)
+            }
+            22 => Query::Margins(MarginNumbers {
+                table: table(c)?,
+                summary: read_list(c, MOST_SUMMARY_NUMBERS)?,
+                tasks: tasks(c)?,
+                lengths: read_list(c, MOST_LENGTHS)?,
+                room: c.number_up_to(MOST_ROOM)?,
+            }),
+            23 => {
+                let (frame, count) = (c.number()?, c.number()?);
+                Query::Edit(EditNumbers {
+                    memory: table_in(c, frame)?,
+                    count,
+                    summary: read_list(c, MOST_SUMMARY_NUMBERS)?,
+                    edit: read_edit(c)?,
+                })
+            }
             _ => Query::Plan(Form::WithShortest, read_bytes(c, MOST_PLAN_BYTES)?),
         })
     }
 
-    /// The table it is about; a demand and a plan have none lent.
+    /// The table it is about, of an edit with the whole memory as windows; a demand and a plan have
+    /// none lent.
     pub fn table(&self) -> Option<&TableNumbers> {
         match self {
             Query::LeastSupply(table, _)
@@ -124,8 +190,12 @@ impl Query {
             | Query::Margin(table, _, _)
             | Query::Verdict(table, _)
             | Query::Bound(table, _, _)
-            | Query::Replay(table, _, _) => Some(table),
+            | Query::Replay(table, _, _)
+            | Query::MakeSummary(table, _)
+            | Query::SummaryAmount(table, _, _) => Some(table),
             Query::Run(run) => Some(&run.table),
+            Query::Margins(margins) => Some(&margins.table),
+            Query::Edit(edit) => Some(&edit.memory),
             Query::Demand(..) | Query::Plan(..) => None,
         }
     }
@@ -139,8 +209,12 @@ impl Query {
             | Query::Margin(table, _, _)
             | Query::Verdict(table, _)
             | Query::Bound(table, _, _)
-            | Query::Replay(table, _, _) => Some(table),
+            | Query::Replay(table, _, _)
+            | Query::MakeSummary(table, _)
+            | Query::SummaryAmount(table, _, _) => Some(table),
             Query::Run(run) => Some(&mut run.table),
+            Query::Margins(margins) => Some(&mut margins.table),
+            Query::Edit(edit) => Some(&mut edit.memory),
             Query::Demand(..) | Query::Plan(..) => None,
         }
     }
@@ -171,6 +245,10 @@ impl Query {
             Query::Plan(Form::Old, _) => 10,
             Query::Replay(..) => 17,
             Query::Plan(Form::WithShortest, _) => 18,
+            Query::MakeSummary(..) => 20,
+            Query::SummaryAmount(..) => 21,
+            Query::Margins(_) => 22,
+            Query::Edit(_) => 23,
         }
     }
 
@@ -184,7 +262,9 @@ impl Query {
         n.push(self.code());
         match self {
             Query::Delay(table) | Query::Outage(table) => push_table(&mut n, table),
-            Query::LeastSupply(table, last) | Query::CriticalPartition(table, last) => {
+            Query::LeastSupply(table, last)
+            | Query::CriticalPartition(table, last)
+            | Query::MakeSummary(table, last) => {
                 push_table(&mut n, table);
                 n.push(*last);
             }
@@ -214,6 +294,26 @@ impl Query {
                 push_tasks(&mut n, tasks);
                 push_bytes(&mut n, trace);
             }
+            Query::SummaryAmount(table, summary, length) => {
+                push_table(&mut n, table);
+                push_list(&mut n, summary.iter().copied());
+                n.push(*length);
+            }
+            Query::Margins(margins) => {
+                push_table(&mut n, &margins.table);
+                push_list(&mut n, margins.summary.iter().copied());
+                push_tasks(&mut n, &margins.tasks);
+                push_list(&mut n, margins.lengths.iter().copied());
+                n.push(margins.room);
+            }
+            Query::Edit(numbers) => {
+                n.extend([numbers.memory.frame, numbers.count]);
+                push_list(&mut n, numbers.memory.windows.iter().copied());
+                push_list(&mut n, numbers.summary.iter().copied());
+                let edit = numbers.edit;
+                n.extend([edit.kind as u64, edit.index]);
+                n.extend([edit.start, edit.end, edit.owner]);
+            }
         }
         n
     }
@@ -240,6 +340,31 @@ impl Query {
             }
             Query::Plan(form, bytes) => plan::plan(*form, bytes),
             Query::Replay(table, tasks, trace) => replay::replay(table, tasks, trace),
+            Query::MakeSummary(table, room) => {
+                let mut lent = lend(*room);
+                let answer = summary::make(table, &mut lent).into();
+                return with_buffer(answer, &lent);
+            }
+            Query::SummaryAmount(table, summary, length) => {
+                summary::least_supply(table, summary, *length)
+            }
+            Query::Margins(MarginNumbers {
+                table,
+                summary,
+                tasks,
+                lengths,
+                room,
+            }) => {
+                let mut lent = vec![AT_ENTRY as i64; *room as usize];
+                let r = summary::margins(table, summary, tasks, lengths, &mut lent);
+                return with_buffer(r.into(), &lent);
+            }
+            Query::Edit(numbers) => {
+                let mut after = numbers.clone();
+                let (memory, summary) = (&mut after.memory, &mut after.summary);
+                let r = edit::edit(memory, numbers.count, summary, &numbers.edit);
+                return with_buffer(r.into(), &memory.windows) + &buffer(summary);
+            }
         };
         Answer::from(result).to_string()
     }
@@ -257,6 +382,19 @@ fn read_settings(cursor: &mut Cursor) -> Result<Vec<u64>, usize> {
         count if SETTINGS.contains(&count) => (0..count).map(|_| cursor.number()).collect(),
         _ => Err(first),
     }
+}
+
+/// "Code 23's kind above 2 is a bad query at it; numbers that a kind does not use are read and
+/// ignored."
+fn read_edit(cursor: &mut Cursor) -> Result<Edit, usize> {
+    let greatest_kind = Kind::ALL.len() as u64 - 1;
+    Ok(Edit {
+        kind: Kind::ALL[cursor.number_up_to(greatest_kind)? as usize],
+        index: cursor.number()?,
+        start: cursor.number()?,
+        end: cursor.number()?,
+        owner: cursor.number()?,
+    })
 }
 
 fn read_records(cursor: &mut Cursor) -> Result<TaskNumbers, usize> {
@@ -309,8 +447,12 @@ fn lend(room: u64) -> Vec<u64> {
     vec![AT_ENTRY; room as usize]
 }
 
-fn with_buffer(answer: Answer, lent: &[u64]) -> String {
-    let mut line = format!("{answer} BUFFER");
+fn with_buffer<N: ToString>(answer: Answer, lent: &[N]) -> String {
+    answer.to_string() + &buffer(lent)
+}
+
+fn buffer<N: ToString>(lent: &[N]) -> String {
+    let mut line = " BUFFER".to_string();
     for number in lent {
         line.push(' ');
         line.push_str(&number.to_string());

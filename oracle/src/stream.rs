@@ -77,6 +77,11 @@ mod tests {
         for code in [0, 19, 127, 128, 4_294_967_295] {
             assert_eq!(answer(&[code, 0, 0]), ["BAD QUERY at 0"]);
         }
+        // These stand under 16 only.
+        for code in crate::query::ONLY_ON_A_BOARD {
+            let query = [code, 8, 3, 0, 8, 0, 5, 8, 0, 1, 0, 8, 3, 0, 0, 0];
+            assert_eq!(answer(&query), ["BAD QUERY at 0"], "{code}");
+        }
     }
 
     #[test]
@@ -222,13 +227,20 @@ mod tests {
             (14, &[1, 2, 2, 2, 0], "BOUND 2"),
             (15, &[1, 2, 2, 2, 0, 0, 0], "MET backlog 0 BUFFER"),
             (17, &[0, 0], "SAME"),
+            (20, &[5], "SUMMARY 5 BUFFER 8 0 1 0 8"),
+            (21, &[5, 8, 0, 1, 0, 8, 9], "AMOUNT 9"),
+            (
+                22,
+                &[5, 8, 0, 1, 0, 8, 3, 2, 2, 2, 2, 3, 4, 3],
+                "MARGINS 2 BUFFER 1 0 7",
+            ),
         ] {
             for settings in [&[1, 1][..], &[2, 1, 1], &[2, 1, 8]] {
                 let query = [&[16], settings, &[code], &table, rest].concat();
                 assert_eq!(answer(&query), [line], "{code}");
             }
         }
-        let others = [0, 5, 10, 11, 16].into_iter().chain(18..40);
+        let others = [0, 5, 10, 11, 16, 18, 19].into_iter().chain(24..40);
         for code in others.chain([127, 128, 4_294_967_295]) {
             let query = [&[16, 1, 1, code], &table[..]].concat();
             assert_eq!(answer(&query), ["BAD QUERY at 3"], "{code}");
@@ -271,6 +283,86 @@ mod tests {
         // What stands alone keeps its limits, also after code 16.
         let alone = [&[16, 1, 0, 4, 8, 3, 0, 8, 0, 4, 8, 201][..], &[1; 201]].concat();
         assert_eq!(answer(&alone), ["OUTAGE 0", "BAD QUERY at 11"]);
+    }
+
+    /// Codes 20 to 22 have windows and tasks as the others do, code 23 has windows memory; and a
+    /// summary, lengths and room have limits of their own.
+    #[test]
+    fn limits_of_summaries_and_edits() {
+        let board = [16, 1, 0];
+        let full = [8, 3, 0, 8, 0];
+        for code in [20, 21, 22] {
+            let before = [&board[..], &[code, 8]].concat();
+            let after = [0, 0, 0, 0, 0];
+            let windows = |count| answer(&list(&before, count, 1, &after)).remove(0);
+            assert!(windows(400).starts_with("REFUSED 1 at 0"), "{code}");
+            assert_eq!(windows(401), "BAD QUERY at 5", "{code}");
+        }
+        let room = |room| answer(&[&board[..], &[20], &full, &[room]].concat()).remove(0);
+        assert!(room(12_400).starts_with("SUMMARY 5 BUFFER 8 0 1 0 8 7 7 "));
+        assert_eq!(room(12_401), "BAD QUERY at 9");
+        let wrong = "REFUSED 14 at 0";
+        for (code, after, line) in [
+            (21, &[4][..], wrong.to_string()),
+            (22, &[0, 0, 1], format!("{wrong} BUFFER 7")),
+        ] {
+            let before = [&board[..], &[code], &full].concat();
+            let summary = |count| answer(&list(&before, count, 1, after));
+            assert_eq!(summary(9_000), [line], "{code}");
+            assert_eq!(summary(9_001), ["BAD QUERY at 9"], "{code}");
+        }
+        let summary = [5, 8, 0, 1, 0, 8];
+        let before = [&board[..], &[22], &full, &summary].concat();
+        let tasks = |count| answer(&list(&before, count, 1, &[0, 0]));
+        assert_eq!(tasks(96), ["MARGINS 0 BUFFER"]);
+        assert_eq!(tasks(400), ["REFUSED 4 at 0 BUFFER"]);
+        assert_eq!(tasks(401), ["BAD QUERY at 15"]);
+        let before = [&before[..], &[0]].concat();
+        let lengths = |count| answer(&list(&before, count, 1, &[0])).remove(0);
+        assert_eq!(lengths(1_000), "REFUSED 8 at 1000 BUFFER");
+        assert_eq!(lengths(1_001), "BAD QUERY at 16");
+        let room = |room| answer(&[&before[..], &[1, 3, room]].concat()).remove(0);
+        assert!(room(12_400).starts_with("MARGINS 1 BUFFER 3 7 7 "));
+        assert_eq!(room(12_401), "BAD QUERY at 18");
+    }
+
+    #[test]
+    fn limits_of_edits() {
+        let removal = [2, 0, 0, 0, 0];
+        let board = [16, 1, 0, 23, 8];
+        let edit = |count, windows: u64, summary: u64, edit: &[u64]| {
+            let before = list(&[&board[..], &[count]].concat(), windows, 1, &[]);
+            let line = answer(&list(&before, summary, 1, edit)).remove(0);
+            line.split(" BUFFER").next().unwrap_or("").to_string()
+        };
+        // The windows memory, the summary memory, and the kind; any count.
+        assert_eq!(edit(1, 400, 0, &removal), "REFUSED 3 at 0");
+        assert_eq!(edit(1, 401, 0, &removal), "BAD QUERY at 6");
+        assert_eq!(edit(1, 3, 9_000, &removal), "REFUSED 3 at 0");
+        assert_eq!(edit(1, 3, 9_001, &removal), "BAD QUERY at 10");
+        assert_eq!(edit(4_294_967_295, 3, 0, &removal), "REFUSED 1 at 0");
+        for kind in [3, 4, 256, 4_294_967_295] {
+            assert_eq!(edit(1, 3, 1, &[kind, 0, 0, 0, 0]), "BAD QUERY at 12");
+        }
+        // Every number of the edit is read, of every kind.
+        for kind in 0..3 {
+            let any = [kind, 4_294_967_295, 4_294_967_295, 4_294_967_295, 0];
+            assert_eq!(edit(1, 3, 1, &any), "REFUSED 3 at 0");
+            for end in 0..5 {
+                let bytes = encode(&any[..end]).len();
+                let bad = format!("BAD QUERY at {}", 12 + bytes);
+                assert_eq!(edit(1, 3, 1, &any[..end]), bad);
+            }
+        }
+        // One line has both memories, also where one is empty, and then the next query's.
+        let moved = [
+            16, 1, 0, 23, 8, 1, 3, 0, 8, 0, 5, 8, 0, 1, 0, 8, 0, 0, 2, 8, 9,
+        ];
+        let two = [&moved[..], &[5, 0, 0]].concat();
+        let line = "EDITED count 1 summary 5 BUFFER 2 8 0 BUFFER 6 12 1 2 8";
+        assert_eq!(answer(&two), [line, "DEMAND 0"]);
+        let empty = [&board[..], &[0, 0, 0], &removal].concat();
+        assert_eq!(answer(&empty), ["REFUSED 1 at 0 BUFFER BUFFER"]);
     }
 
     #[test]

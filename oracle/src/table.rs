@@ -153,30 +153,12 @@ impl Table {
         start.unwrap_or(0) as u64
     }
 
-    /// The maximal runs of t in 0 to P-1 where the least supply of t+1 exceeds that of t.
     pub fn critical_windows(&self) -> Vec<(u64, u64)> {
-        let mut least = LeastSupplies::new(self);
-        let mut windows: Vec<(u64, u64)> = Vec::new();
-        for t in 0..self.frame() {
-            if least.of(t + 1) > least.of(t) {
-                match windows.last_mut() {
-                    Some((_, end)) if *end == t => *end = t + 1,
-                    _ => windows.push((t, t + 1)),
-                }
-            }
-        }
-        windows
+        LeastSupplies::new(self).critical_windows()
     }
 
-    /// The greatest of A*t - P*(least supply of t) over t in 0 to P; at t = 0 it is 0.
     pub fn delay(&self) -> u64 {
-        let mut least = LeastSupplies::new(self);
-        let mut greatest = 0;
-        for t in 0..=self.frame() {
-            let short = (self.supplied_in_frame() * t).saturating_sub(self.frame() * least.of(t));
-            greatest = greatest.max(short);
-        }
-        greatest
+        LeastSupplies::new(self).delay()
     }
 
     /// "The longest outage is the longest run of unsupplied ticks over endless frames, 0 if every
@@ -216,6 +198,31 @@ impl<'a> LeastSupplies<'a> {
             self.of_rest.push(next);
         }
         self.table.supply_of_whole_frames(length) + self.of_rest[rest]
+    }
+
+    /// The maximal runs of t in 0 to P-1 where the least supply of t+1 exceeds that of t.
+    pub fn critical_windows(&mut self) -> Vec<(u64, u64)> {
+        let mut windows: Vec<(u64, u64)> = Vec::new();
+        for t in 0..self.table.frame() {
+            if self.of(t + 1) > self.of(t) {
+                match windows.last_mut() {
+                    Some((_, end)) if *end == t => *end = t + 1,
+                    _ => windows.push((t, t + 1)),
+                }
+            }
+        }
+        windows
+    }
+
+    /// The greatest of A*t - P*(least supply of t) over t in 0 to P; at t = 0 it is 0.
+    pub fn delay(&mut self) -> u64 {
+        let (frame, supplied) = (self.table.frame(), self.table.supplied_in_frame());
+        let mut greatest = 0;
+        for t in 0..=frame {
+            let short = (supplied * t).saturating_sub(frame * self.of(t));
+            greatest = greatest.max(short);
+        }
+        greatest
     }
 }
 

@@ -71,7 +71,7 @@ fn any_owners(r: &mut Random, table: &TableNumbers) -> Vec<u64> {
 
 /// A legal table's windows and, where it is silent, the other team's; now and then there is no
 /// other team, or there are too many windows.
-fn beside_a_team(r: &mut Random, table: &TableNumbers, owner: u64) -> Vec<u64> {
+pub fn beside_a_team(r: &mut Random, table: &TableNumbers, owner: u64) -> Vec<u64> {
     let own = table.windows.chunks(2).map(|w| [w[0], w[1], owner]);
     let mut windows: Vec<[u64; 3]> = own.collect();
     if !r.once_in(10) {
@@ -177,6 +177,7 @@ mod tests {
     use crate::answer::{Reason, Refusal};
     use crate::numbers::encode;
     use crate::owners::OWNERS;
+    use crate::query::ONLY_ON_A_BOARD;
     use crate::stream;
     use std::collections::BTreeMap;
 
@@ -369,11 +370,15 @@ mod tests {
         threes.iter().any(|w| w[2] == 0) && threes.iter().any(|w| w[2] == 1)
     }
 
-    /// Queries for an owner that set no m.
+    /// For an owner, without m and without a summary.
+    fn is_shared(query: &Query) -> bool {
+        query.settings().len() == 1 && !ONLY_ON_A_BOARD.contains(&query.code())
+    }
+
     fn shared_queries(seed: u64) -> impl Iterator<Item = Query> {
         let mut random = Random::new(seed);
         let queries = std::iter::repeat_with(move || generate::query(&mut random));
-        queries.filter(|query| query.settings().len() == 1)
+        queries.filter(is_shared)
     }
 
     /// Every edge is asked, once in 2,000 queries under code 16 with one setting or more often.
@@ -390,11 +395,11 @@ mod tests {
     }
 
     #[test]
-    fn a_quarter_of_the_queries_is_shared() {
+    fn a_sixth_of_the_queries_is_shared() {
         let mut random = Random::new(13);
-        let queries = (0..5_000).map(|_| generate::query(&mut random));
-        let shared = queries.filter(|query| query.settings().len() == 1).count();
-        assert!((1_000..1_300).contains(&shared), "{shared}");
+        let queries = (0..6_000).map(|_| generate::query(&mut random));
+        let shared = queries.filter(is_shared).count();
+        assert!((850..1_050).contains(&shared), "{shared}");
     }
 
     #[test]
