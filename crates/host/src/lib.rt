@@ -7,5 +7,6 @@ pub mod file;
 pub mod least_supply;
 pub mod partition;
 pub mod run;
+pub mod summary;
 pub mod trace;
 pub mod verdict;
