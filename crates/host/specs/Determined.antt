@@ -11,12 +11,13 @@ use Rattle.scope.specs.Run as Runs
 use Rattle.scope.specs.Run.{Outcome, Ran}
 use Rattle.scope.specs.Trace.{Completion, completion}
 use Rattle.scope.specs.Replay.{Replayed, Replayed.same, Replayed.differs, Replayed.missed}
+use Rattle.scope.specs.Summary.{Edited}
 use Rattle.scope.specs.Answers as Answers
 use Rattle.scope.specs.Answers.{Answer.given, Answer.refused, Delay}
 use Rattle.tables.specs.Determined.{undone}
 use Rattle.host.specs.declared.answer.Answer.{Answer}
 use Rattle.host.specs.Told.{told, amount, delay, signed, verdict, response, ended, ran, cAmount, cDelay, cMargin, cVerdict, cBound, cRan}
-use Rattle.host.specs.Told.{difference, replay, cReplay}
+use Rattle.host.specs.Told.{difference, replay, edited, cReplay, cEdited}
 
 -- told by its code: code 0 is a refusal
 abbrev untold : {A : Type 0} → (Answer → A) → Answer → Answers.Answer A
@@ -100,3 +101,6 @@ replays-determined = told-determined replay replays back
     back same = refl
     back (differs c m) = sides c m
     back (missed k j) = refl
+
+pub edits-determined : (x y : Answers.Answer Edited) → cEdited x ≡ cEdited y → x ≡ y
+edits-determined = told-determined edited (λ r. record { windows = r .a; numbers = r .b }) (λ x. refl)

@@ -8,6 +8,7 @@ use Rattle.scope.specs.Run as Runs
 use Rattle.scope.specs.Run.{Outcome, Ran}
 use Rattle.scope.specs.Trace.{Completion}
 use Rattle.scope.specs.Replay.{Replayed, Replayed.same, Replayed.differs, Replayed.missed}
+use Rattle.scope.specs.Summary.{Edited}
 use Rattle.scope.specs.Answers as Answers
 use Rattle.scope.specs.Answers.{Answer.given, Answer.refused, Delay}
 use Rattle.host.specs.declared.answer.Answer.{Answer}
@@ -61,6 +62,9 @@ replay same = record { code = 11; a = 0; b = 0; c = 0; d = 0 }
 replay (differs c m) = difference c m
 replay (missed k j) = record { code = 15; a = k; b = j; c = 0; d = 0 }
 
+abbrev pub edited : Edited → Answer
+edited x = record { code = 17; a = x .windows; b = x .numbers; c = 0; d = 0 }
+
 -- ---- answers
 
 abbrev pub cAmount : Answers.Answer ℕ → Answer
@@ -83,3 +87,6 @@ cRan = told ran
 
 abbrev pub cReplay : Answers.Answer Replayed → Answer
 cReplay = told replay
+
+abbrev pub cEdited : Answers.Answer Edited → Answer
+cEdited = told edited
