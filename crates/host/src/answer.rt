@@ -49,6 +49,8 @@ impl Answer {
     pub const TRACE_MISSED: u32 = 15;
     // Never given: a difference has a side.
     pub const BOTH_ENDED: u32 = 16;
+    // a: how many windows there are now, b: how many numbers their summary has
+    pub const EDITED: u32 = 17;
 }
 
 // Two numbers after a code.

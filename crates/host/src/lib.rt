@@ -3,6 +3,7 @@
 pub mod answer;
 pub mod bound;
 pub mod demand;
+pub mod edit;
 pub mod file;
 pub mod least_supply;
 pub mod partition;
