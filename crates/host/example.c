@@ -1,6 +1,6 @@
 /*
- * Document 01's marked examples on a table that two teams share, the other team's answers, one refusal of each number, and a board with a shortest allowed
- * window, through palikudyom.h: one line an answer. example.query asks the same, line by line, of the second program, and example.stdout is what that one answers.
+ * Document 01's marked examples on a table that two teams share, the other team's answers, one refusal of each number, a board with a shortest allowed
+ * window, and a summary that is kept beside a table through edits, through palikudyom.h: one line an answer. example.query asks the same, line by line, of the second program, and example.stdout is what that one answers.
  */
 #include "palikudyom.h"
 #include <stdio.h>
@@ -99,6 +99,10 @@ static void answer(const char *amount, struct palikudyom_answer x)
         number("MISSED instant ", x.a);
         number(" job ", x.b);
         break;
+    case PALIKUDYOM_EDITED:
+        number("EDITED count ", x.a);
+        number(" summary ", x.b);
+        break;
     }
 }
 
@@ -108,13 +112,18 @@ static void line(const char *amount, struct palikudyom_answer x)
     printf("\n");
 }
 
-/* an answer with what it left in the lent buffer */
-static void line_and_buffer(struct palikudyom_answer x, const uint32_t *buffer, size_t room)
+static void buffer(const uint32_t *numbers, size_t room)
 {
-    answer("WINDOWS ", x);
     printf(" BUFFER");
     for (size_t i = 0; i < room; i++)
-        number(" ", buffer[i]);
+        number(" ", numbers[i]);
+}
+
+/* an answer with what it left in the lent buffer */
+static void line_and_buffer(const char *amount, struct palikudyom_answer x, const uint32_t *numbers, size_t room)
+{
+    answer(amount, x);
+    buffer(numbers, room);
     printf("\n");
 }
 
@@ -127,14 +136,14 @@ static void critical(size_t room)
 {
     uint32_t out[] = {7, 7, 7, 7, 7};
     struct palikudyom_answer x = palikudyom_critical(FIRST, LIST(X), out, room);
-    line_and_buffer(x, out, room);
+    line_and_buffer("WINDOWS ", x, out, room);
 }
 
 static void run(const uint32_t *tasks, size_t tasks_len, uint32_t ticks, const uint32_t *jobs, size_t jobs_len, size_t room)
 {
     uint32_t counts[] = {7, 7, 7};
     struct palikudyom_answer x = palikudyom_run(FIRST, LIST(X), tasks, tasks_len, ticks, jobs, jobs_len, counts, room);
-    line_and_buffer(x, counts, room);
+    line_and_buffer("", x, counts, room);
 }
 
 static void replay(const uint32_t *tasks, size_t tasks_len, const uint8_t *trace, size_t trace_len)
@@ -277,6 +286,80 @@ static void plans(void)
     }
 }
 
+/* a table in memory of ours, with room for one window more, and beside it the summary of owner 0's windows, with room to grow */
+static uint32_t windows[] = {0, 2, 0, 2, 5, 1, 5, 7, 0, 7, 8, 1, 7, 7, 7};
+static uint32_t count = 4;
+static uint32_t summary[] = {7, 7, 7, 7, 7, 7, 7, 7, 7, 7, 7};
+
+static void make(size_t room)
+{
+    struct palikudyom_answer x = palikudyom_make_summary(FIRST, windows, 3 * count, summary, room);
+    line_and_buffer("SUMMARY ", x, summary, room);
+}
+
+/* the margins of six lengths at once, of the table that is given beside the summary */
+static void margins(const uint32_t *table, size_t table_len)
+{
+    const uint32_t lengths[] = {3, 4, 5, 6, 7, 8};
+    int64_t out[] = {7, 7, 7, 7, 7, 7, 7, 7};
+    answer("MARGINS ", palikudyom_margins(FIRST, table, table_len, LIST(summary), LIST(W6), LIST(lengths), LIST(out)));
+    printf(" BUFFER");
+    for (size_t i = 0; i < LENGTH(out); i++)
+        printf(" %lld", (long long)out[i]);
+    printf("\n");
+}
+
+/* an edit's answer, with both memories after it, as far as they were lent */
+static void edited(struct palikudyom_answer x, size_t windows_room, size_t summary_room)
+{
+    answer("", x);
+    buffer(windows, windows_room);
+    buffer(summary, summary_room);
+    printf("\n");
+    if (x.code == PALIKUDYOM_EDITED)
+        count = x.a;
+}
+
+static void move_window(uint32_t index, uint32_t start, uint32_t end)
+{
+    edited(palikudyom_move_window(FIRST, count, LIST(windows), LIST(summary), index, start, end), LENGTH(windows), LENGTH(summary));
+}
+
+static void add_window(uint32_t index, uint32_t start, uint32_t end, uint32_t owner)
+{
+    edited(palikudyom_add_window(FIRST, count, LIST(windows), LIST(summary), index, start, end, owner), LENGTH(windows), LENGTH(summary));
+}
+
+static void remove_window(uint32_t index)
+{
+    edited(palikudyom_remove_window(FIRST, count, LIST(windows), LIST(summary), index), LENGTH(windows), LENGTH(summary));
+}
+
+/* made, asked for many margins at once, and kept through edits */
+static void summaries(void)
+{
+    make(0); /* no room: how many numbers it needs */
+    make(LENGTH(summary));
+    margins(windows, 3 * count);
+    line("AMOUNT ", palikudyom_least_supply_from(FIRST, windows, 3 * count, LIST(summary), 6));
+    line("AMOUNT ", palikudyom_least_supply_from(FIRST, windows, 3 * count, LIST(summary), 1000000));
+    move_window(1, 2, 3); /* the other team's: our summary stays */
+    add_window(2, 3, 4, 0);
+    margins(windows, 3 * count);
+    remove_window(4);
+    move_window(3, 5, 8); /* a shorter summary: the rest of its memory is kept */
+    margins(windows, 3 * count);
+
+    move_window(4, 4, 5);   /* no such window */
+    add_window(4, 7, 8, 1); /* starts before the last ends */
+    edited(palikudyom_add_window(FIRST, count, windows, 3 * count, LIST(summary), 3, 4, 5, 1), 3 * count, LENGTH(summary)); /* no room for a window */
+    edited(palikudyom_move_window(FIRST, count, LIST(windows), summary, 7, 3, 5, 7), LENGTH(windows), 7);                   /* nor for a longer summary */
+    edited(palikudyom_remove_window(FIRST, 6, LIST(windows), LIST(summary), 0), LENGTH(windows), LENGTH(summary));          /* not so many windows */
+    margins(LIST(X)); /* the summary is no longer that of X */
+    line("AMOUNT ", palikudyom_least_supply_from(FIRST, windows, 3 * count, summary, 6, 6)); /* nor is a part of it one */
+    edited(palikudyom_remove_window(SECOND, count, LIST(windows), LIST(summary), 0), LENGTH(windows), LENGTH(summary)); /* and it is not the other team's */
+}
+
 int main(void)
 {
     examples();
@@ -285,5 +368,6 @@ int main(void)
     refusals();
     traces();
     plans();
+    summaries();
     return 0;
 }
