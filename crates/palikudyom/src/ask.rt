@@ -7,6 +7,7 @@ use crate::lines;
 use crate::stream::Cursor;
 use crate::stream::any;
 use crate::stream::bad;
+use crate::summaries;
 use libc::STDIN_FILENO;
 ghost use mathlib.Core.Path.{_≡_};
 ghost use lib.ListN.{length};
@@ -46,10 +47,19 @@ fn over_table(stream: &[u8], from: Cursor, asked: Asked) -> Cursor {
     }
 }
 
-// After code 16: the settings, then a query over a table.
+// After code 16: the settings, then a query over a table, or over a table with its summary, which stands here only.
 fn on_board(stream: &[u8], from: Cursor) -> Cursor {
     let settings = read_settings(stream, from);
-    over_table(stream, settings.after, settings.asked)
+    let start = settings.after;
+    let asked = settings.asked;
+    let code = any(stream, start);
+    let after = code.after;
+    let entry = code.value;
+    match entry {
+        20 => summaries::make(stream, after, asked),
+        21 => summaries::least_supply(stream, after, asked),
+        _ => over_table(stream, start, asked),
+    }
 }
 
 // One query: without a table, under code 16, or over a table by itself, where an unknown code ends too, and one that can't be read, which is 0 here.

@@ -2,6 +2,7 @@
 use crate::stream::Cursor;
 use crate::stream::any;
 use crate::stream::bad;
+use tables::board::Board;
 ghost use Prim.Native.Nat.{_≤_};
 
 // Windows and tasks of the codes 1 to 15 by themselves have at most so many numbers.
@@ -47,6 +48,15 @@ impl Asked {
         ensures { λ r. do ⌜ r ≤ (← ⟦LATER_NUMBERS⟧ .entry) ⌝ }
     {
         if self.later { LATER_NUMBERS } else { NUMBERS }
+    }
+
+    // The board of a frame.
+    pub(crate) fn board(self, frame: u32) -> Board {
+        Board {
+            frame,
+            owner: self.owner,
+            shortest: self.shortest,
+        }
     }
 }
 

@@ -35,14 +35,14 @@ ghost use Rattle.io.specs.Counts.{Counts};
 const THREES: u32 = LATER_NUMBERS / 2 * 3;
 
 // A list as it is read: tasks, and windows in pairs.
-fn numbers() -> [u32; LATER_NUMBERS as usize]
+pub(crate) fn numbers() -> [u32; LATER_NUMBERS as usize]
     ensures { λ r. do ⌜ (← ⟦LATER_NUMBERS⟧ .entry) ≡ length r ⌝ }
 {
     [0; LATER_NUMBERS as usize]
 }
 
 // Windows in threes.
-fn threes() -> [u32; THREES as usize]
+pub(crate) fn threes() -> [u32; THREES as usize]
     ensures { λ r. do ⌜ (← ⟦THREES⟧ .entry) ≡ length r ⌝ }
 {
     [0; THREES as usize]
@@ -55,7 +55,7 @@ fn jobs() -> [u32; JOBS as usize]
 }
 
 // What is lent for an entry to write to: each number is 7, so that what is written shows.
-fn lent() -> [u32; JOBS as usize]
+pub(crate) fn lent() -> [u32; JOBS as usize]
     ensures { λ r. do ⌜ (← ⟦JOBS⟧ .entry) ≡ length r ⌝ }
 {
     [7; JOBS as usize]
@@ -75,10 +75,10 @@ fn trace_bytes() -> [u8; TRACE as usize]
 
 // ---- entries over a table
 
-struct Table {
-    board: Board,
-    count: usize,
-    after: Cursor,
+pub(crate) struct Table {
+    pub board: Board,
+    pub count: usize,
+    pub after: Cursor,
 }
 
 // Pairs as threes of one owner: how many numbers these have. There is room for the longest list, so that none is refused.
@@ -107,17 +107,13 @@ fn windows_of(stream: &[u8], from: Cursor, asked: Asked, out: &mut [u32]) -> Lis
 }
 
 // P and the windows.
-fn table_of(stream: &[u8], from: Cursor, asked: Asked, out: &mut [u32]) -> Table
+pub(crate) fn table_of(stream: &[u8], from: Cursor, asked: Asked, out: &mut [u32]) -> Table
     requires { do ⌜ (← ⟦THREES⟧) ≤ length (now out) ⌝ }
     ensures { λ r. ⌜ Counts (r .count) (now (out .exit)) ⌝ }
 {
     let frame = any(stream, from);
     let windows = windows_of(stream, frame.after, asked, out);
-    let board = Board {
-        frame: frame.value,
-        owner: asked.owner,
-        shortest: asked.shortest,
-    };
+    let board = asked.board(frame.value);
     let count = windows.count;
     let after = windows.after;
     Table {
@@ -160,7 +156,7 @@ pub(crate) fn critical(stream: &[u8], from: Cursor, asked: Asked) -> Cursor {
 
 fn critical_into(board: Board, windows: &[u32], out: &mut [u32]) {
     let found = partition::critical(board, windows, out);
-    lines::critical(found, out);
+    lines::filled(b"WINDOWS ", found, out);
 }
 
 pub(crate) fn delay(stream: &[u8], from: Cursor, asked: Asked) -> Cursor {

@@ -65,8 +65,9 @@ pub(crate) fn amount(text: &[u8], a: Amount) {
     newline();
 }
 
-pub(crate) fn critical(windows: Amount, out: &[u32]) {
-    amount_or_refusal(b"WINDOWS ", windows);
+// An amount after its word, and the buffer that it was filled to.
+pub(crate) fn filled(text: &[u8], a: Amount, out: &[u32]) {
+    amount_or_refusal(text, a);
     buffer(out);
 }
 

@@ -8,6 +8,7 @@ mod input;
 mod lines;
 mod plan_file;
 mod stream;
+mod summaries;
 mod trace_file;
 
 use crate::trace_file::Before;

@@ -17,6 +17,9 @@ pub(crate) const BYTES: u32 = 4096;
 // A trace has at most so many bytes.
 pub(crate) const TRACE: u32 = 20000;
 
+// A summary has at most so many numbers.
+pub(crate) const SUMMARY: u32 = 9000;
+
 // Where the next number begins; or, where the reading is stopped, the bad one.
 pub(crate) struct Cursor {
     pub at: usize,
