@@ -82,19 +82,36 @@ pub(crate) fn delay(d: Delay) {
     newline();
 }
 
-fn signed(m: i64) {
+// A word, then a signed number, with a minus sign where it is negative.
+fn signed(text: &[u8], m: i64) {
+    word(text);
     if m < 0 {
-        part(b"MARGIN -", magnitude(m));
-    } else {
-        part(b"MARGIN ", magnitude(m));
+        word(b"-");
     }
+    io::print_decimal(STDOUT_FILENO, magnitude(m));
 }
 
 pub(crate) fn margin(m: Margin) {
     match m {
-        Margin::Of(m) => signed(m),
+        Margin::Of(m) => signed(b"MARGIN ", m),
         Margin::Refused(r) => refused(r),
     }
+    newline();
+}
+
+// Each signed number after a space.
+fn signed_numbers(list: &[i64]) {
+    let mut i = 0;
+    while i < list.len() {
+        signed(b" ", list[i]);
+        i += 1;
+    }
+}
+
+pub(crate) fn margins(a: Amount, out: &[i64]) {
+    amount_or_refusal(b"MARGINS ", a);
+    word(b" BUFFER");
+    signed_numbers(out);
     newline();
 }
 

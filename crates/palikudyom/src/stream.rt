@@ -2,7 +2,8 @@
 use plan::number::Number;
 use plan::number::read_number;
 ghost use Prim.Native.Nat.{_*_, _≤_};
-ghost use lib.ListN.{length};
+ghost use mathlib.Core.Path.{_≡_};
+ghost use lib.ListN.{length, take};
 ghost use Rattle.io.specs.Counts.{Counts};
 
 // Jobs, and what is lent for an entry to write to, have at most so many numbers.
@@ -19,6 +20,9 @@ pub(crate) const TRACE: u32 = 20000;
 
 // A summary has at most so many numbers.
 pub(crate) const SUMMARY: u32 = 9000;
+
+// Lengths are at most so many.
+pub(crate) const LENGTHS: u32 = 1000;
 
 // Where the next number begins; or, where the reading is stopped, the bad one.
 pub(crate) struct Cursor {
@@ -135,6 +139,17 @@ pub(crate) fn room(stream: &[u8], from: Cursor, out: &[u32]) -> Listed
     let size = number(stream, from, JOBS);
     let count = size.value as usize;
     front(out, count, size.after)
+}
+
+// The same of a buffer of signed numbers.
+pub(crate) fn signed_room(stream: &[u8], from: Cursor, out: &[i64]) -> Listed
+    requires { do ⌜ (← ⟦JOBS⟧) ≤ length (now out) ⌝ }
+    ensures { λ r. ⌜ (r .count ≤ length (now (out .entry))) × (r .count ≡ length (take (r .count) (now (out .entry)))) ⌝ }
+{
+    let size = number(stream, from, JOBS);
+    let count = size.value as usize;
+    let after = size.after;
+    Listed { count, after }
 }
 
 // Bytes: first how many, at most `most`, then each as a number of at most 255.
