@@ -59,6 +59,7 @@ fn on_board(stream: &[u8], from: Cursor) -> Cursor {
         20 => summaries::make(stream, after, asked),
         21 => summaries::least_supply(stream, after, asked),
         22 => summaries::margins(stream, after, asked),
+        23 => summaries::edit(stream, after, asked),
         _ => over_table(stream, start, asked),
     }
 }

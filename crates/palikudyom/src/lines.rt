@@ -8,6 +8,7 @@ use replay::replay::Replayed;
 use tables::answer::Amount;
 use tables::answer::Bound;
 use tables::answer::Delay;
+use tables::answer::Edited;
 use tables::answer::Margin;
 use tables::answer::Refusal;
 use tables::answer::Verdict;
@@ -45,10 +46,15 @@ fn newline() {
     word(b"\n");
 }
 
-// A lent buffer after the call, and the end of the line.
-fn buffer(list: &[u32]) {
+// A lent buffer after the call.
+fn memory(list: &[u32]) {
     word(b" BUFFER");
     numbers(list);
+}
+
+// The same, and the end of the line.
+fn buffer(list: &[u32]) {
+    memory(list);
     newline();
 }
 
@@ -113,6 +119,23 @@ pub(crate) fn margins(a: Amount, out: &[i64]) {
     word(b" BUFFER");
     signed_numbers(out);
     newline();
+}
+
+fn edited_or_refusal(e: Edited) {
+    match e {
+        Edited::Is { windows, numbers } => {
+            part(b"EDITED count ", windows);
+            part(b" summary ", numbers);
+        }
+        Edited::Refused(r) => refused(r),
+    }
+}
+
+// An edit's line has the windows memory and the summary memory.
+pub(crate) fn edited(e: Edited, windows: &[u32], summary: &[u32]) {
+    edited_or_refusal(e);
+    memory(windows);
+    buffer(summary);
 }
 
 // The line of a verdict, as `plan` makes it; it is never longer than `MOST`. Whether it was written.

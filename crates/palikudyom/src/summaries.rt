@@ -12,9 +12,12 @@ use crate::stream::LENGTHS;
 use crate::stream::SUMMARY;
 use crate::stream::any;
 use crate::stream::list;
+use crate::stream::number;
 use crate::stream::room;
 use crate::stream::signed_room;
 use checker::margins;
+use edits::edit::Edit;
+use edits::edit::edit_table;
 use supply::summary;
 use tables::board::Board;
 ghost use mathlib.Core.Path.{_≡_};
@@ -132,4 +135,68 @@ fn margins_into(
 ) {
     let found = margins::margins(board, windows, summary, tasks, lengths, out);
     lines::margins(found, out);
+}
+
+// ---- an edit
+
+struct Change {
+    edit: Edit,
+    after: Cursor,
+}
+
+// Numbers that a kind does not use are read too.
+fn edit_of(kind: u32, index: u32, start: u32, end: u32, owner: u32) -> Edit {
+    match kind {
+        0 => Edit::Move { index, start, end },
+        1 => Edit::Add {
+            index,
+            start,
+            end,
+            owner,
+        },
+        _ => Edit::Remove { index },
+    }
+}
+
+// The kind, index, start, end and owner.
+fn read_edit(stream: &[u8], from: Cursor) -> Change {
+    let kind = number(stream, from, 2);
+    let index = any(stream, kind.after);
+    let start = any(stream, index.after);
+    let end = any(stream, start.after);
+    let owner = any(stream, end.after);
+    let edit = edit_of(kind.value, index.value, start.value, end.value, owner.value);
+    let after = owner.after;
+    Change { edit, after }
+}
+
+// The windows memory is in threes as it is read, and may have more than the list.
+pub(crate) fn edit(stream: &[u8], from: Cursor, asked: Asked) -> Cursor {
+    let frame = any(stream, from);
+    let count = any(stream, frame.after);
+    let mut windows = numbers();
+    let w = list(stream, count.after, LATER_NUMBERS, &mut windows);
+    let mut summary = kept();
+    let s = list(stream, w.after, SUMMARY, &mut summary);
+    let change = read_edit(stream, s.after);
+    let end = change.after;
+    if end.good {
+        let board = asked.board(frame.value);
+        let m = w.count;
+        let k = s.count;
+        let edit = change.edit;
+        edit_both(
+            board,
+            count.value,
+            &mut windows[..m],
+            &mut summary[..k],
+            edit,
+        );
+    }
+    end
+}
+
+fn edit_both(board: Board, count: u32, windows: &mut [u32], summary: &mut [u32], edit: Edit) {
+    let edited = edit_table(board, count, windows, summary, edit);
+    lines::edited(edited, windows, summary);
 }
