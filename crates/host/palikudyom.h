@@ -16,7 +16,7 @@
  *     int64_t margins[1000];                                           // one for each of 1,000 lengths
  *
  *     x = palikudyom_make_summary(board, windows, 3 * count, &none, 0);    // no room: REFUSED 8 at the numbers it needs; any other is the table's
- *     size_t room = x.b;                                               // more, where edits may make it longer: FRAME + 4 is always enough
+ *     size_t room = x.code == PALIKUDYOM_REFUSED && x.a == 8 ? x.b : 0;    // more, where edits may make it longer: FRAME + 4 is always enough
  *     summary = malloc(room * sizeof *summary);
  *     x = palikudyom_make_summary(board, windows, 3 * count, summary, room);   // AMOUNT: made
  *
@@ -28,8 +28,8 @@
  *
  *     x = palikudyom_margins(board, windows, 3 * count, summary, room, tasks, 6, lengths, 1000, margins, 1000);    // of the new table
  *
- * Every entry that is lent a summary first holds it against its windows, number by number, and refuses it as 14 where it is not theirs: that costs about a
- * making, whatever is asked. So many lengths belong into one call of palikudyom_margins, which does it once, and palikudyom_least_supply_from is for one
+ * Every entry that is lent a summary first holds it against its windows, number by number, and refuses it as 14 where it is not theirs: that costs about half
+ * a making, whatever is asked. So many lengths belong into one call of palikudyom_margins, which does it once, and palikudyom_least_supply_from is for one
  * length now and then. It also means that no stale or damaged summary is ever answered from.
  */
 #ifndef PALIKUDYOM_H
@@ -60,7 +60,7 @@ enum palikudyom_code {
     PALIKUDYOM_TRACE_ENDED = 13,   /* c: the machine's instant, d: its task; the trace has no such completion */
     PALIKUDYOM_MACHINE_ENDED = 14, /* a: the trace's instant, b: its task; the machine has no such completion */
     PALIKUDYOM_TRACE_MISSED = 15,  /* a: instant, b: job: its index among the trace's releases */
-    PALIKUDYOM_EDITED = 17         /* a: how many windows there are now, b: how many numbers their summary has */
+    PALIKUDYOM_EDITED = 17         /* 16 is never given. a: how many windows there are now, b: how many numbers their summary has */
 };
 
 /*
@@ -100,7 +100,7 @@ struct palikudyom_board {
 /*
  * A list is a pointer and how many numbers it has: windows are start, end and owner of each (of a plan start and end, all owner 0's), tasks are work,
  * period and deadline of each, jobs are release tick, task index and work of each. A table may be shared by two teams: what an owner is answered depends
- * on the frame and its own windows, and on the other team's only by the refusals 1 2 3 12. After each function: what it answers beside REFUSED, and its
+ * on the frame and its own windows, and on the other team's only by the refusals 1 2 3 12, but for edits. After each function: what it answers beside REFUSED, and its
  * refusals in the order of its checks; T is a table's: 1 2 3, then 1 of an owner without a window, then 12.
  */
 
@@ -158,7 +158,8 @@ struct palikudyom_answer palikudyom_margins(struct palikudyom_board board, const
  * is room. Afterwards `windows` begins with the new list and `summary` with what a making would write for it; the rest of each is as it was. Any team's window
  * can be edited. EDITED; 1 where `windows` is shorter than its list, T of the list, 14, 7 of the index, then T of the new list, 8 for the windows, 8 for the
  * summary, each at the numbers needed. A refusal leaves both memories as they were. So a refused table can't be repaired by an edit, and the asked owner's last
- * window can't be removed.
+ * window can't be removed. Moving and removing never need room for windows, so their 8 is the summary's; the 8 of adding is for the windows exactly where
+ * `windows_len` is below 3 * (`count` + 1).
  */
 
 /* Window `index` gets a new start and end, and keeps its owner and its place in the list. */
