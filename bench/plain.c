@@ -1,6 +1,6 @@
 /*
  * The yardstick: the proved code's algorithms once more, in plain C. Function by function the loops, checks and scans of crates/tables, shared, supply,
- * checker, jobs, machine, replay and plan, no cleverer and no slower, so that a ratio tells what the proof costs and not what an algorithm costs.
+ * checker, edits, jobs, machine, replay and plan, no cleverer and no slower, so that a ratio tells what the proof costs and not what an algorithm costs.
  */
 #include "plain.h"
 #include <stdbool.h>
@@ -396,6 +396,21 @@ static uint32_t upto(struct list windows, const struct position *at, uint32_t x)
     return x <= start ? at->before : at->before + (x - start);
 }
 
+/* ticks that are all supplied or all unsupplied, and how many */
+struct ticks {
+    bool on;
+    uint32_t far;
+};
+
+/* those from tick x on up to the next edge, from the position of the first window that ends after it */
+static struct ticks ticks_after(struct list windows, const struct position *at, uint32_t x)
+{
+    uint32_t start = at->base + start_of(windows, at->index);
+    if (x < start)
+        return (struct ticks){false, start - x};
+    return (struct ticks){true, end_at(windows, at) - x};
+}
+
 /* Supply: supply.rt */
 
 /* the least supply of a length, and A, which is the whole frame's */
@@ -514,7 +529,174 @@ struct palikudyom_answer plain_least_supply_by_ticks(struct palikudyom_board boa
     return one(PALIKUDYOM_AMOUNT, length / frame * whole + rest);
 }
 
+/* Pieces of lengths over which the least supply rises at each tick or at none: pieces.rt */
+
+static uint32_t larger(uint32_t a, uint32_t b)
+{
+    return a < b ? b : a;
+}
+
+/* the lesser of on + x and off is the least supply of t + x, for x up to reach */
+struct ahead {
+    uint32_t on;
+    uint32_t off;
+    uint32_t reach;
+};
+
+/* one start more, whose stretch has `supply` */
+static struct ahead joined(struct ahead ahead, struct ticks ticks, uint32_t supply, uint32_t least)
+{
+    uint32_t far = larger(ticks.far, supply - least);
+    uint32_t reach = smaller(ahead.reach, far);
+    if (ticks.on)
+        return (struct ahead){smaller(ahead.on, supply), ahead.off, reach};
+    return (struct ahead){ahead.on, smaller(ahead.off, supply), reach};
+}
+
+/* the two lines from length t on, over the starts where a window ends */
+static struct ahead lines_from(uint32_t frame, struct list windows, uint32_t t, uint32_t least)
+{
+    size_t count = windows.len / 2;
+    struct ahead ahead = {frame, frame, frame - t};
+    uint32_t earlier = 0;
+    struct position at = {0, 0, 0};
+    for (size_t i = 0; i < count; i++) {
+        uint32_t end = end_of(windows, i) + t;
+        earlier += end_of(windows, i) - start_of(windows, i);
+        move_on(frame, windows, &at, end);
+        struct ticks ticks = ticks_after(windows, &at, end);
+        ahead = joined(ahead, ticks, upto(windows, &at, end) - earlier, least);
+    }
+    return ahead;
+}
+
+/* lengths up to `end` over which the least supply rises at each tick or at none, and what it is at `end` */
+struct piece {
+    bool rising;
+    uint32_t end;
+    uint32_t least;
+};
+
+static struct piece piece_from(uint32_t frame, struct list windows, uint32_t t, uint32_t least)
+{
+    struct ahead ahead = lines_from(frame, windows, t, least);
+    if (ahead.on < ahead.off) {
+        uint32_t n = smaller(ahead.reach, ahead.off - ahead.on);
+        return (struct piece){true, t + n, ahead.on + n};
+    }
+    return (struct piece){false, t + ahead.reach, ahead.off};
+}
+
 /* Critical partition, delay and outage: partition.rt */
+
+/* how many numbers the critical partition has, the delay, and whether the numbers that are held begin with the partition */
+struct measure {
+    uint32_t numbers;
+    uint32_t late;
+    bool same;
+};
+
+/* the edges that are met so far: how many, and whether the numbers that are held begin with them */
+struct met {
+    uint32_t count;
+    bool same;
+};
+
+static bool has_at(struct list list, size_t at, uint32_t x)
+{
+    return at < list.len && list.at[at] == x;
+}
+
+/* one edge more, at length t, where there is one */
+static struct met edge_met(struct met met, struct list held, size_t from, bool here, uint32_t t)
+{
+    if (!here)
+        return met;
+    bool same = has_at(held, from + met.count, t);
+    return (struct met){met.count + 1, met.same && same};
+}
+
+static uint64_t lag_with(uint32_t whole, uint32_t t, uint32_t frame, uint32_t least)
+{
+    return (uint64_t)whole * t - (uint64_t)frame * least;
+}
+
+/* one pass over the pieces of a frame */
+static struct measure measured(uint32_t frame, struct list windows, uint32_t whole, struct list held, size_t from)
+{
+    struct met met = {0, true};
+    uint64_t late = 0;
+    bool before = false;
+    uint32_t least = 0;
+    uint32_t t = 0;
+    while (t < frame) {
+        struct piece piece = piece_from(frame, windows, t, least);
+        met = edge_met(met, held, from, piece.rising != before, t);
+        before = piece.rising;
+        least = piece.least;
+        t = piece.end;
+        uint64_t here = lag_with(whole, t, frame, least);
+        if (late < here)
+            late = here;
+    }
+    met = edge_met(met, held, from, before, frame);
+    return (struct measure){met.count, late, met.same};
+}
+
+/* the critical partition after the first `from` numbers of out */
+static void write_edges(uint32_t frame, struct list windows, size_t from, uint32_t *out)
+{
+    size_t at = from;
+    bool before = false;
+    uint32_t least = 0;
+    uint32_t t = 0;
+    while (t < frame) {
+        struct piece piece = piece_from(frame, windows, t, least);
+        if (piece.rising != before)
+            out[at++] = t;
+        before = piece.rising;
+        least = piece.least;
+        t = piece.end;
+    }
+    if (before)
+        out[at] = frame;
+}
+
+static uint32_t whole_of(uint32_t frame, struct list windows)
+{
+    return least_at_ends(frame, windows, 0).whole;
+}
+
+static struct measure measured_alone(uint32_t frame, struct list windows, uint32_t whole)
+{
+    return measured(frame, windows, whole, (struct list){windows.at, 0}, 0);
+}
+
+struct palikudyom_answer plain_critical(struct palikudyom_board board, const uint32_t *at, size_t len, uint32_t *out, size_t out_len)
+{
+    uint32_t frame = board.frame;
+    uint32_t room[2 * MOST_WINDOWS] = {0};
+    struct own own = own_windows(board, (struct list){at, len}, room);
+    if (is_bad(own.table))
+        return refused(own.table);
+    uint64_t numbers = measured_alone(frame, own.windows, whole_of(frame, own.windows)).numbers;
+    if (out_len < numbers)
+        return refused(bad(8, numbers));
+    write_edges(frame, own.windows, 0, out);
+    return one(PALIKUDYOM_AMOUNT, numbers / 2);
+}
+
+struct palikudyom_answer plain_delay(struct palikudyom_board board, const uint32_t *at, size_t len)
+{
+    uint32_t room[2 * MOST_WINDOWS] = {0};
+    struct own own = own_windows(board, (struct list){at, len}, room);
+    if (is_bad(own.table))
+        return refused(own.table);
+    uint32_t per_frame = whole_of(board.frame, own.windows);
+    return two(PALIKUDYOM_DELAY, measured_alone(board.frame, own.windows, per_frame).late, per_frame);
+}
+
+/* The critical partition as it was before request 6: the least supply of every length is asked for */
 
 /* marks the ticks of a frame at which the least supply rises */
 static void mark_rises(uint32_t frame, struct list windows, uint8_t *marks)
@@ -534,7 +716,7 @@ static bool is_marked(uint32_t frame, const uint8_t *marks, uint32_t k)
     return marks[k] == 1;
 }
 
-static uint32_t count_edges(uint32_t frame, const uint8_t *marks)
+static uint32_t count_marked(uint32_t frame, const uint8_t *marks)
 {
     uint32_t n = 0;
     bool before = false;
@@ -547,7 +729,7 @@ static uint32_t count_edges(uint32_t frame, const uint8_t *marks)
     return n;
 }
 
-static void write_edges(uint32_t frame, const uint8_t *marks, uint32_t *out)
+static void write_marked(uint32_t frame, const uint8_t *marks, uint32_t *out)
 {
     size_t at = 0;
     bool before = false;
@@ -559,8 +741,8 @@ static void write_edges(uint32_t frame, const uint8_t *marks, uint32_t *out)
     }
 }
 
-/* the marks are cleared before they are set, as those of the proved code */
-struct palikudyom_answer plain_critical(struct palikudyom_board board, const uint32_t *at, size_t len, uint32_t *out, size_t out_len)
+/* the marks are cleared before they are set, as those of the proved code were */
+struct palikudyom_answer plain_critical_every_length(struct palikudyom_board board, const uint32_t *at, size_t len, uint32_t *out, size_t out_len)
 {
     uint32_t frame = board.frame;
     uint32_t room[2 * MOST_WINDOWS] = {0};
@@ -569,44 +751,14 @@ struct palikudyom_answer plain_critical(struct palikudyom_board board, const uin
         return refused(own.table);
     uint8_t marks[LONGEST_FRAME] = {0};
     mark_rises(frame, own.windows, marks);
-    uint64_t numbers = count_edges(frame, marks);
+    uint64_t numbers = count_marked(frame, marks);
     if (out_len < numbers)
         return refused(bad(8, numbers));
-    write_edges(frame, marks, out);
+    write_marked(frame, marks, out);
     return one(PALIKUDYOM_AMOUNT, numbers / 2);
 }
 
-static uint64_t lag_of(uint32_t frame, struct list windows, uint32_t whole, uint32_t t)
-{
-    struct least least = least_at_ends(frame, windows, t);
-    return (uint64_t)whole * t - (uint64_t)frame * least.supply;
-}
-
-static uint64_t delay_of(uint32_t frame, struct list windows, uint32_t whole)
-{
-    uint64_t most = 0;
-    for (uint32_t t = 0; t < frame + 1; t++) {
-        uint64_t here = lag_of(frame, windows, whole, t);
-        if (most < here)
-            most = here;
-    }
-    return most;
-}
-
-struct palikudyom_answer plain_delay(struct palikudyom_board board, const uint32_t *at, size_t len)
-{
-    uint32_t room[2 * MOST_WINDOWS] = {0};
-    struct own own = own_windows(board, (struct list){at, len}, room);
-    if (is_bad(own.table))
-        return refused(own.table);
-    uint32_t per_frame = least_at_ends(board.frame, own.windows, 0).whole;
-    return two(PALIKUDYOM_DELAY, delay_of(board.frame, own.windows, per_frame), per_frame);
-}
-
-static uint32_t larger(uint32_t a, uint32_t b)
-{
-    return a < b ? b : a;
-}
+/* The outage: partition.rt */
 
 static uint32_t outage_of(uint32_t frame, struct list windows)
 {
@@ -623,6 +775,218 @@ struct palikudyom_answer plain_outage(struct palikudyom_board board, const uint3
     if (is_bad(own.table))
         return refused(own.table);
     return one(PALIKUDYOM_AMOUNT, outage_of(board.frame, own.windows));
+}
+
+/* Summaries: summary.rt */
+
+static struct palikudyom_answer make_on(uint32_t frame, struct list windows, uint32_t *out, size_t out_len)
+{
+    uint32_t whole = whole_of(frame, windows);
+    struct measure measure = measured_alone(frame, windows, whole);
+    uint64_t needed = (uint64_t)measure.numbers + 3;
+    if (out_len < needed)
+        return refused(bad(8, needed));
+    out[0] = whole;
+    out[1] = measure.late;
+    out[2] = measure.numbers / 2;
+    write_edges(frame, windows, 3, out);
+    return one(PALIKUDYOM_AMOUNT, needed);
+}
+
+/* of pairs, as one owner has them */
+static struct palikudyom_answer make_in(uint32_t frame, struct list windows, uint32_t *out, size_t out_len)
+{
+    struct checked table = check_table(frame, windows);
+    if (is_bad(table))
+        return refused(table);
+    return make_on(frame, windows, out, out_len);
+}
+
+struct palikudyom_answer plain_make_summary(struct palikudyom_board board, const uint32_t *at, size_t len, uint32_t *out, size_t out_len)
+{
+    uint32_t room[2 * MOST_WINDOWS] = {0};
+    struct own own = own_windows(board, (struct list){at, len}, room);
+    if (is_bad(own.table))
+        return refused(own.table);
+    return make_on(board.frame, own.windows, out, out_len);
+}
+
+/* whether memory begins with what a making would write, number by number */
+static bool belongs(uint32_t frame, struct list windows, struct list summary)
+{
+    uint32_t whole = whole_of(frame, windows);
+    struct measure measure = measured(frame, windows, whole, summary, 3);
+    return has_at(summary, 0, whole) && has_at(summary, 1, measure.late) && has_at(summary, 2, measure.numbers / 2) && measure.same;
+}
+
+static struct checked check_belongs(uint32_t frame, struct list windows, struct list summary)
+{
+    return belongs(frame, windows, summary) ? FINE : bad(14, 0);
+}
+
+/* of pairs, as one owner has them */
+static struct checked check_summary(uint32_t frame, struct list windows, struct list summary)
+{
+    struct checked table = check_table(frame, windows);
+    if (is_bad(table))
+        return table;
+    return check_belongs(frame, windows, summary);
+}
+
+/* What a summary tells: search.rt */
+
+/* the ticks of a window before tick r */
+static uint32_t part(uint32_t start, uint32_t end, uint32_t r)
+{
+    uint32_t last = smaller(r, end);
+    return last <= start ? 0 : last - start;
+}
+
+/* of windows; none is looked at from the first one on that starts there or later */
+static uint64_t ticks_before(struct list windows, uint32_t r)
+{
+    size_t count = windows.len / 2;
+    uint64_t ticks = 0;
+    for (size_t i = 0; i < count; i++) {
+        if (r <= start_of(windows, i))
+            return ticks;
+        ticks += part(start_of(windows, i), end_of(windows, i), r);
+    }
+    return ticks;
+}
+
+/* the critical windows: as many as the third number tells, or up to where the memory ends */
+static uint64_t ticks_in(struct list summary, uint32_t r)
+{
+    if (summary.len < 3)
+        return 0;
+    size_t end = 3 + 2 * (size_t)summary.at[2];
+    if (summary.len < end)
+        end = summary.len;
+    return ticks_before((struct list){summary.at + 3, end - 3}, r);
+}
+
+/* whatever the numbers of the summary are */
+static struct palikudyom_answer least_from(uint32_t frame, struct list summary, uint32_t length)
+{
+    struct checked c = or_else(check_frame(frame), check_length(length));
+    if (is_bad(c))
+        return refused(c);
+    uint64_t whole = summary.len == 0 ? 0 : summary.at[0];
+    return one(PALIKUDYOM_AMOUNT, length / frame * whole + ticks_in(summary, length % frame));
+}
+
+struct palikudyom_answer plain_least_supply_from(struct palikudyom_board board, const uint32_t *at, size_t len, const uint32_t *summary_at,
+                                                 size_t summary_len, uint32_t length)
+{
+    struct list summary = {summary_at, summary_len};
+    uint32_t room[2 * MOST_WINDOWS] = {0};
+    struct own own = own_windows(board, (struct list){at, len}, room);
+    if (is_bad(own.table))
+        return refused(own.table);
+    struct checked held = check_belongs(board.frame, own.windows, summary);
+    if (is_bad(held))
+        return refused(held);
+    return least_from(board.frame, summary, length);
+}
+
+/* Edits: edit.rt, splice.rt */
+
+/* copies numbers into out, from an index on */
+static void copy(struct list numbers, size_t at, uint32_t *out)
+{
+    for (size_t i = 0; i < numbers.len; i++)
+        out[at + i] = numbers.at[i];
+}
+
+/* of the window at an index: so many go, and the numbers `come` come in their place */
+struct edit {
+    uint32_t index;
+    size_t gone;
+    size_t come;
+    uint32_t numbers[3];
+    bool keeps_owner; /* that of the window that goes */
+};
+
+static struct checked check_index(const struct edit *edit, size_t count)
+{
+    return count < edit->index + edit->gone ? bad(7, 0) : FINE;
+}
+
+/* the list that an edit leaves, at the front of out: how many numbers it has */
+static size_t edited_into(struct list list, const struct edit *edit, uint32_t *out)
+{
+    size_t from = 3 * (size_t)edit->index;
+    size_t rest = from + 3 * edit->gone;
+    uint32_t come[3] = {edit->numbers[0], edit->numbers[1], edit->keeps_owner ? list.at[from + 2] : edit->numbers[2]};
+    copy((struct list){list.at, from}, 0, out);
+    copy((struct list){come, edit->come}, from, out);
+    copy((struct list){list.at + rest, list.len - rest}, from + edit->come, out);
+    return list.len - 3 * edit->gone + edit->come;
+}
+
+/* what is refused before the new list is looked at */
+static struct checked check_ready(struct palikudyom_board board, struct list list, struct list summary, const struct edit *edit)
+{
+    uint32_t room[2 * MOST_WINDOWS] = {0};
+    struct own own = own_windows(board, list, room);
+    if (is_bad(own.table))
+        return own.table;
+    struct checked held = check_summary(board.frame, own.windows, summary);
+    struct checked index = check_index(edit, list.len / 3);
+    return or_else(held, index);
+}
+
+/* the new list and its summary, where the list is a table and both have room; a refusal writes nothing */
+static struct palikudyom_answer store(struct palikudyom_board board, struct list new, uint32_t *windows, size_t windows_len, uint32_t *summary,
+                                      size_t summary_len)
+{
+    uint32_t room[2 * MOST_WINDOWS] = {0};
+    struct own own = own_windows(board, new, room);
+    if (is_bad(own.table))
+        return refused(own.table);
+    if (windows_len < new.len)
+        return refused(bad(8, new.len));
+    struct palikudyom_answer made = make_in(board.frame, own.windows, summary, summary_len);
+    if (made.code == PALIKUDYOM_REFUSED)
+        return made;
+    copy(new, 0, windows);
+    return two(PALIKUDYOM_EDITED, new.len / 3, made.a);
+}
+
+static struct palikudyom_answer edit_table(struct palikudyom_board board, size_t count, uint32_t *windows, size_t windows_len, uint32_t *summary,
+                                           size_t summary_len, const struct edit *edit)
+{
+    if (windows_len / 3 < count)
+        return refused(bad(1, 0));
+    struct list list = {windows, 3 * count};
+    struct checked ready = check_ready(board, list, (struct list){summary, summary_len}, edit);
+    if (is_bad(ready))
+        return refused(ready);
+    uint32_t new[3 * (MOST_WINDOWS + 1)] = {0};
+    size_t numbers = edited_into(list, edit, new);
+    return store(board, (struct list){new, numbers}, windows, windows_len, summary, summary_len);
+}
+
+struct palikudyom_answer plain_move_window(struct palikudyom_board board, uint32_t count, uint32_t *windows, size_t windows_len, uint32_t *summary,
+                                           size_t summary_len, uint32_t index, uint32_t start, uint32_t end)
+{
+    struct edit edit = {index, 1, 3, {start, end, 0}, true};
+    return edit_table(board, count, windows, windows_len, summary, summary_len, &edit);
+}
+
+struct palikudyom_answer plain_add_window(struct palikudyom_board board, uint32_t count, uint32_t *windows, size_t windows_len, uint32_t *summary,
+                                          size_t summary_len, uint32_t index, uint32_t start, uint32_t end, uint32_t owner)
+{
+    struct edit edit = {index, 0, 3, {start, end, owner}, false};
+    return edit_table(board, count, windows, windows_len, summary, summary_len, &edit);
+}
+
+struct palikudyom_answer plain_remove_window(struct palikudyom_board board, uint32_t count, uint32_t *windows, size_t windows_len, uint32_t *summary,
+                                             size_t summary_len, uint32_t index)
+{
+    struct edit edit = {index, 1, 0, {0, 0, 0}, false};
+    return edit_table(board, count, windows, windows_len, summary, summary_len, &edit);
 }
 
 /* The checker's least supply: least.rt. It is asked of the owner's windows, which are gathered once and checked at each ask. */
@@ -666,6 +1030,52 @@ struct palikudyom_answer plain_margin(struct palikudyom_board board, const uint3
     uint64_t supply = least_asked(board.frame, own.windows, length);
     uint64_t demand = demand_of(tasks, length);
     return supply < demand ? one(PALIKUDYOM_BELOW, demand - supply) : one(PALIKUDYOM_MARGIN, supply - demand);
+}
+
+/* Margins of many lengths from a summary: margins.rt */
+
+static struct checked check_lengths(struct list lengths)
+{
+    for (size_t i = 0; i < lengths.len; i++)
+        if (LONGEST_LENGTH < lengths.at[i])
+            return bad(7, 0);
+    return FINE;
+}
+
+static struct checked check_room(size_t needed, size_t room)
+{
+    return room < needed ? bad(8, needed) : FINE;
+}
+
+static int64_t margin_from(uint32_t frame, struct list summary, struct list tasks, uint32_t length)
+{
+    struct palikudyom_answer least = least_from(frame, summary, length);
+    if (least.code == PALIKUDYOM_REFUSED)
+        return 0;
+    return (int64_t)least.a - (int64_t)demand_of(tasks, length);
+}
+
+struct palikudyom_answer plain_margins(struct palikudyom_board board, const uint32_t *at, size_t len, const uint32_t *summary_at, size_t summary_len,
+                                       const uint32_t *tasks_at, size_t tasks_len, const uint32_t *lengths_at, size_t lengths_len, int64_t *out,
+                                       size_t out_len)
+{
+    struct list summary = {summary_at, summary_len};
+    struct list tasks = {tasks_at, tasks_len};
+    struct list lengths = {lengths_at, lengths_len};
+    uint32_t room[2 * MOST_WINDOWS] = {0};
+    struct own own = own_windows(board, (struct list){at, len}, room);
+    if (is_bad(own.table))
+        return refused(own.table);
+    struct checked group = check_tasks(tasks);
+    struct checked held = check_summary(board.frame, own.windows, summary);
+    struct checked asked = check_lengths(lengths);
+    struct checked fits = check_room(lengths.len, out_len);
+    struct checked c = or_else(group, or_else(held, or_else(asked, fits)));
+    if (is_bad(c))
+        return refused(c);
+    for (size_t i = 0; i < lengths.len; i++)
+        out[i] = margin_from(board.frame, summary, tasks, lengths.at[i]);
+    return one(PALIKUDYOM_AMOUNT, lengths.len);
 }
 
 /* The verdict: cycle.rt */

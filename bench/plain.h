@@ -1,4 +1,4 @@
-/* The ten timed entries in plain C, as palikudyom.h declares the proved ones: the same arguments, the same answers and the same buffers after a call. */
+/* The timed entries in plain C, as palikudyom.h declares the proved ones: the same arguments, the same answers and the same buffers after a call. */
 #ifndef PLAIN_H
 #define PLAIN_H
 
@@ -27,8 +27,28 @@ struct palikudyom_answer plain_replay(struct palikudyom_board board, const uint3
 
 struct palikudyom_answer plain_plan_with_shortest(const uint8_t *bytes, size_t bytes_len);
 
+struct palikudyom_answer plain_make_summary(struct palikudyom_board board, const uint32_t *windows, size_t windows_len, uint32_t *out, size_t out_len);
+
+struct palikudyom_answer plain_least_supply_from(struct palikudyom_board board, const uint32_t *windows, size_t windows_len, const uint32_t *summary,
+                                                 size_t summary_len, uint32_t length);
+
+struct palikudyom_answer plain_margins(struct palikudyom_board board, const uint32_t *windows, size_t windows_len, const uint32_t *summary, size_t summary_len,
+                                       const uint32_t *tasks, size_t tasks_len, const uint32_t *lengths, size_t lengths_len, int64_t *out, size_t out_len);
+
+struct palikudyom_answer plain_move_window(struct palikudyom_board board, uint32_t count, uint32_t *windows, size_t windows_len, uint32_t *summary,
+                                           size_t summary_len, uint32_t index, uint32_t start, uint32_t end);
+
+struct palikudyom_answer plain_add_window(struct palikudyom_board board, uint32_t count, uint32_t *windows, size_t windows_len, uint32_t *summary,
+                                          size_t summary_len, uint32_t index, uint32_t start, uint32_t end, uint32_t owner);
+
+struct palikudyom_answer plain_remove_window(struct palikudyom_board board, uint32_t count, uint32_t *windows, size_t windows_len, uint32_t *summary,
+                                             size_t summary_len, uint32_t index);
+
 /* The least supply as it was before request 3: every start of a frame is tried, and each tick is looked for in all windows. */
 struct palikudyom_answer plain_least_supply_by_ticks(struct palikudyom_board board, const uint32_t *windows, size_t windows_len, uint32_t length);
+
+/* The critical partition as it was before request 6: the least supply of every length is asked for. */
+struct palikudyom_answer plain_critical_every_length(struct palikudyom_board board, const uint32_t *windows, size_t windows_len, uint32_t *out, size_t out_len);
 
 /* The same run, but late jobs are looked for in all 32 places at every tick. */
 struct palikudyom_answer plain_run_every_tick(struct palikudyom_board board, const uint32_t *windows, size_t windows_len, const uint32_t *tasks,
