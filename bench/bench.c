@@ -20,6 +20,8 @@ enum {
     LONG_ROUNDS = 3,      /* those of an input that takes LONG */
     MOST_JOBS = 4096,     /* of a run */
     LONGEST_RUN = 1100000,
+    MOST_LENGTHS = 10000, /* of margins in one call */
+    WINDOW_ROOM = 196,    /* numbers of lent window memory: 65 windows and one number */
     RELEASE_BYTES = 10,   /* of a record, at most: kind and task take one each, work three, a stamp five */
     COMPLETION_BYTES = 7,
     LONGEST_PLAN = 1132
@@ -45,75 +47,189 @@ struct input {
     uint32_t records;
     uint8_t plan[LONGEST_PLAN]; /* of the board, the windows, which are owner 0's, and the tasks */
     size_t plan_len;
+    uint32_t summary[ROOM]; /* of these windows */
+    size_t summary_len;
+    uint32_t lengths[MOST_LENGTHS]; /* of margins */
+    size_t lengths_len;
+    uint32_t moved; /* a window's index, and what it is moved to and back from */
+    uint32_t start;
+    uint32_t end;
 };
 
-/* Entries: each of both sides as a function of an input and a lent buffer of ROOM numbers */
+/* What a call may be lent: a buffer, one of signed numbers, and the memory of a table and its summary, which an edit writes */
+struct lent {
+    uint32_t numbers[ROOM];
+    int64_t margins[MOST_LENGTHS + 1];
+    uint32_t windows[WINDOW_ROOM];
+    uint32_t summary[ROOM];
+};
 
-typedef struct palikudyom_answer ask(const struct input *x, uint32_t *buffer);
+/* Entries: each of both sides as a function of an input and lent memory */
 
-#define SIDE(side)                                                                                                      \
-    static struct palikudyom_answer side##_asked_for_least_supply(const struct input *x, uint32_t *buffer)             \
-    {                                                                                                                   \
-        (void)buffer;                                                                                                   \
-        return side##_least_supply(x->board, x->windows, x->windows_len, x->asked);                                     \
-    }                                                                                                                   \
-    static struct palikudyom_answer side##_asked_for_critical(const struct input *x, uint32_t *buffer)                 \
-    {                                                                                                                   \
-        return side##_critical(x->board, x->windows, x->windows_len, buffer, ROOM);                                     \
-    }                                                                                                                   \
-    static struct palikudyom_answer side##_asked_for_delay(const struct input *x, uint32_t *buffer)                    \
-    {                                                                                                                   \
-        (void)buffer;                                                                                                   \
-        return side##_delay(x->board, x->windows, x->windows_len);                                                      \
-    }                                                                                                                   \
-    static struct palikudyom_answer side##_asked_for_outage(const struct input *x, uint32_t *buffer)                   \
-    {                                                                                                                   \
-        (void)buffer;                                                                                                   \
-        return side##_outage(x->board, x->windows, x->windows_len);                                                     \
-    }                                                                                                                   \
-    static struct palikudyom_answer side##_asked_for_margin(const struct input *x, uint32_t *buffer)                   \
-    {                                                                                                                   \
-        (void)buffer;                                                                                                   \
-        return side##_margin(x->board, x->windows, x->windows_len, x->tasks, x->tasks_len, x->asked);                   \
-    }                                                                                                                   \
-    static struct palikudyom_answer side##_asked_for_verdict(const struct input *x, uint32_t *buffer)                  \
-    {                                                                                                                   \
-        (void)buffer;                                                                                                   \
-        return side##_verdict(x->board, x->windows, x->windows_len, x->tasks, x->tasks_len);                            \
-    }                                                                                                                   \
-    static struct palikudyom_answer side##_asked_for_bound(const struct input *x, uint32_t *buffer)                    \
-    {                                                                                                                   \
-        (void)buffer;                                                                                                   \
-        return side##_bound(x->board, x->windows, x->windows_len, x->tasks, x->tasks_len, x->asked);                    \
-    }                                                                                                                   \
-    static struct palikudyom_answer side##_asked_for_run(const struct input *x, uint32_t *buffer)                      \
-    {                                                                                                                   \
-        return side##_run(x->board, x->windows, x->windows_len, x->tasks, x->tasks_len, x->asked, x->jobs, x->jobs_len, \
-                          buffer, ROOM);                                                                                \
-    }                                                                                                                   \
-    static struct palikudyom_answer side##_asked_for_replay(const struct input *x, uint32_t *buffer)                   \
-    {                                                                                                                   \
-        (void)buffer;                                                                                                   \
-        return side##_replay(x->board, x->windows, x->windows_len, x->tasks, x->tasks_len, x->trace, x->trace_len);     \
-    }                                                                                                                   \
-    static struct palikudyom_answer side##_asked_for_plan(const struct input *x, uint32_t *buffer)                     \
-    {                                                                                                                   \
-        (void)buffer;                                                                                                   \
-        return side##_plan_with_shortest(x->plan, x->plan_len);                                                         \
+typedef struct palikudyom_answer ask(const struct input *x, struct lent *lent);
+
+#define SIDE(side)                                                                                                                            \
+    static struct palikudyom_answer side##_asked_for_least_supply(const struct input *x, struct lent *lent)                                   \
+    {                                                                                                                                         \
+        (void)lent;                                                                                                                           \
+        return side##_least_supply(x->board, x->windows, x->windows_len, x->asked);                                                           \
+    }                                                                                                                                         \
+    static struct palikudyom_answer side##_asked_for_critical(const struct input *x, struct lent *lent)                                       \
+    {                                                                                                                                         \
+        return side##_critical(x->board, x->windows, x->windows_len, lent->numbers, ROOM);                                                    \
+    }                                                                                                                                         \
+    static struct palikudyom_answer side##_asked_for_delay(const struct input *x, struct lent *lent)                                          \
+    {                                                                                                                                         \
+        (void)lent;                                                                                                                           \
+        return side##_delay(x->board, x->windows, x->windows_len);                                                                            \
+    }                                                                                                                                         \
+    static struct palikudyom_answer side##_asked_for_outage(const struct input *x, struct lent *lent)                                         \
+    {                                                                                                                                         \
+        (void)lent;                                                                                                                           \
+        return side##_outage(x->board, x->windows, x->windows_len);                                                                           \
+    }                                                                                                                                         \
+    static struct palikudyom_answer side##_asked_for_margin(const struct input *x, struct lent *lent)                                         \
+    {                                                                                                                                         \
+        (void)lent;                                                                                                                           \
+        return side##_margin(x->board, x->windows, x->windows_len, x->tasks, x->tasks_len, x->asked);                                         \
+    }                                                                                                                                         \
+    static struct palikudyom_answer side##_asked_for_verdict(const struct input *x, struct lent *lent)                                        \
+    {                                                                                                                                         \
+        (void)lent;                                                                                                                           \
+        return side##_verdict(x->board, x->windows, x->windows_len, x->tasks, x->tasks_len);                                                  \
+    }                                                                                                                                         \
+    static struct palikudyom_answer side##_asked_for_bound(const struct input *x, struct lent *lent)                                          \
+    {                                                                                                                                         \
+        (void)lent;                                                                                                                           \
+        return side##_bound(x->board, x->windows, x->windows_len, x->tasks, x->tasks_len, x->asked);                                          \
+    }                                                                                                                                         \
+    static struct palikudyom_answer side##_asked_for_run(const struct input *x, struct lent *lent)                                            \
+    {                                                                                                                                         \
+        return side##_run(x->board, x->windows, x->windows_len, x->tasks, x->tasks_len, x->asked, x->jobs, x->jobs_len,                       \
+                          lent->numbers, ROOM);                                                                                               \
+    }                                                                                                                                         \
+    static struct palikudyom_answer side##_asked_for_replay(const struct input *x, struct lent *lent)                                         \
+    {                                                                                                                                         \
+        (void)lent;                                                                                                                           \
+        return side##_replay(x->board, x->windows, x->windows_len, x->tasks, x->tasks_len, x->trace, x->trace_len);                           \
+    }                                                                                                                                         \
+    static struct palikudyom_answer side##_asked_for_plan(const struct input *x, struct lent *lent)                                           \
+    {                                                                                                                                         \
+        (void)lent;                                                                                                                           \
+        return side##_plan_with_shortest(x->plan, x->plan_len);                                                                               \
+    }                                                                                                                                         \
+    static struct palikudyom_answer side##_asked_for_make_summary(const struct input *x, struct lent *lent)                                   \
+    {                                                                                                                                         \
+        return side##_make_summary(x->board, x->windows, x->windows_len, lent->numbers, ROOM);                                                \
+    }                                                                                                                                         \
+    static struct palikudyom_answer side##_asked_for_least_supply_from(const struct input *x, struct lent *lent)                              \
+    {                                                                                                                                         \
+        (void)lent;                                                                                                                           \
+        return side##_least_supply_from(x->board, x->windows, x->windows_len, x->summary, x->summary_len, x->asked);                          \
+    }                                                                                                                                         \
+    static struct palikudyom_answer side##_asked_for_margins(const struct input *x, struct lent *lent)                                        \
+    {                                                                                                                                         \
+        return side##_margins(x->board, x->windows, x->windows_len, x->summary, x->summary_len, x->tasks, x->tasks_len, x->lengths,           \
+                              x->lengths_len, lent->margins, MOST_LENGTHS + 1);                                                               \
+    }                                                                                                                                         \
+    static struct palikudyom_answer side##_moves(const struct input *x, struct lent *lent, uint32_t start, uint32_t end)                      \
+    {                                                                                                                                         \
+        return side##_move_window(x->board, x->windows_len / 3, lent->windows, WINDOW_ROOM, lent->summary, ROOM, x->moved, start, end);       \
+    }                                                                                                                                         \
+    static struct palikudyom_answer side##_asked_for_move(const struct input *x, struct lent *lent)                                           \
+    {                                                                                                                                         \
+        return side##_moves(x, lent, x->start, x->end);                                                                                       \
+    }                                                                                                                                         \
+    static struct palikudyom_answer side##_asked_for_move_and_back(const struct input *x, struct lent *lent)                                  \
+    {                                                                                                                                         \
+        struct palikudyom_answer there = side##_moves(x, lent, x->start, x->end);                                                             \
+        struct palikudyom_answer back = side##_moves(x, lent, x->windows[3 * x->moved], x->windows[3 * x->moved + 1]);                        \
+        return there.code == PALIKUDYOM_EDITED ? back : there;                                                                                \
+    }                                                                                                                                         \
+    static struct palikudyom_answer side##_asked_for_remove(const struct input *x, struct lent *lent)                                         \
+    {                                                                                                                                         \
+        return side##_remove_window(x->board, x->windows_len / 3, lent->windows, WINDOW_ROOM, lent->summary, ROOM, x->moved);                 \
+    }                                                                                                                                         \
+    static struct palikudyom_answer side##_asked_for_remove_and_add(const struct input *x, struct lent *lent)                                 \
+    {                                                                                                                                         \
+        struct palikudyom_answer removed = side##_asked_for_remove(x, lent);                                                                  \
+        const uint32_t *window = x->windows + 3 * x->moved;                                                                                   \
+        struct palikudyom_answer added = side##_add_window(x->board, x->windows_len / 3 - 1, lent->windows, WINDOW_ROOM, lent->summary, ROOM, \
+                                                           x->moved, window[0], window[1], window[2]);                                        \
+        return removed.code == PALIKUDYOM_EDITED ? added : removed;                                                                           \
     }
 
 SIDE(palikudyom)
 SIDE(plain)
 
-static struct palikudyom_answer plain_asked_for_least_supply_by_ticks(const struct input *x, uint32_t *buffer)
+static struct palikudyom_answer plain_asked_for_least_supply_by_ticks(const struct input *x, struct lent *lent)
 {
-    (void)buffer;
+    (void)lent;
     return plain_least_supply_by_ticks(x->board, x->windows, x->windows_len, x->asked);
 }
 
-static struct palikudyom_answer plain_asked_for_run_every_tick(const struct input *x, uint32_t *buffer)
+static struct palikudyom_answer plain_asked_for_run_every_tick(const struct input *x, struct lent *lent)
 {
-    return plain_run_every_tick(x->board, x->windows, x->windows_len, x->tasks, x->tasks_len, x->asked, x->jobs, x->jobs_len, buffer, ROOM);
+    return plain_run_every_tick(x->board, x->windows, x->windows_len, x->tasks, x->tasks_len, x->asked, x->jobs, x->jobs_len, lent->numbers, ROOM);
+}
+
+static struct palikudyom_answer plain_asked_for_critical_every_length(const struct input *x, struct lent *lent)
+{
+    return plain_critical_every_length(x->board, x->windows, x->windows_len, lent->numbers, ROOM);
+}
+
+/* Many calls of proved entries in place of one of request 6's, with the same answers in the same buffers */
+
+static struct palikudyom_answer amount(uint64_t n)
+{
+    return (struct palikudyom_answer){PALIKUDYOM_AMOUNT, n, 0, 0, 0};
+}
+
+static uint64_t least_supply_of(const struct input *x, uint32_t length)
+{
+    return palikudyom_least_supply(x->board, x->windows, x->windows_len, length).a;
+}
+
+/* the summary by P calls: the frame first, for A, then the shorter lengths */
+static struct palikudyom_answer summary_asked_by_length(const struct input *x, struct lent *lent)
+{
+    uint32_t frame = x->board.frame;
+    uint64_t whole = least_supply_of(x, frame);
+    uint64_t late = 0;
+    uint64_t before = 0;
+    uint64_t rises = 0;
+    uint32_t numbers = 3;
+    for (uint32_t t = 1; t <= frame; t++) {
+        uint64_t least = t == frame ? whole : least_supply_of(x, t);
+        if (least - before != rises)
+            lent->numbers[numbers++] = t - 1;
+        rises = least - before;
+        before = least;
+        if (late < whole * t - frame * least)
+            late = whole * t - frame * least;
+    }
+    if (rises != 0)
+        lent->numbers[numbers++] = frame;
+    lent->numbers[0] = whole;
+    lent->numbers[1] = late;
+    lent->numbers[2] = (numbers - 3) / 2;
+    return amount(numbers);
+}
+
+static struct palikudyom_answer margins_asked_by_length(const struct input *x, struct lent *lent)
+{
+    for (size_t i = 0; i < x->lengths_len; i++) {
+        struct palikudyom_answer margin = palikudyom_margin(x->board, x->windows, x->windows_len, x->tasks, x->tasks_len, x->lengths[i]);
+        lent->margins[i] = margin.code == PALIKUDYOM_BELOW ? -(int64_t)margin.a : (int64_t)margin.a;
+    }
+    return amount(x->lengths_len);
+}
+
+static struct palikudyom_answer least_supplies_asked_by_length(const struct input *x, struct lent *lent)
+{
+    for (size_t i = 0; i < x->lengths_len; i++)
+        lent->margins[i] = (int64_t)least_supply_of(x, x->lengths[i]);
+    return amount(x->lengths_len);
 }
 
 struct entry {
@@ -132,8 +248,21 @@ static const struct entry BOUND = {"bound", palikudyom_asked_for_bound, plain_as
 static const struct entry RUN = {"run", palikudyom_asked_for_run, plain_asked_for_run};
 static const struct entry REPLAY = {"replay", palikudyom_asked_for_replay, plain_asked_for_replay};
 static const struct entry PLAN = {"plan, m first", palikudyom_asked_for_plan, plain_asked_for_plan};
+static const struct entry MAKE_SUMMARY = {"make summary", palikudyom_asked_for_make_summary, plain_asked_for_make_summary};
+static const struct entry LEAST_SUPPLY_FROM = {"least supply from a summary", palikudyom_asked_for_least_supply_from, plain_asked_for_least_supply_from};
+static const struct entry MARGINS = {"margins", palikudyom_asked_for_margins, plain_asked_for_margins};
+static const struct entry EDITS = {"move a window and back", palikudyom_asked_for_move_and_back, plain_asked_for_move_and_back};
+static const struct entry REMOVAL = {"remove a window and add it", palikudyom_asked_for_remove_and_add, plain_asked_for_remove_and_add};
+static const struct entry HALF_EDITS[] = {
+    {"move a window", palikudyom_asked_for_move, plain_asked_for_move},
+    {"remove a window", palikudyom_asked_for_remove, plain_asked_for_remove},
+};
 static const struct entry LEAST_SUPPLY_BY_TICKS = {"least supply", palikudyom_asked_for_least_supply, plain_asked_for_least_supply_by_ticks};
+static const struct entry CRITICAL_EVERY_LENGTH = {"critical partition", palikudyom_asked_for_critical, plain_asked_for_critical_every_length};
 static const struct entry RUN_EVERY_TICK = {"run", palikudyom_asked_for_run, plain_asked_for_run_every_tick};
+static const struct entry SUMMARY_BY_LENGTH = {"make summary", palikudyom_asked_for_make_summary, summary_asked_by_length};
+static const struct entry MARGINS_BY_LENGTH = {"margins", palikudyom_asked_for_margins, margins_asked_by_length};
+static const struct entry LEAST_SUPPLIES_BY_LENGTH = {"margins, no tasks", palikudyom_asked_for_margins, least_supplies_asked_by_length};
 
 /* Comparing */
 
@@ -149,19 +278,32 @@ static int same_answer(struct palikudyom_answer x, struct palikudyom_answer y)
     return x.code == y.code && x.a == y.a && x.b == y.b && x.c == y.c && x.d == y.d;
 }
 
-static uint32_t proved_buffer[ROOM];
-static uint32_t plain_buffer[ROOM];
+static struct lent proved_lent;
+static struct lent plain_lent;
+
+/* as a compared call finds it, and each timed call after it: an edit goes back */
+static void lend(const struct input *x, struct lent *lent)
+{
+    for (size_t i = 0; i < ROOM; i++)
+        lent->numbers[i] = lent->summary[i] = UNTOUCHED;
+    for (size_t i = 0; i < LENGTH(lent->margins); i++)
+        lent->margins[i] = UNTOUCHED;
+    for (size_t i = 0; i < WINDOW_ROOM; i++)
+        lent->windows[i] = UNTOUCHED;
+    memcpy(lent->windows, x->windows, x->windows_len * sizeof x->windows[0]);
+    memcpy(lent->summary, x->summary, x->summary_len * sizeof x->summary[0]);
+}
 
 /* `first`: the answer's first number where the words tell it, else 0 */
 static void compare(const struct entry *entry, const char *words, uint32_t code, uint64_t first, const struct input *x)
 {
-    for (size_t i = 0; i < ROOM; i++)
-        proved_buffer[i] = plain_buffer[i] = UNTOUCHED;
-    struct palikudyom_answer proved = entry->proved(x, proved_buffer);
-    struct palikudyom_answer plain = entry->plain(x, plain_buffer);
+    lend(x, &proved_lent);
+    lend(x, &plain_lent);
+    struct palikudyom_answer proved = entry->proved(x, &proved_lent);
+    struct palikudyom_answer plain = entry->plain(x, &plain_lent);
     if (!same_answer(proved, plain))
         fail(entry->name, words, "the two answers differ");
-    if (memcmp(proved_buffer, plain_buffer, sizeof proved_buffer) != 0)
+    if (memcmp(&proved_lent, &plain_lent, sizeof proved_lent) != 0)
         fail(entry->name, words, "the two buffers differ");
     if (proved.code != code || (first != 0 && proved.a != first))
         fail(entry->name, words, "not the answer that is meant to be timed");
@@ -177,34 +319,34 @@ static double now(void)
 }
 
 /* seconds that `times` calls take */
-static double seconds(ask *f, const struct input *x, uint32_t *buffer, unsigned long times)
+static double seconds(ask *f, const struct input *x, struct lent *lent, unsigned long times)
 {
     double start = now();
     for (unsigned long i = 0; i < times; i++)
-        f(x, buffer);
+        f(x, lent);
     return now() - start;
 }
 
 /* best seconds a call of a side so far, and how many calls its measurements make */
 struct side {
     ask *f;
-    uint32_t *buffer;
+    struct lent *lent;
     unsigned long times;
     double best;
 };
 
-static struct side side_of(ask *f, uint32_t *buffer)
+static struct side side_of(ask *f, struct lent *lent)
 {
-    return (struct side){f, buffer, 1, 1e9};
+    return (struct side){f, lent, 1, 1e9};
 }
 
 /* one measurement, with more calls where it would be shorter than SHORTEST; how long it took */
 static double measure(struct side *s, const struct input *x)
 {
-    double took = seconds(s->f, x, s->buffer, s->times);
+    double took = seconds(s->f, x, s->lent, s->times);
     while (took < SHORTEST) {
         s->times *= 2;
-        took = seconds(s->f, x, s->buffer, s->times);
+        took = seconds(s->f, x, s->lent, s->times);
     }
     double each = took / (double)s->times;
     if (each < s->best)
@@ -215,8 +357,8 @@ static double measure(struct side *s, const struct input *x)
 /* best seconds a call, of each of two; alternately, so that a busy machine slows both alike */
 static void measure_both(ask *one, ask *other, const struct input *x, double *of_one, double *of_other)
 {
-    struct side a = side_of(one, proved_buffer);
-    struct side b = side_of(other, plain_buffer);
+    struct side a = side_of(one, &proved_lent);
+    struct side b = side_of(other, &plain_lent);
     int rounds = ROUNDS;
     for (int i = 0; i < rounds; i++) {
         if (measure(&a, x) > LONG)
@@ -229,7 +371,7 @@ static void measure_both(ask *one, ask *other, const struct input *x, double *of
 
 static double measure_proved(const struct entry *entry, const struct input *x)
 {
-    struct side a = side_of(entry->proved, proved_buffer);
+    struct side a = side_of(entry->proved, &proved_lent);
     for (int i = 0; i < LONG_ROUNDS; i++)
         measure(&a, x);
     return a.best;
@@ -296,6 +438,46 @@ static void shared_windows(struct input *x, uint32_t frame, uint32_t count, uint
         add_owned(x, i * (frame / count), end - ticks, 0);
         add_owned(x, end - ticks, end, 1);
     }
+}
+
+/* windows of half of `step` ticks at distances of `step`, starts and ends later by up to `most`, less than half a step, as a fixed rule has it */
+static void jittered_windows(struct input *x, uint32_t frame, uint32_t step, uint32_t most)
+{
+    uint32_t seed = 1;
+    x->board.frame = frame;
+    for (uint32_t i = 0; i < frame / step; i++) {
+        uint32_t edges[2];
+        for (uint32_t j = 0; j < 2; j++) {
+            seed = seed * 1103515245 + 12345;
+            edges[j] = i * step + j * (step / 2) + seed / 65536 % (most + 1);
+        }
+        add_window(x, edges[0], edges[1]);
+    }
+}
+
+/* the summary of the input's windows, for what is asked from it */
+static void keep_summary(struct input *x)
+{
+    struct palikudyom_answer made = palikudyom_make_summary(x->board, x->windows, x->windows_len, x->summary, ROOM);
+    if (made.code != PALIKUDYOM_AMOUNT)
+        fail(MAKE_SUMMARY.name, "that is kept", "it is not made");
+    x->summary_len = made.a;
+}
+
+/* 10,000 lengths, no two alike, spread over 1 to 1,000,000 */
+static void add_lengths(struct input *x)
+{
+    for (uint32_t i = 0; i < MOST_LENGTHS; i++)
+        x->lengths[x->lengths_len++] = 1 + i * 381967 % 1000000;
+}
+
+/* the last window, of two ticks or more, is moved to start a tick later */
+static void move_last(struct input *x)
+{
+    keep_summary(x);
+    x->moved = x->windows_len / 3 - 1;
+    x->start = x->windows[3 * x->moved] + 1;
+    x->end = x->windows[3 * x->moved + 1];
 }
 
 static void add_task(struct input *x, uint32_t work, uint32_t period, uint32_t deadline)
@@ -379,8 +561,9 @@ static uint32_t ended[LONGEST_RUN + 1]; /* by instant: one more than the job tha
  */
 static void record_run(struct input *x)
 {
-    static uint32_t counts[ROOM];
-    if (palikudyom_asked_for_run(x, counts).code != PALIKUDYOM_MET)
+    static struct lent lent;
+    const uint32_t *counts = lent.numbers;
+    if (palikudyom_asked_for_run(x, &lent).code != PALIKUDYOM_MET)
         fail(REPLAY.name, "its trace", "the run that is recorded is not met");
     size_t jobs = x->jobs_len / 3;
     uint32_t last = 0;
@@ -742,6 +925,11 @@ static void least_supply_by_frame(struct input *x, uint32_t frame)
     x->asked = frame - 1;
 }
 
+static void jittered_by_frame(struct input *x, uint32_t frame)
+{
+    jittered_windows(x, frame, frame / 64, frame / 512);
+}
+
 static void table_by_frame(struct input *x, uint32_t frame)
 {
     spread_windows(x, frame, 8);
@@ -873,6 +1061,114 @@ static void replay_by_jobs(struct input *x, uint32_t jobs)
     record_run(x);
 }
 
+/* Inputs of request 6: the summary is kept beside the table */
+
+/* about twice as many critical windows as windows, and many pieces between them */
+static void jittered_table(struct input *x)
+{
+    jittered_windows(x, 65536, 1024, 128);
+}
+
+static void small_least_supply_from(struct input *x)
+{
+    small_least_supply(x);
+    keep_summary(x);
+}
+
+static void typical_least_supply_from(struct input *x)
+{
+    typical_least_supply(x);
+    keep_summary(x);
+}
+
+static void worst_least_supply_from(struct input *x)
+{
+    worst_table(x);
+    keep_summary(x);
+    x->asked = 983039;
+}
+
+static void jittered_least_supply_from(struct input *x)
+{
+    jittered_table(x);
+    keep_summary(x);
+    x->asked = 983039;
+}
+
+static void small_margins(struct input *x)
+{
+    small_verdict(x);
+    keep_summary(x);
+    add_lengths(x);
+}
+
+static void typical_margins(struct input *x)
+{
+    typical_verdict(x);
+    keep_summary(x);
+    add_lengths(x);
+}
+
+static void worst_margins(struct input *x)
+{
+    worst_table(x);
+    add_every_deadline(x, 1024, 10);
+    keep_summary(x);
+    add_lengths(x);
+}
+
+static void jittered_margins(struct input *x)
+{
+    jittered_table(x);
+    add_every_deadline(x, 1024, 10);
+    keep_summary(x);
+    add_lengths(x);
+}
+
+/* margins of no tasks are least supplies */
+
+static void typical_least_supplies(struct input *x)
+{
+    typical_margins(x);
+    x->tasks_len = 0;
+}
+
+static void worst_least_supplies(struct input *x)
+{
+    worst_margins(x);
+    x->tasks_len = 0;
+}
+
+static void jittered_least_supplies(struct input *x)
+{
+    jittered_margins(x);
+    x->tasks_len = 0;
+}
+
+static void small_edits(struct input *x)
+{
+    small_table(x);
+    move_last(x);
+}
+
+static void typical_edits(struct input *x)
+{
+    typical_table(x);
+    move_last(x);
+}
+
+static void worst_edits(struct input *x)
+{
+    worst_table(x);
+    move_last(x);
+}
+
+static void jittered_edits(struct input *x)
+{
+    jittered_table(x);
+    move_last(x);
+}
+
 /* Tables */
 
 struct one_case {
@@ -892,9 +1188,11 @@ static const struct one_case CASES[] = {
     {&CRITICAL, "small", "P 8, 2 windows", PALIKUDYOM_AMOUNT, 0, small_table, 0},
     {&CRITICAL, "typical", "P 1,000, 8 windows", PALIKUDYOM_AMOUNT, 0, typical_table, 0},
     {&CRITICAL, "worst", "P 65,536, 64 windows", PALIKUDYOM_AMOUNT, 0, worst_table, 1},
+    {&CRITICAL, "jittered", "P 65,536, 64 windows", PALIKUDYOM_AMOUNT, 0, jittered_table, 0},
     {&DELAY, "small", "P 8, 2 windows", PALIKUDYOM_DELAY, 0, small_table, 0},
     {&DELAY, "typical", "P 1,000, 8 windows", PALIKUDYOM_DELAY, 0, typical_table, 0},
     {&DELAY, "worst", "P 65,536, 64 windows", PALIKUDYOM_DELAY, 0, worst_table, 1},
+    {&DELAY, "jittered", "P 65,536, 64 windows", PALIKUDYOM_DELAY, 0, jittered_table, 0},
     {&OUTAGE, "small", "P 8, 2 windows", PALIKUDYOM_AMOUNT, 0, small_table, 0},
     {&OUTAGE, "typical", "P 1,000, 8 windows", PALIKUDYOM_AMOUNT, 0, typical_table, 0},
     {&OUTAGE, "worst", "P 65,536, 64 windows", PALIKUDYOM_AMOUNT, 0, early_table, 0},
@@ -938,6 +1236,53 @@ static const struct one_case SHARED[] = {
     {&RUN, "worst", "P 65,536, 32 windows of each, 32 tasks, 4,096 jobs, 1,100,000 ticks", PALIKUDYOM_MET, 0, worst_shared_run, 0},
 };
 
+/* request 6: what an edit of one window leaves between its two halves is compared too */
+static const struct one_case SUMMARIES[] = {
+    {&MAKE_SUMMARY, "small", "P 8, 2 windows", PALIKUDYOM_AMOUNT, 0, small_table, 0},
+    {&MAKE_SUMMARY, "typical", "P 1,000, 8 windows", PALIKUDYOM_AMOUNT, 0, typical_table, 0},
+    {&MAKE_SUMMARY, "worst", "P 65,536, 64 windows", PALIKUDYOM_AMOUNT, 0, worst_table, 0},
+    {&MAKE_SUMMARY, "jittered", "P 65,536, 64 windows", PALIKUDYOM_AMOUNT, 0, jittered_table, 0},
+    {&LEAST_SUPPLY_FROM, "small", "P 8, 2 windows, length 6", PALIKUDYOM_AMOUNT, 0, small_least_supply_from, 0},
+    {&LEAST_SUPPLY_FROM, "typical", "P 1,000, 8 windows, length 2,500", PALIKUDYOM_AMOUNT, 0, typical_least_supply_from, 0},
+    {&LEAST_SUPPLY_FROM, "worst", "P 65,536, 64 windows, length 983,039", PALIKUDYOM_AMOUNT, 0, worst_least_supply_from, 0},
+    {&LEAST_SUPPLY_FROM, "jittered", "P 65,536, 64 windows, length 983,039", PALIKUDYOM_AMOUNT, 0, jittered_least_supply_from, 0},
+    {&MARGINS, "small", "P 8, 2 windows, 2 tasks, 10,000 lengths", PALIKUDYOM_AMOUNT, 10000, small_margins, 0},
+    {&MARGINS, "typical", "P 1,000, 8 windows, 8 tasks, 10,000 lengths", PALIKUDYOM_AMOUNT, 10000, typical_margins, 0},
+    {&MARGINS, "worst", "P 65,536, 64 windows, 32 tasks, 10,000 lengths", PALIKUDYOM_AMOUNT, 10000, worst_margins, 0},
+    {&MARGINS, "jittered", "P 65,536, 64 windows, 32 tasks, 10,000 lengths", PALIKUDYOM_AMOUNT, 10000, jittered_margins, 0},
+    {&EDITS, "small", "P 8, 2 windows, two edits", PALIKUDYOM_EDITED, 2, small_edits, 0},
+    {&EDITS, "typical", "P 1,000, 8 windows, two edits", PALIKUDYOM_EDITED, 8, typical_edits, 0},
+    {&EDITS, "worst", "P 65,536, 64 windows, two edits", PALIKUDYOM_EDITED, 64, worst_edits, 0},
+    {&EDITS, "jittered", "P 65,536, 64 windows, two edits", PALIKUDYOM_EDITED, 64, jittered_edits, 0},
+    {&REMOVAL, "typical", "P 1,000, 8 windows, two edits", PALIKUDYOM_EDITED, 8, typical_edits, 0},
+    {&REMOVAL, "jittered", "P 65,536, 64 windows, two edits", PALIKUDYOM_EDITED, 64, jittered_edits, 0},
+};
+
+/* request 6's bars: one call, and in place of the plain side the many calls of before */
+struct gain {
+    struct one_case of;
+    const char *instead;
+    double least; /* times as fast, 0: no bar */
+};
+
+static const struct gain GAINS[] = {
+    {{&SUMMARY_BY_LENGTH, "worst", "P 65,536, 64 windows", PALIKUDYOM_AMOUNT, 0, worst_table, 0}, "65,536 least supplies", 5},
+    {{&SUMMARY_BY_LENGTH, "jittered", "P 65,536, 64 windows", PALIKUDYOM_AMOUNT, 0, jittered_table, 0}, "65,536 least supplies", 0},
+    {{&MARGINS_BY_LENGTH, "typical", "P 1,000, 8 windows, 8 tasks", PALIKUDYOM_AMOUNT, 10000, typical_margins, 0}, "10,000 margins", 2},
+    {{&LEAST_SUPPLIES_BY_LENGTH, "typical", "P 1,000, 8 windows", PALIKUDYOM_AMOUNT, 10000, typical_least_supplies, 0}, "10,000 least supplies", 5},
+    {{&MARGINS_BY_LENGTH, "worst", "P 65,536, 64 windows, 32 tasks", PALIKUDYOM_AMOUNT, 10000, worst_margins, 0}, "10,000 margins", 1},
+    {{&MARGINS_BY_LENGTH, "jittered", "P 65,536, 64 windows, 32 tasks", PALIKUDYOM_AMOUNT, 10000, jittered_margins, 0}, "10,000 margins", 1},
+    {{&LEAST_SUPPLIES_BY_LENGTH, "worst", "P 65,536, 64 windows", PALIKUDYOM_AMOUNT, 10000, worst_least_supplies, 0}, "10,000 least supplies", 0},
+    {{&LEAST_SUPPLIES_BY_LENGTH, "jittered", "P 65,536, 64 windows", PALIKUDYOM_AMOUNT, 10000, jittered_least_supplies, 0}, "10,000 least supplies", 0},
+};
+
+static const struct one_case BEFORE_PIECES[] = {
+    {&CRITICAL_EVERY_LENGTH, "small", "", PALIKUDYOM_AMOUNT, 0, small_table, 0},
+    {&CRITICAL_EVERY_LENGTH, "typical", "", PALIKUDYOM_AMOUNT, 0, typical_table, 0},
+    {&CRITICAL_EVERY_LENGTH, "worst", "", PALIKUDYOM_AMOUNT, 0, worst_table, 0},
+    {&CRITICAL_EVERY_LENGTH, "jittered", "", PALIKUDYOM_AMOUNT, 0, jittered_table, 0},
+};
+
 static const struct one_case BEFORE[] = {
     {&LEAST_SUPPLY_BY_TICKS, "small", "", PALIKUDYOM_AMOUNT, 0, small_least_supply, 0},
     {&LEAST_SUPPLY_BY_TICKS, "typical", "", PALIKUDYOM_AMOUNT, 0, typical_least_supply, 0},
@@ -970,6 +1315,8 @@ static const struct growth GROWTHS[] = {
     {&CRITICAL, "P", "8 windows", PALIKUDYOM_AMOUNT, table_by_frame, {1024, 8192, 65536}},
     {&DELAY, "P", "8 windows", PALIKUDYOM_DELAY, table_by_frame, {1024, 8192, 65536}},
     {&OUTAGE, "P", "8 windows", PALIKUDYOM_AMOUNT, table_by_frame, {1024, 8192, 65536}},
+    {&MAKE_SUMMARY, "P", "8 windows", PALIKUDYOM_AMOUNT, table_by_frame, {1024, 8192, 65536}},
+    {&MAKE_SUMMARY, "P and the jitter", "64 windows, jitter P / 512", PALIKUDYOM_AMOUNT, jittered_by_frame, {1024, 8192, 65536}},
     {&VERDICT, "P", "64 windows, 2 tasks, 960 rises, all asked", PALIKUDYOM_MEETS, verdict_by_frame, {1024, 8192, 65536}},
     {&BOUND, "P", "64 windows, 2 tasks, D 100,000, 50,000 asks", PALIKUDYOM_NO_BOUND, bound_by_frame, {1024, 8192, 65536}},
     {&RUN, "P", "8 windows, 1 task, 50,000 ticks", PALIKUDYOM_MET, run_by_frame, {1024, 8192, 65536}},
@@ -978,6 +1325,7 @@ static const struct growth GROWTHS[] = {
     {&CRITICAL, "windows", "P 4,096", PALIKUDYOM_AMOUNT, table_by_windows, {1, 8, 64}},
     {&DELAY, "windows", "P 4,096", PALIKUDYOM_DELAY, table_by_windows, {1, 8, 64}},
     {&OUTAGE, "windows", "P 4,096", PALIKUDYOM_AMOUNT, table_by_windows, {1, 8, 64}},
+    {&MAKE_SUMMARY, "windows", "P 4,096", PALIKUDYOM_AMOUNT, table_by_windows, {1, 8, 64}},
     {&VERDICT, "windows", "P 1,024, 2 tasks, 960 rises, all asked", PALIKUDYOM_MEETS, verdict_by_windows, {1, 8, 64}},
     {&BOUND, "windows", "P 1,024, 2 tasks, D 100,000, 50,000 asks", PALIKUDYOM_NO_BOUND, bound_by_windows, {1, 8, 64}},
     {&RUN, "windows", "P 4,096, 1 task, 50,000 ticks", PALIKUDYOM_MET, run_by_windows, {1, 8, 64}},
@@ -1057,6 +1405,46 @@ static struct pair print_case(const struct one_case *c)
     return times;
 }
 
+static const char *met(int is)
+{
+    return is ? "met" : "not met";
+}
+
+/* an edit's first half alone, which the timed pair undoes */
+static void compare_halves(const struct one_case *c)
+{
+    clear_input();
+    c->make(&input);
+    for (size_t i = 0; i < LENGTH(HALF_EDITS); i++)
+        compare(&HALF_EDITS[i], c->name, PALIKUDYOM_EDITED, 0, &input);
+}
+
+static void print_summary_case(const struct one_case *c)
+{
+    if (c->code == PALIKUDYOM_EDITED)
+        compare_halves(c);
+    print_case(c);
+}
+
+static void print_request6_bar(const struct gain *g)
+{
+    const struct one_case *c = &g->of;
+    struct pair times = time_case(c);
+    double gained = times.plain / times.proved;
+    printf("| %s | %s: %s | ", c->entry->name, c->name, c->words);
+    if (g->least == 0)
+        printf("none: beside %s", g->instead);
+    else if (g->least == 1)
+        printf("no slower than %s", g->instead);
+    else
+        printf("%.0f times as fast as %s", g->least, g->instead);
+    printf(" | ");
+    print_time(times.plain);
+    printf(" | ");
+    print_time(times.proved);
+    printf(" | %.2f | %s |\n", gained, g->least == 0 ? "" : met(g->least <= gained));
+}
+
 /* the plain side is what it was before; how many times as long it took */
 static double print_before(const struct one_case *c)
 {
@@ -1070,11 +1458,6 @@ static double print_before(const struct one_case *c)
     print_figures(gained);
     printf(" |\n");
     return gained;
-}
-
-static const char *met(int is)
-{
-    return is ? "met" : "not met";
 }
 
 /* after the bar and what was measured: whether it is met, and the same of the ratio to plain C */
@@ -1166,6 +1549,18 @@ int main(void)
             print_gain(&CASES[i], times[i], gained);
         else if (CASES[i].bar != 0)
             print_bar(&CASES[i], times[i]);
+    printf("\nSummaries, what is asked from them, and edits (request 6):\n\n");
+    printf("| entry | input | proved | plain C | ratio |\n|---|---|---:|---:|---:|\n");
+    for (size_t i = 0; i < LENGTH(SUMMARIES); i++)
+        print_summary_case(&SUMMARIES[i]);
+    printf("\nThe bars of request 6, both sides proved:\n\n");
+    printf("| entry | input | bar | many calls | one call | times as fast | |\n|---|---|---|---:|---:|---:|---|\n");
+    for (size_t i = 0; i < LENGTH(GAINS); i++)
+        print_request6_bar(&GAINS[i]);
+    printf("\nThe critical partition beside that of before, every length asked for in plain C:\n\n");
+    printf("| entry | input | before | proved | times as fast |\n|---|---|---:|---:|---:|\n");
+    for (size_t i = 0; i < LENGTH(BEFORE_PIECES); i++)
+        print_before(&BEFORE_PIECES[i]);
     printf("\nThe run's inputs again, beside plain C that looks for a late job in all 32 places at every tick:\n\n");
     printf("| entry | input | proved | plain C | ratio |\n|---|---|---:|---:|---:|\n");
     for (size_t i = 0; i < LENGTH(CHECKED_ONCE); i++)
