@@ -1063,10 +1063,25 @@ static void replay_by_jobs(struct input *x, uint32_t jobs)
 
 /* Inputs of request 6: the summary is kept beside the table */
 
-/* about twice as many critical windows as windows, and many pieces between them */
+/* 133 critical windows in 861 pieces, where the worst table of before has 63 in 139 */
 static void jittered_table(struct input *x)
 {
     jittered_windows(x, 65536, 1024, 128);
+}
+
+/*
+ * Windows of one tick at uneven distances: 7,562 pieces, though 64 critical windows need only 129. At about every ninth length some stretch ends at an edge,
+ * and there a piece ends even where the least supply stays as it is. Of the tables tried none has more.
+ */
+static void sparse_table(struct input *x)
+{
+    uint32_t seed = 1;
+    x->board.frame = 65536;
+    for (uint32_t i = 0; i < 64; i++) {
+        seed = seed * 1103515245 + 12345;
+        uint32_t start = i * 1024 + seed / 65536 % 701;
+        add_window(x, start, start + 1);
+    }
 }
 
 static void small_least_supply_from(struct input *x)
@@ -1091,6 +1106,13 @@ static void worst_least_supply_from(struct input *x)
 static void jittered_least_supply_from(struct input *x)
 {
     jittered_table(x);
+    keep_summary(x);
+    x->asked = 983039;
+}
+
+static void sparse_least_supply_from(struct input *x)
+{
+    sparse_table(x);
     keep_summary(x);
     x->asked = 983039;
 }
@@ -1120,6 +1142,14 @@ static void worst_margins(struct input *x)
 static void jittered_margins(struct input *x)
 {
     jittered_table(x);
+    add_every_deadline(x, 1024, 10);
+    keep_summary(x);
+    add_lengths(x);
+}
+
+static void sparse_margins(struct input *x)
+{
+    sparse_table(x);
     add_every_deadline(x, 1024, 10);
     keep_summary(x);
     add_lengths(x);
@@ -1189,10 +1219,12 @@ static const struct one_case CASES[] = {
     {&CRITICAL, "typical", "P 1,000, 8 windows", PALIKUDYOM_AMOUNT, 0, typical_table, 0},
     {&CRITICAL, "worst", "P 65,536, 64 windows", PALIKUDYOM_AMOUNT, 0, worst_table, 1},
     {&CRITICAL, "jittered", "P 65,536, 64 windows", PALIKUDYOM_AMOUNT, 0, jittered_table, 0},
+    {&CRITICAL, "sparse", "P 65,536, 64 windows", PALIKUDYOM_AMOUNT, 64, sparse_table, 1},
     {&DELAY, "small", "P 8, 2 windows", PALIKUDYOM_DELAY, 0, small_table, 0},
     {&DELAY, "typical", "P 1,000, 8 windows", PALIKUDYOM_DELAY, 0, typical_table, 0},
     {&DELAY, "worst", "P 65,536, 64 windows", PALIKUDYOM_DELAY, 0, worst_table, 1},
     {&DELAY, "jittered", "P 65,536, 64 windows", PALIKUDYOM_DELAY, 0, jittered_table, 0},
+    {&DELAY, "sparse", "P 65,536, 64 windows", PALIKUDYOM_DELAY, 0, sparse_table, 1},
     {&OUTAGE, "small", "P 8, 2 windows", PALIKUDYOM_AMOUNT, 0, small_table, 0},
     {&OUTAGE, "typical", "P 1,000, 8 windows", PALIKUDYOM_AMOUNT, 0, typical_table, 0},
     {&OUTAGE, "worst", "P 65,536, 64 windows", PALIKUDYOM_AMOUNT, 0, early_table, 0},
@@ -1242,14 +1274,17 @@ static const struct one_case SUMMARIES[] = {
     {&MAKE_SUMMARY, "typical", "P 1,000, 8 windows", PALIKUDYOM_AMOUNT, 0, typical_table, 0},
     {&MAKE_SUMMARY, "worst", "P 65,536, 64 windows", PALIKUDYOM_AMOUNT, 0, worst_table, 0},
     {&MAKE_SUMMARY, "jittered", "P 65,536, 64 windows", PALIKUDYOM_AMOUNT, 0, jittered_table, 0},
+    {&MAKE_SUMMARY, "sparse", "P 65,536, 64 windows", PALIKUDYOM_AMOUNT, 131, sparse_table, 0},
     {&LEAST_SUPPLY_FROM, "small", "P 8, 2 windows, length 6", PALIKUDYOM_AMOUNT, 0, small_least_supply_from, 0},
     {&LEAST_SUPPLY_FROM, "typical", "P 1,000, 8 windows, length 2,500", PALIKUDYOM_AMOUNT, 0, typical_least_supply_from, 0},
     {&LEAST_SUPPLY_FROM, "worst", "P 65,536, 64 windows, length 983,039", PALIKUDYOM_AMOUNT, 0, worst_least_supply_from, 0},
     {&LEAST_SUPPLY_FROM, "jittered", "P 65,536, 64 windows, length 983,039", PALIKUDYOM_AMOUNT, 0, jittered_least_supply_from, 0},
+    {&LEAST_SUPPLY_FROM, "sparse", "P 65,536, 64 windows, length 983,039", PALIKUDYOM_AMOUNT, 0, sparse_least_supply_from, 0},
     {&MARGINS, "small", "P 8, 2 windows, 2 tasks, 10,000 lengths", PALIKUDYOM_AMOUNT, 10000, small_margins, 0},
     {&MARGINS, "typical", "P 1,000, 8 windows, 8 tasks, 10,000 lengths", PALIKUDYOM_AMOUNT, 10000, typical_margins, 0},
     {&MARGINS, "worst", "P 65,536, 64 windows, 32 tasks, 10,000 lengths", PALIKUDYOM_AMOUNT, 10000, worst_margins, 0},
     {&MARGINS, "jittered", "P 65,536, 64 windows, 32 tasks, 10,000 lengths", PALIKUDYOM_AMOUNT, 10000, jittered_margins, 0},
+    {&MARGINS, "sparse", "P 65,536, 64 windows, 32 tasks, 10,000 lengths", PALIKUDYOM_AMOUNT, 10000, sparse_margins, 0},
     {&EDITS, "small", "P 8, 2 windows, two edits", PALIKUDYOM_EDITED, 2, small_edits, 0},
     {&EDITS, "typical", "P 1,000, 8 windows, two edits", PALIKUDYOM_EDITED, 8, typical_edits, 0},
     {&EDITS, "worst", "P 65,536, 64 windows, two edits", PALIKUDYOM_EDITED, 64, worst_edits, 0},
@@ -1267,11 +1302,13 @@ struct gain {
 
 static const struct gain GAINS[] = {
     {{&SUMMARY_BY_LENGTH, "worst", "P 65,536, 64 windows", PALIKUDYOM_AMOUNT, 0, worst_table, 0}, "65,536 least supplies", 5},
-    {{&SUMMARY_BY_LENGTH, "jittered", "P 65,536, 64 windows", PALIKUDYOM_AMOUNT, 0, jittered_table, 0}, "65,536 least supplies", 0},
+    {{&SUMMARY_BY_LENGTH, "jittered", "P 65,536, 64 windows", PALIKUDYOM_AMOUNT, 0, jittered_table, 0}, "65,536 least supplies", 5},
+    {{&SUMMARY_BY_LENGTH, "sparse", "P 65,536, 64 windows", PALIKUDYOM_AMOUNT, 131, sparse_table, 0}, "65,536 least supplies", 5},
     {{&MARGINS_BY_LENGTH, "typical", "P 1,000, 8 windows, 8 tasks", PALIKUDYOM_AMOUNT, 10000, typical_margins, 0}, "10,000 margins", 2},
     {{&LEAST_SUPPLIES_BY_LENGTH, "typical", "P 1,000, 8 windows", PALIKUDYOM_AMOUNT, 10000, typical_least_supplies, 0}, "10,000 least supplies", 5},
     {{&MARGINS_BY_LENGTH, "worst", "P 65,536, 64 windows, 32 tasks", PALIKUDYOM_AMOUNT, 10000, worst_margins, 0}, "10,000 margins", 1},
     {{&MARGINS_BY_LENGTH, "jittered", "P 65,536, 64 windows, 32 tasks", PALIKUDYOM_AMOUNT, 10000, jittered_margins, 0}, "10,000 margins", 1},
+    {{&MARGINS_BY_LENGTH, "sparse", "P 65,536, 64 windows, 32 tasks", PALIKUDYOM_AMOUNT, 10000, sparse_margins, 0}, "10,000 margins", 1},
     {{&LEAST_SUPPLIES_BY_LENGTH, "worst", "P 65,536, 64 windows", PALIKUDYOM_AMOUNT, 10000, worst_least_supplies, 0}, "10,000 least supplies", 0},
     {{&LEAST_SUPPLIES_BY_LENGTH, "jittered", "P 65,536, 64 windows", PALIKUDYOM_AMOUNT, 10000, jittered_least_supplies, 0}, "10,000 least supplies", 0},
 };
@@ -1281,6 +1318,7 @@ static const struct one_case BEFORE_PIECES[] = {
     {&CRITICAL_EVERY_LENGTH, "typical", "", PALIKUDYOM_AMOUNT, 0, typical_table, 0},
     {&CRITICAL_EVERY_LENGTH, "worst", "", PALIKUDYOM_AMOUNT, 0, worst_table, 0},
     {&CRITICAL_EVERY_LENGTH, "jittered", "", PALIKUDYOM_AMOUNT, 0, jittered_table, 0},
+    {&CRITICAL_EVERY_LENGTH, "sparse", "", PALIKUDYOM_AMOUNT, 64, sparse_table, 0},
 };
 
 static const struct one_case BEFORE[] = {
