@@ -1070,7 +1070,7 @@ static void jittered_table(struct input *x)
 }
 
 /*
- * Windows of one tick at uneven distances: 7,562 pieces, though 64 critical windows need only 129. At about every ninth length some stretch ends at an edge,
+ * Windows of one tick at uneven distances: 7,562 pieces, though 128 would do for its 64 critical windows. At about every ninth length some stretch ends at an edge,
  * and there a piece ends even where the least supply stays as it is. Of the tables tried none has more.
  */
 static void sparse_table(struct input *x)
