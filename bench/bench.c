@@ -1564,8 +1564,52 @@ static void print_growth(const struct growth *g)
     printf(" |\n");
 }
 
-int main(void)
+static void print_request6(void)
 {
+    printf("\nSummaries, what is asked from them, and edits (request 6):\n\n");
+    printf("| entry | input | proved | plain C | ratio |\n|---|---|---:|---:|---:|\n");
+    for (size_t i = 0; i < LENGTH(SUMMARIES); i++)
+        print_summary_case(&SUMMARIES[i]);
+    printf("\nThe bars of request 6, both sides proved:\n\n");
+    printf("| entry | input | bar | many calls | one call | times as fast | |\n|---|---|---|---:|---:|---:|---|\n");
+    for (size_t i = 0; i < LENGTH(GAINS); i++)
+        print_request6_bar(&GAINS[i]);
+    printf("\nThe critical partition beside that of before, every length asked for in plain C:\n\n");
+    printf("| entry | input | before | proved | times as fast |\n|---|---|---:|---:|---:|\n");
+    for (size_t i = 0; i < LENGTH(BEFORE_PIECES); i++)
+        print_before(&BEFORE_PIECES[i]);
+}
+
+/* of request 6, or changed by it */
+static int is_of_request6(const struct entry *entry)
+{
+    return entry == &CRITICAL || entry == &DELAY || entry == &MAKE_SUMMARY;
+}
+
+/* what request 6 asks for, without the rest */
+static void print_request6_alone(void)
+{
+    printf("The proved code and plain C of the same algorithms:\n\n");
+    printf("| entry | input | proved | plain C | ratio |\n|---|---|---:|---:|---:|\n");
+    for (size_t i = 0; i < LENGTH(CASES); i++)
+        if (is_of_request6(CASES[i].entry))
+            print_case(&CASES[i]);
+    print_request6();
+    printf("\nHow the proved code's time grows:\n\n");
+    printf("| entry | what stays | what grows | proved | factor a step |\n|---|---|---|---|---|\n");
+    for (size_t i = 0; i < LENGTH(GROWTHS); i++)
+        if (is_of_request6(GROWTHS[i].entry))
+            print_growth(&GROWTHS[i]);
+}
+
+/* with any argument: request 6's tables alone */
+int main(int argc, char **argv)
+{
+    (void)argv;
+    if (1 < argc) {
+        print_request6_alone();
+        return 0;
+    }
     printf("The proved code and plain C of the same algorithms:\n\n");
     printf("| entry | input | proved | plain C | ratio |\n|---|---|---:|---:|---:|\n");
     struct pair times[LENGTH(CASES)];
@@ -1587,18 +1631,7 @@ int main(void)
             print_gain(&CASES[i], times[i], gained);
         else if (CASES[i].bar != 0)
             print_bar(&CASES[i], times[i]);
-    printf("\nSummaries, what is asked from them, and edits (request 6):\n\n");
-    printf("| entry | input | proved | plain C | ratio |\n|---|---|---:|---:|---:|\n");
-    for (size_t i = 0; i < LENGTH(SUMMARIES); i++)
-        print_summary_case(&SUMMARIES[i]);
-    printf("\nThe bars of request 6, both sides proved:\n\n");
-    printf("| entry | input | bar | many calls | one call | times as fast | |\n|---|---|---|---:|---:|---:|---|\n");
-    for (size_t i = 0; i < LENGTH(GAINS); i++)
-        print_request6_bar(&GAINS[i]);
-    printf("\nThe critical partition beside that of before, every length asked for in plain C:\n\n");
-    printf("| entry | input | before | proved | times as fast |\n|---|---|---:|---:|---:|\n");
-    for (size_t i = 0; i < LENGTH(BEFORE_PIECES); i++)
-        print_before(&BEFORE_PIECES[i]);
+    print_request6();
     printf("\nThe run's inputs again, beside plain C that looks for a late job in all 32 places at every tick:\n\n");
     printf("| entry | input | proved | plain C | ratio |\n|---|---|---:|---:|---:|\n");
     for (size_t i = 0; i < LENGTH(CHECKED_ONCE); i++)
