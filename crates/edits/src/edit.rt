@@ -14,7 +14,7 @@ ghost use mathlib.Core.Path.{_≡_};
 ghost use Prim.Native.Nat.{_+_, _*_, _/_, _%_, _≤_};
 ghost use lib.ListN.{length};
 ghost use Rattle.scope.specs.Numbers.{written};
-ghost use Rattle.scope.specs.Limits.{teams, mostWindows};
+ghost use Rattle.scope.specs.Limits.{teams};
 ghost use Rattle.scope.specs.Answers.{Fault.fine, faultIf};
 ghost use Rattle.scope.specs.Summary.{edited, indexFault, editAnswer, editWindows, editSummary};
 ghost use Rattle.tables.specs.Told.{boardOf, faultOf, toldEdited};

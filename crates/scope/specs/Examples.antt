@@ -215,11 +215,11 @@ abbrev pub halfSummary : List ℕ
 halfSummary = 2 ∷ 4 ∷ 1 ∷ 2 ∷ 4 ∷ []
 
 -- n windows of owner 1, one tick each, every third tick from tick k on
-abbrev othersFrom : ℕ → ℕ → List ℕ
+abbrev pub othersFrom : ℕ → ℕ → List ℕ
 othersFrom k zero = []
 othersFrom k (suc n) = k ∷ suc k ∷ 1 ∷ othersFrom (suc (suc (suc k))) n
 
-abbrev others : ℕ → List ℕ
+abbrev pub others : ℕ → List ℕ
 others = othersFrom 2
 
 unfoldable pub table : List Example

@@ -1,22 +1,20 @@
 -- Document 02, request 4: each team's answers depend on the frame and its own windows, and on nothing else once the whole list is legal and has no sliver; a
 -- table with one owner is answered as the pairs are. One statement each, over every entry and any number of owners
 use mathlib.Core.Path.{_≡_, refl, sym, ap, _∙_, fun-ext}
-use mathlib.Core.Bool.{Bool, true, false, not, cond, _&&_, _||_, and-true, and-false, or-false}
+use mathlib.Core.Bool.{Bool, true, false, not, _||_, and-true, and-false, or-false}
 use mathlib.Core.Option.{Option, none, some}
 use mathlib.Core.Logic.{_⊎_, inl, inr}
 use mathlib.Core.List.{List, [], _∷_, map}
-use Prim.Native.Nat.{ℕ, zero, suc, _+_, _-_, _*_, _/_, _%_, _≤_, _<_}
+use Prim.Native.Nat.{ℕ, zero, suc, _-_, _/_, _%_, _<_}
 use native.Mathlib.Omega.{arith}
-use native.Mathlib.Decide.{ℕ-discrete}
-use lib.Dec.{leb, ltb, eqb}
+use lib.Dec.{ltb, eqb}
 use lib.IntN.{ℤ}
-use lib.ListN.{length, getD}
+use lib.ListN.{length}
 use borrow.Author.Tests.{lt-ltb, eq-eqb, ne-eqb}
 use Rattle.scope.specs.Numbers.{first, pieces, piecesFrom, badCount}
 use Rattle.scope.specs.Limits.{teams, mostFrame, mostWindows}
-use Rattle.scope.specs.Windows.{Board, Window, window, windowsOf, windowAt, windowFits, gives, covers, supplied, suppliedBy, windowLegal, badWindow}
-use Rattle.scope.specs.Tasks.{tasksOf}
-use Rattle.scope.specs.Answers.{Fault, Fault.fine, Fault.fault, Answer, Answer.given, Answer.refused, faultIf, faultAt, _orElse_, unless, unlessKept}
+use Rattle.scope.specs.Windows.{Board, Window, window, windowsOf, windowAt, gives, covers, supplied, suppliedBy, windowLegal, badWindow}
+use Rattle.scope.specs.Answers.{Fault, Fault.fine, Fault.fault, Answer, Answer.given, Answer.refused, faultIf, faultAt, _orElse_}
 use Rattle.scope.specs.Answers.{windowListFault, frameFault, windowFault, tableFault, cycleFault, criticalFault, runFault}
 use Rattle.scope.specs.Answers.{suppliedAnswer, leastSupplyAnswer, criticalAnswer, criticalOut, delayAnswer, outageAnswer}
 use Rattle.scope.specs.Answers.{marginAnswer, verdictAnswer, boundAnswer, runAnswer, runOut}
@@ -42,81 +40,81 @@ unfolding covers gives
 covers-board b c [] k = refl
 covers-board b c (w ∷ ws) k = rw (covers-board b c ws k)
 
-pub σ : (b c : Board) (ws : List ℕ) → b .frame ≡ c .frame → suppliedBy b ws ≡ suppliedBy c ws
+pub supplied-same : (b c : Board) (ws : List ℕ) → b .frame ≡ c .frame → suppliedBy b ws ≡ suppliedBy c ws
 unfolding supplied
-σ b c ws e = fun-ext (λ k. ap (λ (P : ℕ). covers b (windowsOf ws) (k % P)) e ∙ covers-board b c (windowsOf ws) (k % c .frame))
+supplied-same b c ws e = fun-ext (λ k. ap (λ (P : ℕ). covers b (windowsOf ws) (k % P)) e ∙ covers-board b c (windowsOf ws) (k % c .frame))
 
-φ : (b c : Board) (ws : List ℕ) → b .frame ≡ c .frame → tableFault b ws ≡ tableFault c ws
+table-same : (b c : Board) (ws : List ℕ) → b .frame ≡ c .frame → tableFault b ws ≡ tableFault c ws
 unfolding tableFault frameFault windowFault badWindow windowLegal
-φ b c ws e = ap (λ (P : ℕ). tableFault (record { frame = P; owner = 0; shortest = 1 }) ws) e
+table-same b c ws e = ap (λ (P : ℕ). tableFault (record { frame = P; owner = 0; shortest = 1 }) ws) e
 
 pub supplied-entry : (k : ℕ) → Entry refused (λ b ws. suppliedAnswer b ws k)
 unfolding suppliedAnswer
-supplied-entry k = record { checks = λ b ws n p e. rw e; by-frame = λ b c ws e. rw (φ b c ws e, σ b c ws e) }
+supplied-entry k = record { checks = λ b ws n p e. rw e; by-frame = λ b c ws e. rw (table-same b c ws e, supplied-same b c ws e) }
 
 pub least-supply-entry : (t : ℕ) → Entry refused (λ b ws. leastSupplyAnswer b ws t)
 unfolding leastSupplyAnswer
-least-supply-entry t = record { checks = λ b ws n p e. rw e; by-frame = λ b c ws e. rw (φ b c ws e, σ b c ws e, e) }
+least-supply-entry t = record { checks = λ b ws n p e. rw e; by-frame = λ b c ws e. rw (table-same b c ws e, supplied-same b c ws e, e) }
 
 pub critical-entry : (room : ℕ) → Entry refused (λ b ws. criticalAnswer b ws room)
 unfolding criticalAnswer criticalFault
-critical-entry room = record { checks = λ b ws n p e. rw e; by-frame = λ b c ws e. rw (φ b c ws e, σ b c ws e, e) }
+critical-entry room = record { checks = λ b ws n p e. rw e; by-frame = λ b c ws e. rw (table-same b c ws e, supplied-same b c ws e, e) }
 
 pub critical-out-entry : (out : List ℕ) → Entry (kept out) (λ b ws. criticalOut b ws out)
 unfolding criticalOut criticalFault
-critical-out-entry out = record { checks = λ b ws n p e. rw e; by-frame = λ b c ws e. rw (φ b c ws e, σ b c ws e, e) }
+critical-out-entry out = record { checks = λ b ws n p e. rw e; by-frame = λ b c ws e. rw (table-same b c ws e, supplied-same b c ws e, e) }
 
 pub delay-entry : Entry refused (λ b ws. delayAnswer b ws)
 unfolding delayAnswer
-delay-entry = record { checks = λ b ws n p e. rw e; by-frame = λ b c ws e. rw (φ b c ws e, σ b c ws e, e) }
+delay-entry = record { checks = λ b ws n p e. rw e; by-frame = λ b c ws e. rw (table-same b c ws e, supplied-same b c ws e, e) }
 
 pub outage-entry : Entry refused (λ b ws. outageAnswer b ws)
 unfolding outageAnswer
-outage-entry = record { checks = λ b ws n p e. rw e; by-frame = λ b c ws e. rw (φ b c ws e, σ b c ws e, e) }
+outage-entry = record { checks = λ b ws n p e. rw e; by-frame = λ b c ws e. rw (table-same b c ws e, supplied-same b c ws e, e) }
 
 pub margin-entry : (ts : List ℕ) (t : ℕ) → Entry refused (λ b ws. marginAnswer b ws ts t)
 unfolding marginAnswer
-margin-entry ts t = record { checks = λ b ws n p e. rw e; by-frame = λ b c ws e. rw (φ b c ws e, σ b c ws e, e) }
+margin-entry ts t = record { checks = λ b ws n p e. rw e; by-frame = λ b c ws e. rw (table-same b c ws e, supplied-same b c ws e, e) }
 
 pub verdict-entry : (ts : List ℕ) → Entry refused (λ b ws. verdictAnswer b ws ts)
 unfolding verdictAnswer cycleFault
-verdict-entry ts = record { checks = λ b ws n p e. rw e; by-frame = λ b c ws e. rw (φ b c ws e, σ b c ws e, e) }
+verdict-entry ts = record { checks = λ b ws n p e. rw e; by-frame = λ b c ws e. rw (table-same b c ws e, supplied-same b c ws e, e) }
 
 pub bound-entry : (ts : List ℕ) (i : ℕ) → Entry refused (λ b ws. boundAnswer b ws ts i)
 unfolding boundAnswer
-bound-entry ts i = record { checks = λ b ws n p e. rw e; by-frame = λ b c ws e. rw (φ b c ws e, σ b c ws e, e) }
+bound-entry ts i = record { checks = λ b ws n p e. rw e; by-frame = λ b c ws e. rw (table-same b c ws e, supplied-same b c ws e, e) }
 
 pub run-entry : (ts : List ℕ) (n : ℕ) (js : List ℕ) (room : ℕ) → Entry refused (λ b ws. runAnswer b ws ts n js room)
 unfolding runAnswer runFault
-run-entry ts n js room = record { checks = λ b ws n p e. rw e; by-frame = λ b c ws e. rw (φ b c ws e, σ b c ws e) }
+run-entry ts n js room = record { checks = λ b ws n p e. rw e; by-frame = λ b c ws e. rw (table-same b c ws e, supplied-same b c ws e) }
 
 pub run-out-entry : (ts : List ℕ) (n : ℕ) (js out : List ℕ) → Entry (kept out) (λ b ws. runOut b ws ts n js out)
 unfolding runOut runFault
-run-out-entry ts n js out = record { checks = λ b ws n p e. rw e; by-frame = λ b c ws e. rw (φ b c ws e, σ b c ws e) }
+run-out-entry ts n js out = record { checks = λ b ws n p e. rw e; by-frame = λ b c ws e. rw (table-same b c ws e, supplied-same b c ws e) }
 
 pub make-entry : (room : ℕ) → Entry refused (λ b ws. makeAnswer b ws room)
 unfolding makeAnswer makeFault summaryOf
-make-entry room = record { checks = λ b ws n p e. rw e; by-frame = λ b c ws e. rw (φ b c ws e, σ b c ws e, e) }
+make-entry room = record { checks = λ b ws n p e. rw e; by-frame = λ b c ws e. rw (table-same b c ws e, supplied-same b c ws e, e) }
 
 pub make-out-entry : (out : List ℕ) → Entry (kept out) (λ b ws. makeOut b ws out)
 unfolding makeOut makeFault summaryOf
-make-out-entry out = record { checks = λ b ws n p e. rw e; by-frame = λ b c ws e. rw (φ b c ws e, σ b c ws e, e) }
+make-out-entry out = record { checks = λ b ws n p e. rw e; by-frame = λ b c ws e. rw (table-same b c ws e, supplied-same b c ws e, e) }
 
 pub least-from-entry : (summary : List ℕ) (t : ℕ) → Entry refused (λ b ws. leastFromAnswer b ws summary t)
 unfolding leastFromAnswer summaryFault summaryOf
-least-from-entry summary t = record { checks = λ b ws n p e. rw e; by-frame = λ b c ws e. rw (φ b c ws e, σ b c ws e, e) }
+least-from-entry summary t = record { checks = λ b ws n p e. rw e; by-frame = λ b c ws e. rw (table-same b c ws e, supplied-same b c ws e, e) }
 
 pub margins-entry : (summary ts lengths : List ℕ) (room : ℕ) → Entry refused (λ b ws. marginsAnswer b ws summary ts lengths room)
 unfolding marginsAnswer marginsFault summaryFault summaryOf
-margins-entry summary ts lengths room = record { checks = λ b ws n p e. rw e; by-frame = λ b c ws e. rw (φ b c ws e, σ b c ws e, e) }
+margins-entry summary ts lengths room = record { checks = λ b ws n p e. rw e; by-frame = λ b c ws e. rw (table-same b c ws e, supplied-same b c ws e, e) }
 
 pub margins-out-entry : (summary ts lengths : List ℕ) (out : List ℤ) → Entry (kept out) (λ b ws. marginsOut b ws summary ts lengths out)
 unfolding marginsOut marginsFault summaryFault summaryOf
-margins-out-entry summary ts lengths out = record { checks = λ b ws n p e. rw e; by-frame = λ b c ws e. rw (φ b c ws e, σ b c ws e, e) }
+margins-out-entry summary ts lengths out = record { checks = λ b ws n p e. rw e; by-frame = λ b c ws e. rw (table-same b c ws e, supplied-same b c ws e, e) }
 
 pub records-entry : (ts : List ℕ) (rs : List Record) → Entry refused (λ b ws. recordsAnswer b ws ts rs)
 unfolding recordsAnswer replayFault
-records-entry ts rs = record { checks = λ b ws n p e. rw e; by-frame = λ b c ws e. rw (φ b c ws e, σ b c ws e) }
+records-entry ts rs = record { checks = λ b ws n p e. rw e; by-frame = λ b c ws e. rw (table-same b c ws e, supplied-same b c ws e) }
 
 -- ---- whatever the other team does
 

@@ -2,12 +2,12 @@
 use mathlib.Core.Path.{_≡_, refl}
 use mathlib.Core.Bool.{Bool, true, false}
 use mathlib.Core.Option.{Option, none, some}
-use mathlib.Core.List.{List}
-use Prim.Native.Nat.{ℕ, _*_, _%_, _≤_, _<_}
+use mathlib.Core.List.{List, [], _∷_}
+use Prim.Native.Nat.{ℕ, zero, suc, _*_, _%_, _≤_, _<_}
 use native.Mathlib.Omega.{arith}
 use lib.Dec.{ltb, eqb}
-use lib.ListN.{length}
-use borrow.Author.Tests.{ltb-false, leb-false, eqb-false, ne-eqb}
+use lib.ListN.{length, getD}
+use borrow.Author.Tests.{ltb-false, leb-false, lt-ltb, le-ltb, eqb-false, ne-eqb}
 use Rattle.scope.specs.Numbers.{badCount}
 use Rattle.scope.specs.Limits.{mostFrame, mostWindows, mostTasks, mostCycle, mostLength, mostTicks, mostJobs}
 use Rattle.scope.specs.Windows.{Board, windowsOf, suppliedBy, badWindow}
@@ -21,6 +21,7 @@ use Rattle.scope.specs.Run.{Ran, ran}
 use Rattle.scope.specs.Answers.{Fault, Fault.fine, Fault.fault, Answer.given, Answer.refused, faultIf, faultAt, _orElse_, unless, windowListFault, frameFault}
 use Rattle.scope.specs.Answers.{windowFault, taskListFault, taskFault, cycleFault, lengthFault, absentFault, tableFault, groupFault, verdictAnswer, boundAnswer}
 use Rattle.scope.specs.Answers.{jobListFault, jobFault, roomFault, runFault, runAnswer}
+use Rattle.scope.specs.Summary.{lengthsFault}
 use Rattle.theory.specs.Numbers.{or-neither}
 use Rattle.theory.specs.Lists.{count-fine, fine-count}
 use Rattle.theory.specs.Tasks.{TaskRules, Within, task-rules}
@@ -52,6 +53,20 @@ pub unless-refused : {A : Type 0} (f : Fault) (a : A) (n p : ℕ) → unless f a
 unless-refused fine a n p e = let z : _≡_ {A = ℕ} 0 1 = cc in absurd (omega arith)
 unless-refused (fault m q) a n p e = let same : m ≡ n = cc in let there : q ≡ p = cc in rw (same, there)
 
+-- ---- room for so many numbers
+
+pub room-fine : (needed room : ℕ) → roomFault needed room ≡ fine → needed ≤ room
+unfolding roomFault
+room-fine needed room f = ltb-false room needed (faultIf-fine _ 8 needed f)
+
+pub fine-room : (needed room : ℕ) → needed ≤ room → roomFault needed room ≡ fine
+unfolding roomFault
+fine-room needed room h = rw (le-ltb room needed h)
+
+pub room-fault : (needed room : ℕ) → room < needed → roomFault needed room ≡ fault 8 needed
+unfolding roomFault
+room-fault needed room h = rw (lt-ltb room needed h)
+
 -- ---- tables, groups and lengths that pass their checks
 
 pub record LegalTable (b : Board) (ws : List ℕ) : Type 0 where
@@ -81,20 +96,30 @@ frame-legal b e =
     let framed = eqb-false (b .frame) 0 (f .0) in
     (omega (arith, framed), ltb-false mostFrame (b .frame) (f .1))
 
-pub table-legal : (b : Board) (ws : List ℕ) → tableFault b ws ≡ fine → LegalTable b ws
-unfolding tableFault windowFault
-table-legal b ws e =
+-- a table's three checks
+table-checks : (b : Board) (ws : List ℕ) → tableFault b ws ≡ fine → (windowListFault ws ≡ fine) × (frameFault b ≡ fine) × (windowFault b (windowsOf ws) ≡ fine)
+unfolding tableFault
+table-checks b ws e =
     let p = orElse-fine (windowListFault ws) (frameFault b orElse windowFault b (windowsOf ws)) e in
     let q = orElse-fine (frameFault b) (windowFault b (windowsOf ws)) (p .1) in
-    let l = window-list-legal ws (p .0) in
-    let f = frame-legal b (q .0) in
+    (p .0, q .0, q .1)
+
+pub table-framed : (b : Board) (ws : List ℕ) → tableFault b ws ≡ fine → frameFault b ≡ fine
+table-framed b ws e = table-checks b ws e .1
+
+pub table-legal : (b : Board) (ws : List ℕ) → tableFault b ws ≡ fine → LegalTable b ws
+unfolding windowFault
+table-legal b ws e =
+    let c = table-checks b ws e in
+    let l = window-list-legal ws (c .0) in
+    let f = frame-legal b (c .1) in
     record {
       frame = f .0;
       frame-most = f .1;
       even = l .0;
       some = l .1;
       few = l .2;
-      windows = faultAt-fine 3 (badWindow b (windowsOf ws)) (q .1);
+      windows = faultAt-fine 3 (badWindow b (windowsOf ws)) (c .2);
     }
 
 pub record LegalGroup (ts : List ℕ) : Type 0 where
@@ -135,6 +160,13 @@ checked-legal b ws ts e = let p = orElse-fine (tableFault b ws) (groupFault ts) 
 pub length-legal : (t : ℕ) → lengthFault t ≡ fine → t ≤ mostLength
 unfolding lengthFault
 length-legal t e = ltb-false mostLength t (faultIf-fine (ltb mostLength t) 7 0 e)
+
+-- each of many lengths
+pub lengths-each : (lengths : List ℕ) → lengthsFault lengths ≡ fine → (j : ℕ) → j < length lengths → lengthFault (getD lengths j 0) ≡ fine
+unfolding lengthsFault
+lengths-each [] e j h = absurd (omega arith)
+lengths-each (t ∷ lengths) e zero h = orElse-fine (lengthFault t) (lengthsFault lengths) e .0
+lengths-each (t ∷ lengths) e (suc j) h = lengths-each lengths (orElse-fine (lengthFault t) (lengthsFault lengths) e .1) j (omega arith)
 
 pub job-list-legal : (n : ℕ) (js : List ℕ) → jobListFault n js ≡ fine → (length js % 3 ≡ 0) × (length js ≤ 3 * mostJobs) × (n ≤ mostTicks)
 unfolding jobListFault
@@ -194,7 +226,7 @@ pub record RunGiven (b : Board) (ws ts : List ℕ) (n : ℕ) (js : List ℕ) (ro
   pub is : ran (suppliedBy b ws) (edf (tasksOf ts) (jobsOf js)) (tasksOf ts) (jobsOf js) n ≡ r
 
 pub run-given : (b : Board) (ws ts : List ℕ) (n : ℕ) (js : List ℕ) (room : ℕ) (r : Ran) → runAnswer b ws ts n js room ≡ given r → RunGiven b ws ts n js room r
-unfolding runAnswer runFault jobFault roomFault
+unfolding runAnswer runFault jobFault
 run-given b ws ts n js room r e =
     let u = unless-given (runFault b ws ts n js room) _ r e in
     let job : Fault = jobFault (tasksOf ts) n (jobsOf js) in
@@ -211,6 +243,6 @@ run-given b ws ts n js room r e =
       few = l .1;
       ticks = l .2;
       jobs = faultAt-fine 11 (badJob (tasksOf ts) n (jobsOf js)) (p₄ .0);
-      roomy = ltb-false room (length (jobsOf js)) (faultIf-fine _ 8 (length (jobsOf js)) (p₄ .1));
+      roomy = room-fine (length (jobsOf js)) room (p₄ .1);
       is = u .1;
     }

@@ -30,6 +30,7 @@ use Rattle.scope.specs.Summary.{summaryOf, makeAnswer, makeOut, begins, summary
 use Rattle.scope.specs.Summary.{leastFromFor, marginsFor, marginsOutFor, Edit, Edit.move, Edit.add, Edit.remove, tableIn, editedList, editAnswer, editWindows, editSummary}
 use Rattle.scope.specs.Demands.{Silent, LeastMiss, Way, Served}
 use Rattle.scope.specs.Examples.{Reply.amounts, Reply.windows, Reply.bytesIn, Reply.aVerdict, Reply.bounds, Reply.aRun, X, lab, XShared, on, onFor, onAtLeast, reply, table, examples, row}
+use Rattle.scope.specs.Examples.{XSummary}
 use Rattle.scope.specs.Examples.{Reply.aReplay}
 use Rattle.scope.specs.Computing.{everything}
 use Rattle.theory.specs.Numbers.{by-lexically}
@@ -55,10 +56,10 @@ use Rattle.theory.specs.Shortest.{verdict-known, least-from-known, Twelv
 use Rattle.theory.specs.Shortest.{own-twelve, own-smaller, smaller-plan, old-form, old-refused}
 use Rattle.theory.specs.Buffers.{begins-written}
 use Rattle.theory.specs.Summaries.{fine-begins, least-from-exact, margin-from-exact, summary-agrees, summary-answers, not-belonging, fourteen}
-use Rattle.theory.specs.Summaries.{margins-agree, margins-each, margins-not-belonging, margins-fourteen, made-belongs}
+use Rattle.theory.specs.Summaries.{margins-agree, margins-each, one-refused, margins-not-belonging, margins-fourteen, summary-most, made-belongs}
 use Rattle.theory.specs.Forms.{withSettings, refused-behind}
-use Rattle.theory.specs.Edits.{edit-parts, Left, edit-leaves, new-refused, count-answered, add-then-remove, remove-then-add, move-back, other-owner, edit-own}
-use Rattle.theory.specs.Edits.{EditRefusal, edit-refusal, Fourteen, exactly-fourteen, fourteen-own, EditTold, edit-told-apart}
+use Rattle.theory.specs.Edits.{edit-parts, Left, edit-leaves, edit-as-made, new-refused, count-answered, add-then-remove, remove-then-add, move-back, other-owner, edit-own}
+use Rattle.theory.specs.Edits.{EditRefusal, edit-refusal, refusal-edit, Fourteen, exactly-fourteen, Absent, exactly-seven, fourteen-own, EditTold, edit-told-apart}
 use Rattle.theory.specs.PlanBytes.{Writable, plan-length, round-trip, left-over, only-bytes}
 
 abbrev pub w6 : List ℕ
@@ -616,39 +617,40 @@ w6-plan-twelve = plan-twelve 1 (3 ∷ w6-file) 0 .0 refl
 
 -- ---- a summary beside X: 4 ticks a frame, a delay of 12, and 2 critical windows, 3 to 5 and 6 to 8
 
-abbrev pub x-summary : List ℕ
-x-summary = 4 ∷ 12 ∷ 2 ∷ 3 ∷ 5 ∷ 6 ∷ 8 ∷ []
+-- 7 numbers, of at most 12
+x-most : length (summaryOf (on 8) X) ≤ 12
+x-most = summary-most (on 8) X
 
 -- memory that is longer belongs too
-x-begins : (rest : List ℕ) → begins (summaryOf (on 8) X) (x-summary ++ rest) ≡ true
+x-begins : (rest : List ℕ) → begins (summaryOf (on 8) X) (XSummary ++ rest) ≡ true
 unfolding everything
 x-begins rest = refl
 
 -- three million ticks and five more, which no entry answers, hold four in each of 375,000 frames and 2
 x-long : leastSupply (suppliedBy (on 8) X) 8 3000005 ≡ 1500002
 unfolding leastFrom ticksBefore pieces piecesFrom
-x-long = sym (least-from-exact (on 8) X x-summary (omega arith) (x-begins []) 3000005)
+x-long = sym (least-from-exact (on 8) X XSummary (omega arith) (x-begins []) 3000005)
 
 -- W6's group misses its last deadline by one tick
-w6-from : marginFrom 8 x-summary (tasksOf w6) 6 ≡ margin (suppliedBy (on 8) X) 8 (tasksOf w6) 6
-w6-from = margin-from-exact (on 8) X x-summary (omega arith) (x-begins []) (tasksOf w6) 6
+w6-from : marginFrom 8 XSummary (tasksOf w6) 6 ≡ margin (suppliedBy (on 8) X) 8 (tasksOf w6) 6
+w6-from = margin-from-exact (on 8) X XSummary (omega arith) (x-begins []) (tasksOf w6) 6
 
-x-shared-summary : summaryFault (on 8) (own (on 8) XShared) x-summary ≡ fine
+x-shared-summary : summaryFault (on 8) (own (on 8) XShared) XSummary ≡ fine
 unfolding everything
 x-shared-summary = refl
 
-x-agrees : (t : ℕ) → leastFromFor (on 8) XShared x-summary t ≡ leastSupplyFor (on 8) XShared t
-x-agrees t = summary-agrees (on 8) XShared x-summary t x-shared-summary
+x-agrees : (t : ℕ) → leastFromFor (on 8) XShared XSummary t ≡ leastSupplyFor (on 8) XShared t
+x-agrees t = summary-agrees (on 8) XShared XSummary t x-shared-summary
 
-x-from : leastFromFor (on 8) XShared x-summary 999999 ≡ given 499999
+x-from : leastFromFor (on 8) XShared XSummary 999999 ≡ given 499999
 unfolding everything
 x-from = refl
 
 x-answers : leastSupplyFor (on 8) XShared 999999 ≡ given 499999
-x-answers = summary-answers (on 8) XShared x-summary 999999 499999 x-from
+x-answers = summary-answers (on 8) XShared XSummary 999999 499999 x-from
 
 -- owner 1 has other windows: X's summary is refused, whatever length is asked for
-x-not-hers : begins (summaryOf (onFor 8 1) (own (onFor 8 1) XShared)) x-summary ≡ false
+x-not-hers : begins (summaryOf (onFor 8 1) (own (onFor 8 1) XShared)) XSummary ≡ false
 unfolding everything
 x-not-hers = refl
 
@@ -656,74 +658,82 @@ hers-fine : sharedFault teams (onFor 8 1) XShared ≡ fine
 unfolding everything
 hers-fine = refl
 
-x-refused : (t : ℕ) → leastFromFor (onFor 8 1) XShared x-summary t ≡ refused 14 0
-x-refused t = not-belonging (onFor 8 1) XShared x-summary t hers-fine x-not-hers
+x-refused : (t : ℕ) → leastFromFor (onFor 8 1) XShared XSummary t ≡ refused 14 0
+x-refused t = not-belonging (onFor 8 1) XShared XSummary t hers-fine x-not-hers
 
-x-fourteen : begins (summaryOf (onFor 8 1) (own (onFor 8 1) XShared)) x-summary ≡ false
-x-fourteen = fourteen (onFor 8 1) XShared x-summary 2000000 0 (x-refused 2000000) .0
+x-fourteen : begins (summaryOf (onFor 8 1) (own (onFor 8 1) XShared)) XSummary ≡ false
+x-fourteen = fourteen (onFor 8 1) XShared XSummary 2000000 0 (x-refused 2000000) .0
 
 -- W6's margins at 6 and at 999,999, in room for three
 abbrev nines : List ℤ
 nines = pos 9 ∷ pos 9 ∷ pos 9 ∷ []
 
-w6-margins : marginsFor (on 8) XShared x-summary w6 (6 ∷ 999999 ∷ []) 3 ≡ given 2
+w6-margins : marginsFor (on 8) XShared XSummary w6 (6 ∷ 999999 ∷ []) 3 ≡ given 2
 unfolding everything
 w6-margins = refl
 
-w6-margins-out : marginsOutFor (on 8) XShared x-summary w6 (6 ∷ 999999 ∷ []) nines ≡ negsuc 0 ∷ pos 0 ∷ pos 9 ∷ []
+w6-margins-out : marginsOutFor (on 8) XShared XSummary w6 (6 ∷ 999999 ∷ []) nines ≡ negsuc 0 ∷ pos 0 ∷ pos 9 ∷ []
 unfolding everything
 w6-margins-out = refl
 
-w6-agree : marginsOutFor (on 8) XShared x-summary w6 (6 ∷ 999999 ∷ []) nines
+w6-agree : marginsOutFor (on 8) XShared XSummary w6 (6 ∷ 999999 ∷ []) nines
     ≡ written (map (margin (suppliedBy (on 8) (own (on 8) XShared)) 8 (tasksOf w6)) (6 ∷ 999999 ∷ [])) nines
-w6-agree = margins-agree (on 8) XShared x-summary w6 (6 ∷ 999999 ∷ []) nines 2 w6-margins .1
+w6-agree = margins-agree (on 8) XShared XSummary w6 (6 ∷ 999999 ∷ []) nines 2 w6-margins .1
 
 -- at 999,999 exactly what is asked for is there, as the entry without a summary would answer
 w6-each : marginFor (on 8) XShared w6 999999 ≡ given (pos 0)
 w6-each =
-    margins-each (on 8) XShared x-summary w6 (6 ∷ 999999 ∷ []) nines 2 w6-margins 1 (omega arith)
+    margins-each (on 8) XShared XSummary w6 (6 ∷ 999999 ∷ []) nines 2 w6-margins 1 (omega arith)
     ∙ ap (λ (l : List ℤ). given (getD l 1 (pos 0))) w6-margins-out
+
+-- a second length over 1,000,000 is refused as the entry without a summary refuses it
+w6-too-long : marginsFor (on 8) XShared XSummary w6 (6 ∷ 1000001 ∷ []) 3 ≡ refused 7 0
+unfolding everything
+w6-too-long = refl
+
+w6-one-refused : (j : ℕ) × (j < 2) × (marginFor (on 8) XShared w6 (getD (6 ∷ 1000001 ∷ []) j 0) ≡ refused 7 0)
+w6-one-refused = one-refused (on 8) XShared XSummary w6 (6 ∷ 1000001 ∷ []) 3 7 0 x-shared-summary (omega arith) (omega arith) w6-too-long
 
 w6-group : groupFault w6 ≡ fine
 unfolding everything
 w6-group = refl
 
-w6-refused : marginsFor (onFor 8 1) XShared x-summary w6 (2000000 ∷ []) 0 ≡ refused 14 0
-w6-refused = margins-not-belonging (onFor 8 1) XShared x-summary w6 (2000000 ∷ []) 0 hers-fine w6-group x-not-hers
+w6-refused : marginsFor (onFor 8 1) XShared XSummary w6 (2000000 ∷ []) 0 ≡ refused 14 0
+w6-refused = margins-not-belonging (onFor 8 1) XShared XSummary w6 (2000000 ∷ []) 0 hers-fine w6-group x-not-hers
 
 w6-fourteen : sharedFault teams (onFor 8 1) XShared ≡ fine
-w6-fourteen = margins-fourteen (onFor 8 1) XShared x-summary w6 (2000000 ∷ []) 0 0 w6-refused .1
+w6-fourteen = margins-fourteen (onFor 8 1) XShared XSummary w6 (2000000 ∷ []) 0 0 w6-refused .1
 
 -- owner 1's own summary, as it is made, belongs
-abbrev hers : List ℕ
-hers = makeOutFor (onFor 8 1) XShared (replicate 9 9)
+abbrev her-memory : List ℕ
+her-memory = makeOutFor (onFor 8 1) XShared (replicate 9 9)
 
 hers-made : makeFor (onFor 8 1) XShared 9 ≡ given 7
 unfolding everything
 hers-made = refl
 
-hers-belongs : summaryFault (onFor 8 1) (own (onFor 8 1) XShared) hers ≡ fine
+hers-belongs : summaryFault (onFor 8 1) (own (onFor 8 1) XShared) her-memory ≡ fine
 hers-belongs = made-belongs (onFor 8 1) XShared (replicate 9 9) 7 hers-made .0
 
-hers-agrees : (t : ℕ) → leastFromFor (onFor 8 1) XShared hers t ≡ leastSupplyFor (onFor 8 1) XShared t
-hers-agrees t = summary-agrees (onFor 8 1) XShared hers t hers-belongs
+hers-agrees : (t : ℕ) → leastFromFor (onFor 8 1) XShared her-memory t ≡ leastSupplyFor (onFor 8 1) XShared t
+hers-agrees t = summary-agrees (onFor 8 1) XShared her-memory t hers-belongs
 
 -- written once more, it is what it was
-hers-again : written (summaryOf (onFor 8 1) (own (onFor 8 1) XShared)) hers ≡ hers
+hers-again : written (summaryOf (onFor 8 1) (own (onFor 8 1) XShared)) her-memory ≡ her-memory
 hers-again =
     let mine = own (onFor 8 1) XShared in
-    begins-written (summaryOf (onFor 8 1) mine) hers (fine-begins (onFor 8 1) mine hers hers-belongs)
+    begins-written (summaryOf (onFor 8 1) mine) her-memory (fine-begins (onFor 8 1) mine her-memory hers-belongs)
 
 -- X's summary is made of X alone, and margins from it depend on nothing of owner 1
 x-made-alone : makeOutFor (on 8) XShared (replicate 9 9) ≡ makeOutFor (on 8) (asOwned 0 X) (replicate 9 9)
 unfolding everything teamsFault
 x-made-alone = alone (make-out-entry (replicate 9 9)) teams (on 8) (on 8) XShared (asOwned 0 X) refl refl refl refl
 
-w6-margins-alone : marginsOutFor (on 8) XShared x-summary w6 (6 ∷ []) nines ≡ marginsOut (on 8) X x-summary w6 (6 ∷ []) nines
+w6-margins-alone : marginsOutFor (on 8) XShared XSummary w6 (6 ∷ []) nines ≡ marginsOut (on 8) X XSummary w6 (6 ∷ []) nines
 unfolding everything teamsFault
 w6-margins-alone =
-    alone (margins-out-entry x-summary w6 (6 ∷ []) nines) teams (on 8) (on 8) XShared (asOwned 0 X) refl refl refl refl
-    ∙ one-owner teams (on 8) (omega arith) X refl (margins-out-entry x-summary w6 (6 ∷ []) nines)
+    alone (margins-out-entry XSummary w6 (6 ∷ []) nines) teams (on 8) (on 8) XShared (asOwned 0 X) refl refl refl refl
+    ∙ one-owner teams (on 8) (omega arith) X refl (margins-out-entry XSummary w6 (6 ∷ []) nines)
 
 -- 12 comes before 14
 summary-twelve : Twelve teams (onAtLeast 8 0 2) XShared 3
@@ -738,19 +748,19 @@ make-short = refl
 make-kept-at : makeOut (on 8) X (replicate 6 9) ≡ replicate 6 9
 make-kept-at = make-kept 8 7 (on 8) X (replicate 6 9) make-short
 
-margins-other : marginsAnswer (on 8) lab x-summary w6 (6 ∷ []) 3 ≡ refused 14 0
+margins-other : marginsAnswer (on 8) lab XSummary w6 (6 ∷ []) 3 ≡ refused 14 0
 unfolding everything
 margins-other = refl
 
-margins-kept-at : marginsOut (on 8) lab x-summary w6 (6 ∷ []) nines ≡ nines
-margins-kept-at = margins-kept 14 0 (on 8) lab x-summary w6 (6 ∷ []) nines margins-other
+margins-kept-at : marginsOut (on 8) lab XSummary w6 (6 ∷ []) nines ≡ nines
+margins-kept-at = margins-kept 14 0 (on 8) lab XSummary w6 (6 ∷ []) nines margins-other
 
-edit-other : editAnswer teams (onFor 8 1) 4 XShared x-summary (remove 0) ≡ refused 14 0
+edit-other : editAnswer teams (onFor 8 1) 4 XShared XSummary (remove 0) ≡ refused 14 0
 unfolding everything
 edit-other = refl
 
-edit-kept-at : (editWindows teams (onFor 8 1) 4 XShared x-summary (remove 0) ≡ XShared) × (editSummary teams (onFor 8 1) 4 XShared x-summary (remove 0) ≡ x-summary)
-edit-kept-at = edit-kept 14 0 teams (onFor 8 1) 4 XShared x-summary (remove 0) edit-other
+edit-kept-at : (editWindows teams (onFor 8 1) 4 XShared XSummary (remove 0) ≡ XShared) × (editSummary teams (onFor 8 1) 4 XShared XSummary (remove 0) ≡ XSummary)
+edit-kept-at = edit-kept 14 0 teams (onFor 8 1) 4 XShared XSummary (remove 0) edit-other
 
 -- ---- edits of a table with its summary
 
@@ -781,6 +791,10 @@ x-move-room : length (editedList 4 edit-memory (move 0 0 1)) ≤ 15
 unfolding everything
 x-move-room = edit-parts teams (on 8) 4 edit-memory edit-summary (move 0 0 1) refl .room
 
+-- and made afresh, it is the same
+x-made-again : makeOutFor (on 8) (tableIn 4 (windows-after (move 0 0 1))) edit-summary ≡ summary-after (move 0 0 1)
+x-made-again = edit-as-made (on 8) 4 edit-memory edit-summary (move 0 0 1) _ x-moved .1
+
 -- moved back, the windows are as they were
 x-moved-back : tableIn 4 (editWindows teams (on 8) 4 (windows-after (move 0 0 1)) (summary-after (move 0 0 1)) (move 0 0 2)) ≡ XShared
 x-moved-back = move-back teams (on 8) 4 edit-memory edit-summary 0 0 1 _ x-moved .list
@@ -796,7 +810,16 @@ x-grown-refusal = edit-refusal teams (on 8) 4 edit-memory edit-summary (move 0 0
 
 x-grown-new : editAnswer teams (on 8) 4 edit-memory edit-summary (move 0 0 3) ≡ refused 3 1
 unfolding everything
-x-grown-new = new-refused teams (on 8) 4 edit-memory edit-summary (move 0 0 3) (omega arith) refl refl (omega arith) 3 1 refl
+x-grown-new =
+    new-refused teams (on 8) 4 edit-memory edit-summary (move 0 0 3) (record { counted = omega arith; before = refl; belongs = refl }) (omega arith) 3 1 refl
+
+x-grown-back : editAnswer teams (on 8) 4 edit-memory edit-summary (move 0 0 3) ≡ refused 3 1
+x-grown-back = refusal-edit teams (on 8) 4 edit-memory edit-summary (move 0 0 3) 3 1 x-grown-refusal
+
+-- there is no fifth window to remove
+x-absent : Absent teams (on 8) 4 edit-memory edit-summary (remove 4)
+unfolding everything
+x-absent = exactly-seven teams (on 8) 4 edit-memory edit-summary (remove 4) 0 .0 refl .0
 
 -- the window at index 1 is owner 1's: owner 0's summary memory is not touched
 x-other-moved : summary-after (move 1 3 4) ≡ edit-summary

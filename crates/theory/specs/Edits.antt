@@ -10,23 +10,23 @@ use native.Mathlib.Omega.{arith}
 use lib.Dec.{leb, ltb, eqb}
 use lib.ListN.{length, getD, take, drop, length-append, length-drop, take-append-drop}
 use lib.Seq.{length-take-le, take-at, drop-at, drop-cons, getD-append-add}
-use borrow.Author.Tests.{eqb-true, eqb-false, ltb-true, ltb-false, leb-false, lt-leb, lt-ltb, le-ltb, ne-eqb, not-false}
+use borrow.Author.Tests.{eqb-true, eqb-false, ltb-true, ltb-false, leb-false, lt-leb, lt-ltb, le-ltb, ne-eqb}
 use Rattle.scope.specs.Numbers.{first, piecesFrom, pieces, written}
-use Rattle.scope.specs.Limits.{mostWindows}
+use Rattle.scope.specs.Limits.{mostWindows, teams}
 use Rattle.scope.specs.Windows.{Board}
-use Rattle.scope.specs.Answers.{Fault, Fault.fine, Fault.fault, Answer, Answer.given, Answer.refused, faultIf, faultAt, _orElse_, unless, frameFault, shortestFault, roomFault}
+use Rattle.scope.specs.Answers.{Fault, Fault.fine, Fault.fault, Answer, Answer.given, Answer.refused, faultIf, faultAt, _orElse_, unless, tableFault, frameFault, shortestFault, roomFault}
 use Rattle.scope.specs.Shared.{Owned, owned, ownedOf, ownedAt, windowsFor, own, ownedLegal, badOwned, ownedListFault, ownedFault, wholeFault, absentOwnerFault}
-use Rattle.scope.specs.Shared.{sliver, firstSliver, sliverFault, sharedFault}
-use Rattle.scope.specs.Summary.{summaryOf, begins, summaryFault, Edit, Edit.move, Edit.add, Edit.remove, spliced, edited, indexFault, tableIn, countFault}
+use Rattle.scope.specs.Shared.{sliver, firstSliver, sliverFault, sharedFault, kept}
+use Rattle.scope.specs.Summary.{summaryOf, makeFault, makeAnswer, makeOut, makeFor, makeOutFor, begins, summaryFault, Edit, Edit.move, Edit.add, Edit.remove, spliced, edited, indexFault, tableIn, countFault}
 use Rattle.scope.specs.Summary.{editedList, editedSummary, editFault, Edited, editAnswer, editWindows, editSummary}
 use Rattle.theory.specs.Numbers.{first-some}
 use Rattle.theory.specs.Lists.{pieces-length, pieces-append, whole-count}
-use Rattle.theory.specs.Answers.{fault-not-fine, faultIf-fine, orElse-fine, unless-given, unless-refused}
+use Rattle.theory.specs.Answers.{fault-not-fine, faultIf-fine, orElse-fine, unless-given, unless-refused, room-fine, fine-room, room-fault}
 use Rattle.theory.specs.Refused.{edit-kept}
 use Rattle.theory.specs.Summaries.{fine-begins, begins-fine}
 use Rattle.theory.specs.Buffers.{length-written, take-written, written-begins, begins-length, begins-written}
-use Rattle.theory.specs.Shared.{shared-parts, whole}
-use Rattle.theory.specs.Alone.{σ as supplied-same, teamsFault, WholeRefusal, WholeRefusal.by-count, WholeRefusal.by-frame, WholeRefusal.by-window, WholeRefusal.by-range, WholeRefusal.by-sliver, whole-refusal}
+use Rattle.theory.specs.Shared.{shared-parts, whole, own-fine, asked-fine}
+use Rattle.theory.specs.Alone.{supplied-same, teamsFault, WholeRefusal, WholeRefusal.by-count, WholeRefusal.by-frame, WholeRefusal.by-window, WholeRefusal.by-range, WholeRefusal.by-sliver, whole-refusal}
 
 -- ---- what an edit that is made has checked
 
@@ -36,7 +36,7 @@ Allowed (move i s e) count = i < count
 Allowed (add i s e o) count = i ≤ count
 Allowed (remove i) count = i < count
 
-index-allowed : (edit : Edit) (count : ℕ) → indexFault edit count ≡ fine → Allowed edit count
+pub index-allowed : (edit : Edit) (count : ℕ) → indexFault edit count ≡ fine → Allowed edit count
 unfolding indexFault
 index-allowed (move i s e) count f = leb-false count i (faultIf-fine _ 7 0 f)
 index-allowed (add i s e o) count f = ltb-false count i (faultIf-fine _ 7 0 f)
@@ -48,27 +48,19 @@ allowed-fine (move i s e) count h = rw (lt-leb count i h)
 allowed-fine (add i s e o) count h = rw (le-ltb count i h)
 allowed-fine (remove i) count h = rw (lt-leb count i h)
 
-room-fine : (needed room : ℕ) → roomFault needed room ≡ fine → needed ≤ room
-unfolding roomFault
-room-fine needed room f = ltb-false room needed (faultIf-fine _ 8 needed f)
-
-fine-room : (needed room : ℕ) → needed ≤ room → roomFault needed room ≡ fine
-unfolding roomFault
-fine-room needed room h = rw (le-ltb room needed h)
-
-room-fault : (needed room : ℕ) → room < needed → roomFault needed room ≡ fault 8 needed
-unfolding roomFault
-room-fault needed room h = rw (lt-ltb room needed h)
-
 -- what a fresh making writes for the list in lent window memory
 abbrev pub summaryIn : Board → ℕ → List ℕ → List ℕ
 summaryIn b count memory = summaryOf b (own b (tableIn count memory))
 
+-- the table as it is has no fault, and the summary is its own
+pub record Ready (owners : ℕ) (b : Board) (count : ℕ) (memory summary : List ℕ) : Type 0 where
+  pub counted : 3 * count ≤ length memory
+  pub before : sharedFault owners b (tableIn count memory) ≡ fine
+  pub belongs : begins (summaryIn b count memory) summary ≡ true
+
 module _ (owners : ℕ) (b : Board) (count : ℕ) (memory summary : List ℕ) (edit : Edit) where
   pub record EditParts : Type 0 where
-    pub counted : 3 * count ≤ length memory
-    pub before : sharedFault owners b (tableIn count memory) ≡ fine
-    pub belongs : begins (summaryIn b count memory) summary ≡ true
+    pub ready : Ready owners b count memory summary
     pub allowed : Allowed edit count
     pub after : sharedFault owners b (editedList count memory edit) ≡ fine
     pub room : length (editedList count memory edit) ≤ length memory
@@ -89,24 +81,35 @@ module _ (owners : ℕ) (b : Board) (count : ℕ) (memory summary : List ℕ) (e
       let p₅ = orElse-fine new (windows orElse numbers) (p₄ .1) in
       let p₆ = orElse-fine windows numbers (p₅ .1) in
       record {
-        counted = ltb-false (length memory) (3 * count) (faultIf-fine _ 1 0 (p₁ .0));
-        before = p₂ .0;
-        belongs = fine-begins b (own b (tableIn count memory)) summary (p₃ .0);
+        ready = record {
+          counted = ltb-false (length memory) (3 * count) (faultIf-fine _ 1 0 (p₁ .0));
+          before = p₂ .0;
+          belongs = fine-begins b (own b (tableIn count memory)) summary (p₃ .0);
+        };
         allowed = index-allowed edit count (p₄ .0);
         after = p₅ .0;
         room = room-fine (length (editedList count memory edit)) (length memory) (p₆ .0);
         summary-room = room-fine (length (editedSummary b count memory edit)) (length summary) (p₆ .1);
       }
 
+  -- what is checked after the table as it is and its summary, and after the index
+  abbrev new-fault : Fault
+  new-fault =
+      sharedFault owners b (editedList count memory edit) orElse roomFault (length (editedList count memory edit)) (length memory)
+      orElse roomFault (length (editedSummary b count memory edit)) (length summary)
+
+  ready-fault : Ready owners b count memory summary → editFault owners b count memory summary edit ≡ (indexFault edit count orElse new-fault)
+  unfolding editFault countFault
+  ready-fault r =
+      rw (le-ltb (length memory) (3 * count) (r .counted), r .before, begins-fine b (own b (tableIn count memory)) summary (r .belongs))
+
+  indexed-fault : Ready owners b count memory summary → Allowed edit count → editFault owners b count memory summary edit ≡ new-fault
+  indexed-fault r a = ready-fault r ∙ rw (allowed-fine edit count a)
+
   -- and nothing else is checked
   pub parts-edit : EditParts → editFault owners b count memory summary edit ≡ fine
-  unfolding editFault countFault
   parts-edit p =
-      rw (
-        le-ltb (length memory) (3 * count) (p .counted),
-        p .before,
-        begins-fine b (own b (tableIn count memory)) summary (p .belongs),
-        allowed-fine edit count (p .allowed),
+      indexed-fault (p .ready) (p .allowed) ∙ rw (
         p .after,
         fine-room (length (editedList count memory edit)) (length memory) (p .room),
         fine-room (length (editedSummary b count memory edit)) (length summary) (p .summary-room),
@@ -139,18 +142,10 @@ module _ (owners : ℕ) (b : Board) (count : ℕ) (memory summary : List ℕ) (e
   parts-given p = rw (parts-edit p)
 
   -- an edit that leaves a list with a fault is refused by that fault
-  pub new-refused : 3 * count ≤ length memory → sharedFault owners b (tableIn count memory) ≡ fine → begins (summaryIn b count memory) summary ≡ true →
-      Allowed edit count → (n p : ℕ) → sharedFault owners b (editedList count memory edit) ≡ fault n p →
+  pub new-refused : Ready owners b count memory summary → Allowed edit count → (n p : ℕ) → sharedFault owners b (editedList count memory edit) ≡ fault n p →
       editAnswer owners b count memory summary edit ≡ refused n p
-  unfolding editAnswer editFault countFault
-  new-refused counted before belongs allowed n p f =
-      rw (
-        le-ltb (length memory) (3 * count) counted,
-        before,
-        begins-fine b (own b (tableIn count memory)) summary belongs,
-        allowed-fine edit count allowed,
-        f,
-      )
+  unfolding editAnswer
+  new-refused r a n p f = rw (indexed-fault r a, f)
 
   -- ---- what an edit leaves belongs to the table it leaves: the list is the edited one and has no fault, and the summary is that of a fresh making
   pub record Left (x : Edited) (m s : List ℕ) : Type 0 where
@@ -176,6 +171,25 @@ module _ (owners : ℕ) (b : Board) (count : ℕ) (memory summary : List ℕ) (e
         window-length = ap length (g .window-memory) ∙ length-written l memory (p .room);
         summary-length = ap length (g .summary-memory) ∙ length-written (editedSummary b count memory edit) summary (p .summary-room);
       }
+
+-- a fresh making of what is left, into the summary memory as it was, answers and leaves the same
+pub edit-as-made : (b : Board) (count : ℕ) (memory summary : List ℕ) (edit : Edit) (x : Edited) → editAnswer teams b count memory summary edit ≡ given x →
+    (makeFor b (tableIn (x .windows) (editWindows teams b count memory summary edit)) (length summary) ≡ given (x .numbers))
+    × (makeOutFor b (tableIn (x .windows) (editWindows teams b count memory summary edit)) summary ≡ editSummary teams b count memory summary edit)
+unfolding makeFor makeAnswer makeOutFor makeOut makeFault
+edit-as-made b count memory summary edit x e =
+    let g = edit-given teams b count memory summary edit x e in
+    let l : List ℕ = editedList count memory edit in
+    let mine : List ℕ = own b l in
+    let is = edit-leaves teams b count memory summary edit x e .list in
+    let legal = g .parts .after in
+    let table : tableFault b mine ≡ fine = own-fine teams b l legal in
+    let room : roomFault (length (summaryOf b mine)) (length summary) ≡ fine = fine-room (length (summaryOf b mine)) (length summary) (g .parts .summary-room) in (
+      ap (λ (ws : List ℕ). makeFor b ws (length summary)) is
+          ∙ asked-fine teams b l refused (λ ws. makeAnswer b ws (length summary)) legal ∙ rw (table, room) (ap given (sym (g .numbers))),
+      ap (λ (ws : List ℕ). makeOutFor b ws summary) is
+          ∙ asked-fine teams b l (kept summary) (λ ws. makeOut b ws summary) legal ∙ rw (table, room) (sym (g .summary-memory)),
+    )
 
 -- ---- splicing
 
@@ -281,7 +295,7 @@ module _ (owners : ℕ) (b : Board) (count : ℕ) (memory summary : List ℕ) (e
 
   -- the numbers of the list before
   held : length (tableIn count memory) ≡ 3 * count
-  held = length-take-le (3 * count) memory (edit-given owners b count memory summary edit x e .parts .counted)
+  held = length-take-le (3 * count) memory (edit-given owners b count memory summary edit x e .parts .ready .counted)
 
   -- how many windows are answered
   pub count-answered : x .windows ≡ countAfter edit count
@@ -300,14 +314,16 @@ module _ (owners : ℕ) (b : Board) (count : ℕ) (memory summary : List ℕ) (e
       let p = edit-given owners b count memory summary edit x e .parts in
       let l = edit-leaves owners b count memory summary edit x e in
       let n = edited-length edit count (tableIn count memory) held (p .allowed) in
-      let room = begins-length (summaryIn b count memory) summary (p .belongs) in
+      let room = begins-length (summaryIn b count memory) summary (p .ready .belongs) in
       record {
-        counted = omega (arith, count-answered, n, p .room, l .window-length);
-        before = l .legal;
-        belongs = fine-begins b (own b (tableIn (x .windows) m′)) s′ (l .belongs);
+        ready = record {
+          counted = omega (arith, count-answered, n, p .room, l .window-length);
+          before = l .legal;
+          belongs = fine-begins b (own b (tableIn (x .windows) m′)) s′ (l .belongs);
+        };
         allowed = rw count-answered (undo-allowed edit count (tableIn count memory) (p .allowed));
-        after = rw back-list (p .before);
-        room = omega (arith, ap length back-list, held, p .counted, l .window-length);
+        after = rw back-list (p .ready .before);
+        room = omega (arith, ap length back-list, held, p .ready .counted, l .window-length);
         summary-room = rw back-list (omega (arith, room, l .summary-length));
       }
 
@@ -405,7 +421,7 @@ other-owner owners b count memory summary edit x e u =
     let l : List ℕ = tableIn count memory in
     let same = own-kept b edit count l (held owners b count memory summary edit x e) (g .parts .allowed) u in (
       same,
-      g .summary-memory ∙ ap (λ (k : List ℕ). written (summaryOf b k) summary) same ∙ begins-written (summaryOf b (own b l)) summary (g .parts .belongs),
+      g .summary-memory ∙ ap (λ (k : List ℕ). written (summaryOf b k) summary) same ∙ begins-written (summaryOf b (own b l)) summary (g .parts .ready .belongs),
       g .numbers ∙ ap (λ (k : List ℕ). length (summaryOf b k)) same,
     )
 
@@ -441,17 +457,26 @@ pub record Fourteen (owners : ℕ) (b : Board) (count : ℕ) (memory summary : L
   pub before : sharedFault owners b (tableIn count memory) ≡ fine
   pub stale : begins (summaryIn b count memory) summary ≡ false
 
--- every refusal of an edit, and where it comes from: the table as it is, the summary, the index, the table as it would be, room for either
-pub data EditRefusal (owners : ℕ) (b : Board) (count : ℕ) (memory summary : List ℕ) (edit : Edit) : ℕ → ℕ → Type 0 where
-  short-memory : length memory < 3 * count → EditRefusal owners b count memory summary edit 1 0
-  old-table : {n p : ℕ} → WholeRefusal count n p → EditRefusal owners b count memory summary edit n p
-  old-absent : own b (tableIn count memory) ≡ [] → EditRefusal owners b count memory summary edit 1 0
-  not-its-summary : Fourteen owners b count memory summary → EditRefusal owners b count memory summary edit 14 0
-  absent-index : (Allowed edit count → ⊥) → EditRefusal owners b count memory summary edit 7 0
-  new-table : {n p : ℕ} → NewRefusal b (editedList count memory edit) (countAfter edit count) n p → EditRefusal owners b count memory summary edit n p
-  no-room : length memory < 3 * countAfter edit count → EditRefusal owners b count memory summary edit 8 (3 * countAfter edit count)
-  no-summary-room : length summary < length (editedSummary b count memory edit) →
-      EditRefusal owners b count memory summary edit 8 (length (editedSummary b count memory edit))
+-- every refusal of an edit, and which check gives it, those before it passed: of the table as it is, the summary, the index, the table as it would be, room
+-- for either
+module _ (owners : ℕ) (b : Board) (count : ℕ) (memory summary : List ℕ) (edit : Edit) where
+  -- all is checked but room
+  pub record Fitting : Type 0 where
+    pub ready : Ready owners b count memory summary
+    pub allowed : Allowed edit count
+    pub after : sharedFault owners b (editedList count memory edit) ≡ fine
+
+  pub data EditRefusal : ℕ → ℕ → Type 0 where
+    short-memory : length memory < 3 * count → EditRefusal 1 0
+    old-table : {n p : ℕ} → 3 * count ≤ length memory → sharedFault owners b (tableIn count memory) ≡ fault n p → WholeRefusal count n p → EditRefusal n p
+    old-absent : 3 * count ≤ length memory → sharedFault owners b (tableIn count memory) ≡ fault 1 0 → own b (tableIn count memory) ≡ [] → EditRefusal 1 0
+    not-its-summary : Fourteen owners b count memory summary → EditRefusal 14 0
+    absent-index : Ready owners b count memory summary → (Allowed edit count → ⊥) → EditRefusal 7 0
+    new-table : {n p : ℕ} → Ready owners b count memory summary → Allowed edit count → sharedFault owners b (editedList count memory edit) ≡ fault n p →
+        NewRefusal b (editedList count memory edit) (countAfter edit count) n p → EditRefusal n p
+    no-room : Fitting → length memory < 3 * countAfter edit count → EditRefusal 8 (3 * countAfter edit count)
+    no-summary-room : Fitting → 3 * countAfter edit count ≤ length memory → length summary < length (editedSummary b count memory edit) →
+        EditRefusal 8 (length (editedSummary b count memory edit))
 
 no-numbers : (l : List ℕ) → length l ≡ 0 → l ≡ []
 no-numbers [] e = refl
@@ -490,6 +515,13 @@ index-refused edit count n p f = (seven edit f, λ h. fault-not-fine (sym f ∙ 
     seven (move i s e) z = if-seven (leb count i) z
     seven (add i s e o) z = if-seven (ltb count i) z
     seven (remove i) z = if-seven (leb count i) z
+
+absent-fault : (edit : Edit) (count : ℕ) → (Allowed edit count → ⊥) → indexFault edit count ≡ fault 7 0
+absent-fault edit count u = go (indexFault edit count) refl
+  where
+    go : (f : Fault) → indexFault edit count ≡ f → f ≡ fault 7 0
+    go fine e = absurd (u (index-allowed edit count e))
+    go (fault n p) e = sym (index-refused edit count n p e .0)
 
 -- of a board without a fault, and a list of so many windows in threes, no other refusal is left
 module _ (owners : ℕ) (b : Board) (ws : List ℕ) (windows : ℕ)
@@ -569,36 +601,40 @@ module _ (owners : ℕ) (b : Board) (count : ℕ) (memory summary : List ℕ) (e
       Counted : Type 0
       Counted = 3 * count ≤ length memory
 
-      Before : Type 0
-      Before = sharedFault owners b old ≡ fine
+      Made : Type 0
+      Made = Ready owners b count memory summary
+
+      Fits : Type 0
+      Fits = Fitting owners b count memory summary edit
+
+      long : Fits → length new ≡ 3 * countAfter edit count
+      long c = edited-length edit count old (length-take-le (3 * count) memory (c .ready .counted)) (c .allowed)
 
       last : Fault
       last = faultIf (ltb (length summary) numbers) 8 numbers
 
-      summarized : (t : Bool) → ltb (length summary) numbers ≡ t → faultIf t 8 numbers ≡ fault n p → R
-      summarized true z e = is (no-summary-room (ltb-true (length summary) numbers z)) e
-      summarized false z e = absurd (fault-not-fine (sym e))
+      summarized : Fits → length new ≤ length memory → (t : Bool) → ltb (length summary) numbers ≡ t → faultIf t 8 numbers ≡ fault n p → R
+      summarized c h true z e = is (no-summary-room c (omega (arith, long c)) (ltb-true (length summary) numbers z)) e
+      summarized c h false z e = absurd (fault-not-fine (sym e))
 
       then : Fault
       then = faultIf (ltb (length memory) (length new)) 8 (length new) orElse last
 
-      roomy : Counted → Allowed edit count → (t : Bool) → ltb (length memory) (length new) ≡ t → (faultIf t 8 (length new) orElse last) ≡ fault n p → R
-      roomy c a true z e =
-          let long = edited-length edit count old (length-take-le (3 * count) memory c) a in
-          is (no-room (omega (arith, ltb-true (length memory) (length new) z, long))) (ap (fault 8) (sym long) ∙ e)
-      roomy c a false z e = summarized (ltb (length summary) numbers) refl e
+      roomy : Fits → (t : Bool) → ltb (length memory) (length new) ≡ t → (faultIf t 8 (length new) orElse last) ≡ fault n p → R
+      roomy c true z e = is (no-room c (omega (arith, ltb-true (length memory) (length new) z, long c))) (ap (fault 8) (sym (long c)) ∙ e)
+      roomy c false z e = summarized c (ltb-false (length memory) (length new) z) (ltb (length summary) numbers) refl e
 
-      after : Counted → Before → Allowed edit count → (g : Fault) → sharedFault owners b new ≡ g → (g orElse then) ≡ fault n p → R
-      after c o a fine z e = roomy c a (ltb (length memory) (length new)) refl e
-      after c o a (fault m q) z e = new-table (after-refusal owners b count memory edit c o a n p (z ∙ e))
+      after : Made → Allowed edit count → (g : Fault) → sharedFault owners b new ≡ g → (g orElse then) ≡ fault n p → R
+      after r a fine z e = roomy (record { ready = r; allowed = a; after = z }) (ltb (length memory) (length new)) refl e
+      after r a (fault m q) z e = new-table r a (z ∙ e) (after-refusal owners b count memory edit (r .counted) (r .before) a n p (z ∙ e))
 
-      indexed : Counted → Before → (g : Fault) → indexFault edit count ≡ g → (g orElse sharedFault owners b new orElse then) ≡ fault n p → R
-      indexed c o fine z e = after c o (index-allowed edit count z) (sharedFault owners b new) refl e
-      indexed c o (fault m q) z e = let r = index-refused edit count n p (z ∙ e) in is (absent-index (r .1)) (r .0)
+      indexed : Made → (g : Fault) → indexFault edit count ≡ g → (g orElse sharedFault owners b new orElse then) ≡ fault n p → R
+      indexed r fine z e = after r (index-allowed edit count z) (sharedFault owners b new) refl e
+      indexed r (fault m q) z e = let i = index-refused edit count n p (z ∙ e) in is (absent-index r (i .1)) (i .0)
 
-      belongs : Counted → Before → (t : Bool) → begins (summaryOf b (own b old)) summary ≡ t →
+      belongs : Counted → sharedFault owners b old ≡ fine → (t : Bool) → begins (summaryOf b (own b old)) summary ≡ t →
           (faultIf (not t) 14 0 orElse indexFault edit count orElse sharedFault owners b new orElse then) ≡ fault n p → R
-      belongs c o true z e = indexed c o (indexFault edit count) refl e
+      belongs c o true z e = indexed (record { counted = c; before = o; belongs = z }) (indexFault edit count) refl e
       belongs c o false z e = is (not-its-summary (record { counted = c; before = o; stale = z })) e
 
       fourteen : Fault
@@ -611,47 +647,105 @@ module _ (owners : ℕ) (b : Board) (count : ℕ) (memory summary : List ℕ) (e
       before c fine z e = belongs c z (begins (summaryOf b (own b old)) summary) refl e
       before c (fault m q) z e =
           let many : length (ownedOf old) ≡ count = pieces-length Owned 3 owned old ∙ omega (arith, length-take-le (3 * count) memory c) in
-          elim (shared-refusal owners b old n p (z ∙ e)) [ inl r ↦ old-table (rw many at r) | inr r ↦ is (old-absent (r .0)) (r .1) ]
+          elim (shared-refusal owners b old n p (z ∙ e)) [
+            | inl r ↦ old-table c (z ∙ e) (rw many at r)
+            | inr r ↦ is (old-absent c (z ∙ e ∙ sym (r .1)) (r .0)) (r .1)
+          ]
 
       counted : (t : Bool) → ltb (length memory) (3 * count) ≡ t → (faultIf t 1 0 orElse sharedFault owners b old orElse later) ≡ fault n p → R
       counted true z e = is (short-memory (ltb-true (length memory) (3 * count) z)) e
       counted false z e = before (ltb-false (length memory) (3 * count) z) (sharedFault owners b old) refl e
 
--- ---- 14
+-- and each is given where it is told to be: these are exactly the refusals of an edit
+module _ (owners : ℕ) (b : Board) (count : ℕ) (memory summary : List ℕ) (edit : Edit) where
+  abbrev A : Answer Edited
+  A = editAnswer owners b count memory summary edit
 
-whole-number : {windows : ℕ} (n p : ℕ) → WholeRefusal windows n p → n ≤ 12
-whole-number n p by-count = omega arith
-whole-number n p by-frame = omega arith
-whole-number n p (by-window i h) = omega arith
-whole-number n p by-range = omega arith
-whole-number n p (by-sliver i h) = omega arith
+  old-refused : (n p : ℕ) → 3 * count ≤ length memory → sharedFault owners b (tableIn count memory) ≡ fault n p → A ≡ refused n p
+  unfolding editAnswer editFault countFault
+  old-refused n p c f = rw (le-ltb (length memory) (3 * count) c, f)
 
-new-number : {b : Board} {ws : List ℕ} {windows : ℕ} (n p : ℕ) → NewRefusal b ws windows n p → n ≤ 12
-new-number n p (too-few h) = omega arith
-new-number n p (too-many h) = omega arith
-new-number n p (new-window i h) = omega arith
-new-number n p (new-absent h) = omega arith
-new-number n p (new-sliver i h) = omega arith
+  -- the list that is left, in numbers
+  left-long : Fitting owners b count memory summary edit → length (editedList count memory edit) ≡ 3 * countAfter edit count
+  left-long c = edited-length edit count (tableIn count memory) (length-take-le (3 * count) memory (c .ready .counted)) (c .allowed)
+
+  fitting-fault : Fitting owners b count memory summary edit →
+      editFault owners b count memory summary edit
+      ≡ (roomFault (3 * countAfter edit count) (length memory) orElse roomFault (length (editedSummary b count memory edit)) (length summary))
+  fitting-fault c = indexed-fault owners b count memory summary edit (c .ready) (c .allowed) ∙ rw (c .after, left-long c)
+
+  pub refusal-edit : (n p : ℕ) → EditRefusal owners b count memory summary edit n p → editAnswer owners b count memory summary edit ≡ refused n p
+  unfolding editAnswer editFault countFault summaryFault
+  refusal-edit n p (short-memory h) = rw (lt-ltb (length memory) (3 * count) h)
+  refusal-edit n p (old-table c f r) = old-refused n p c f
+  refusal-edit n p (old-absent c f z) = old-refused 1 0 c f
+  refusal-edit n p (not-its-summary f) = rw (le-ltb (length memory) (3 * count) (f .counted), f .before, f .stale)
+  refusal-edit n p (absent-index r u) = rw (ready-fault owners b count memory summary edit r, absent-fault edit count u)
+  refusal-edit n p (new-table r a f x) = new-refused owners b count memory summary edit r a n p f
+  refusal-edit n p (no-room c h) = rw (fitting-fault c, room-fault (3 * countAfter edit count) (length memory) h)
+  refusal-edit n p (no-summary-room c h k) =
+      rw (
+        fitting-fault c,
+        fine-room (3 * countAfter edit count) (length memory) h,
+        room-fault (length (editedSummary b count memory edit)) (length summary) k,
+      )
+
+-- ---- 14, and 7
+
+-- the other checks' numbers
+whole-number : {windows : ℕ} (n p : ℕ) → WholeRefusal windows n p → (n ≢ 14) × (n ≢ 7)
+whole-number n p by-count = (λ z. omega arith, λ z. omega arith)
+whole-number n p by-frame = (λ z. omega arith, λ z. omega arith)
+whole-number n p (by-window i h) = (λ z. omega arith, λ z. omega arith)
+whole-number n p by-range = (λ z. omega arith, λ z. omega arith)
+whole-number n p (by-sliver i h) = (λ z. omega arith, λ z. omega arith)
+
+new-number : {b : Board} {ws : List ℕ} {windows : ℕ} (n p : ℕ) → NewRefusal b ws windows n p → (n ≢ 14) × (n ≢ 7)
+new-number n p (too-few h) = (λ z. omega arith, λ z. omega arith)
+new-number n p (too-many h) = (λ z. omega arith, λ z. omega arith)
+new-number n p (new-window i h) = (λ z. omega arith, λ z. omega arith)
+new-number n p (new-absent h) = (λ z. omega arith, λ z. omega arith)
+new-number n p (new-sliver i h) = (λ z. omega arith, λ z. omega arith)
 
 module _ (owners : ℕ) (b : Board) (count : ℕ) (memory summary : List ℕ) (edit : Edit) where
-  -- no refusal but one is a 14
+  -- the table as it is has no fault, the summary is its own, and the index is not there
+  abbrev pub Absent : Type 0
+  Absent = Ready owners b count memory summary × (Allowed edit count → ⊥)
+
+  -- no refusal but one is a 14, and none but one a 7
   only-fourteen : (n p : ℕ) → EditRefusal owners b count memory summary edit n p → n ≡ 14 → Fourteen owners b count memory summary × (p ≡ 0)
   only-fourteen n p (short-memory h) z = absurd (omega arith)
-  only-fourteen n p (old-table r) z = absurd (omega (arith, whole-number n p r))
-  only-fourteen n p (old-absent h) z = absurd (omega arith)
+  only-fourteen n p (old-table c f r) z = absurd (whole-number n p r .0 z)
+  only-fourteen n p (old-absent c f h) z = absurd (omega arith)
   only-fourteen n p (not-its-summary h) z = (h, refl)
-  only-fourteen n p (absent-index h) z = absurd (omega arith)
-  only-fourteen n p (new-table r) z = absurd (omega (arith, new-number n p r))
-  only-fourteen n p (no-room h) z = absurd (omega arith)
-  only-fourteen n p (no-summary-room h) z = absurd (omega arith)
+  only-fourteen n p (absent-index r h) z = absurd (omega arith)
+  only-fourteen n p (new-table r a f x) z = absurd (new-number n p x .0 z)
+  only-fourteen n p (no-room c h) z = absurd (omega arith)
+  only-fourteen n p (no-summary-room c h k) z = absurd (omega arith)
 
-  -- it is given exactly then, at place 0, whatever the edit
+  only-seven : (n p : ℕ) → EditRefusal owners b count memory summary edit n p → n ≡ 7 → Absent × (p ≡ 0)
+  only-seven n p (short-memory h) z = absurd (omega arith)
+  only-seven n p (old-table c f r) z = absurd (whole-number n p r .1 z)
+  only-seven n p (old-absent c f h) z = absurd (omega arith)
+  only-seven n p (not-its-summary h) z = absurd (omega arith)
+  only-seven n p (absent-index r h) z = ((r, h), refl)
+  only-seven n p (new-table r a f x) z = absurd (new-number n p x .1 z)
+  only-seven n p (no-room c h) z = absurd (omega arith)
+  only-seven n p (no-summary-room c h k) z = absurd (omega arith)
+
+  -- 14 is given exactly then, at place 0, whatever the edit
   pub exactly-fourteen : (p : ℕ) → (editAnswer owners b count memory summary edit ≡ refused 14 p) ↔ (Fourteen owners b count memory summary × (p ≡ 0))
-  unfolding editAnswer editFault countFault summaryFault
   exactly-fourteen p = (λ e. only-fourteen 14 p (edit-refusal owners b count memory summary edit 14 p e) refl, so)
     where
       so : Fourteen owners b count memory summary × (p ≡ 0) → editAnswer owners b count memory summary edit ≡ refused 14 p
-      so (f, z) = rw (le-ltb (length memory) (3 * count) (f .counted), f .before, f .stale, z)
+      so (f, z) = rw z (refusal-edit owners b count memory summary edit 14 0 (not-its-summary f))
+
+  -- and so is 7
+  pub exactly-seven : (p : ℕ) → (editAnswer owners b count memory summary edit ≡ refused 7 p) ↔ (Absent × (p ≡ 0))
+  exactly-seven p = (λ e. only-seven 7 p (edit-refusal owners b count memory summary edit 7 p e) refl, so)
+    where
+      so : Absent × (p ≡ 0) → editAnswer owners b count memory summary edit ≡ refused 7 p
+      so (u, z) = rw z (refusal-edit owners b count memory summary edit 7 0 (absent-index (u .0) (u .1)))
 
 -- so, once the tables as they are have no fault, whether it is given depends on the frame, the owner's windows and the summary, and on nothing else
 pub fourteen-own : (owners : ℕ) (b c : Board) (count n : ℕ) (memory m summary : List ℕ) (edit change : Edit) →
@@ -694,10 +788,9 @@ module _ (owners : ℕ) (b : Board) (count : ℕ) (memory summary : List ℕ) (e
     left-legal : sharedFault owners b (editedList count memory edit) ≡ fine →
         editFault owners b count memory summary edit ≡ roomFault (length (editedSummary b count memory edit)) (length summary) → Untold
 
-  told-or-not : 3 * count ≤ length memory → sharedFault owners b (tableIn count memory) ≡ fine → begins (summaryIn b count memory) summary ≡ true →
-      EditTold owners b count memory summary edit ⊎ Untold
-  unfolding editAnswer editFault countFault
-  told-or-not counted before belongs = indexed (indexFault edit count) refl
+  told-or-not : Ready owners b count memory summary → EditTold owners b count memory summary edit ⊎ Untold
+  unfolding editAnswer
+  told-or-not ready = indexed (indexFault edit count) refl
     where
       T : Type 0
       T = EditTold owners b count memory summary edit ⊎ Untold
@@ -712,8 +805,7 @@ module _ (owners : ℕ) (b : Board) (count : ℕ) (memory summary : List ℕ) (e
       later = indexFault edit count orElse sharedFault owners b new orElse roomFault (length new) (length memory) orElse last
 
       behind : editFault owners b count memory summary edit ≡ later
-      behind =
-          rw (le-ltb (length memory) (3 * count) counted, before, begins-fine b (own b (tableIn count memory)) summary belongs)
+      behind = ready-fault owners b count memory summary edit ready
 
       so : {n p : ℕ} → TeamsRefusal (countAfter edit count) n p → later ≡ fault n p → EditTold owners b count memory summary edit
       so {n} {p} r e = record { number = n; place = p; is = r; answered = rw (behind ∙ e) }
@@ -727,7 +819,7 @@ module _ (owners : ℕ) (b : Board) (count : ℕ) (memory summary : List ℕ) (e
 
       roomy : indexFault edit count ≡ fine → sharedFault owners b new ≡ fine → (t : Bool) → ltb (length memory) (length new) ≡ t → T
       roomy i a true z =
-          let long = edited-length edit count (tableIn count memory) (length-take-le (3 * count) memory counted) (index-allowed edit count i) in
+          let long = edited-length edit count (tableIn count memory) (length-take-le (3 * count) memory (ready .counted)) (index-allowed edit count i) in
           let full = room-fault (length new) (length memory) (ltb-true (length memory) (length new) z) in
           let e : later ≡ fault 8 (length new) = rw (i, a, full) in
           inl (so by-room (e ∙ ap (fault 8) long))
@@ -735,7 +827,7 @@ module _ (owners : ℕ) (b : Board) (count : ℕ) (memory summary : List ℕ) (e
 
       after : indexFault edit count ≡ fine → (g : Fault) → sharedFault owners b new ≡ g → T
       after i fine z = roomy i z (ltb (length memory) (length new)) refl
-      after i (fault m q) z = new-told m q (after-refusal owners b count memory edit counted before (index-allowed edit count i) m q z) (rw (i, z))
+      after i (fault m q) z = new-told m q (after-refusal owners b count memory edit (ready .counted) (ready .before) (index-allowed edit count i) m q z) (rw (i, z))
 
       indexed : (g : Fault) → indexFault edit count ≡ g → T
       indexed fine z = after z (sharedFault owners b new) refl
@@ -797,4 +889,5 @@ module _ (owners : ℕ) (b c : Board) (count k : ℕ) (memory m summary : List �
             absurd (differ (refused-same 14 0
             (exactly-fourteen owners b count memory summary edit 0 .1 (record { counted = i; before = e; stale = z }, refl))
             (exactly-fourteen owners c k m summary change 0 .1 (record { counted = j; before = f; stale = sym stale ∙ z }, refl))))
-        go true z = both (told-or-not owners b count memory summary edit i e z) (told-or-not owners c k m summary change j f (sym stale ∙ z))
+        go true z = both (told-or-not owners b count memory summary edit (record { counted = i; before = e; belongs = z }))
+            (told-or-not owners c k m summary change (record { counted = j; before = f; belongs = sym stale ∙ z }))

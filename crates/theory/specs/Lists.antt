@@ -243,3 +243,13 @@ keep-rising p (suc n) = go (bool-cases (p n)) (keep-rising p n)
     go : (p n ≡ true) ⊎ (p n ≡ false) → Rising (keep p n) n → Rising (keep p (suc n)) (suc n)
     go (inl e) r = rw (keep-hit p n e) (rising-more (keep p n) n r)
     go (inr e) r = rw (keep-miss p n e) (rising-later (keep p n) n r)
+
+-- and so there are no more of them
+pub keep-most : (p : ℕ → Bool) (n : ℕ) → length (keep p n) ≤ n
+unfolding keep
+keep-most p zero = omega arith
+keep-most p (suc n) = go (bool-cases (p n)) (keep-most p n)
+  where
+    go : (p n ≡ true) ⊎ (p n ≡ false) → length (keep p n) ≤ n → length (keep p (suc n)) ≤ suc n
+    go (inl e) h = omega (arith, ap length (keep-hit p n e), length-append (keep p n) (n ∷ []))
+    go (inr e) h = omega (arith, ap length (keep-miss p n e))

@@ -18,15 +18,15 @@ use Rattle.scope.specs.Run.{counts}
 use Rattle.scope.specs.Limits.{teams}
 use Rattle.scope.specs.Answers.{Fault.fine, Answer, Answer.given, Answer.refused, verdictAnswer}
 use Rattle.scope.specs.Shared.{ownedOf, own, ownedFault, wholeFault, sharedFault, verdictFor}
-use Rattle.scope.specs.Summary.{summaryOf, summaryFault, Edit, Edit.move, Edit.add, Edit.remove, edited, tableIn, Edited, editAnswer}
+use Rattle.scope.specs.Summary.{summaryOf, summaryFault, Edit, Edit.move, Edit.add, Edit.remove, edited, tableIn, editedList, Edited, editAnswer}
 use Rattle.scope.specs.Demands.{Way, givenTo}
-use Rattle.scope.specs.Examples.{X, on, onAtLeast}
+use Rattle.scope.specs.Examples.{X, others, on, onAtLeast}
 use Rattle.scope.specs.Computing.{numbers·compute, tables·compute, tableFaults·compute, constructors·compute, sharedFaults·compute, everything}
 use Rattle.theory.specs.Tasks.{TaskRules, Periods}
 use Rattle.theory.specs.Answers.{LegalTable, table-legal}
 use Rattle.theory.specs.Buffers.{written-begins, begins-length}
 use Rattle.theory.specs.Summaries.{begins-fine}
-use Rattle.theory.specs.Edits.{parts-given, new-refused}
+use Rattle.theory.specs.Edits.{Ready, parts-given, new-refused}
 use Rattle.theory.specs.Rows.{endOf}
 use Rattle.theory.specs.Applied.{w6, w7, w13, w6-misses, w7-meets}
 
@@ -145,13 +145,20 @@ not-to-zero claim =
     let z : _≡_ {A = ℕ} 0 1 = cc in
     omega arith
 
--- ---- edits (request 6) depend on the other team. The claim that a refusal of an edit depends on the owner's windows alone, where the tables and the summary
--- have no fault and the memories are of one length, is false of each refusal below
-abbrev ByOwn : ℕ → ℕ → Type 0
-ByOwn n p = (b : Board) (count k : ℕ) (memory m s : List ℕ) (edit : Edit) →
+-- ---- edits (request 6) depend on the other team. The claim that a refusal of an edit depends on the owner's windows alone, before and after it, where the
+-- tables and the summary have no fault and the memories are of one length, is false of each refusal below; but for an owner's absence, after which it has none
+abbrev ByOwnAnd : (Board → ℕ → ℕ → List ℕ → List ℕ → Edit → Type 0) → ℕ → ℕ → Type 0
+ByOwnAnd After n p = (b : Board) (count k : ℕ) (memory m s : List ℕ) (edit : Edit) →
     3 * count ≤ length memory → sharedFault teams b (tableIn count memory) ≡ fine → summaryFault b (own b (tableIn count memory)) s ≡ fine →
     3 * k ≤ length m → sharedFault teams b (tableIn k m) ≡ fine → length memory ≡ length m → own b (tableIn count memory) ≡ own b (tableIn k m) →
-    editAnswer teams b count memory s edit ≡ refused n p → editAnswer teams b k m s edit ≡ refused n p
+    After b count k memory m edit → editAnswer teams b count memory s edit ≡ refused n p → editAnswer teams b k m s edit ≡ refused n p
+
+abbrev ByOwn : ℕ → ℕ → Type 0
+ByOwn = ByOwnAnd (λ b count k memory m edit. own b (editedList count memory edit) ≡ own b (editedList k m edit))
+
+-- of the windows before it alone
+abbrev ByOwnBefore : ℕ → ℕ → Type 0
+ByOwnBefore = ByOwnAnd (λ b count k memory m edit. k ≡ k)
 
 -- owner 0's window alone, or owner 1's behind it
 abbrev two-teams : List ℕ
@@ -169,7 +176,7 @@ left windows numbers = given (record { windows = windows; numbers = numbers })
 pub not-own-index : ByOwn 7 0 → ⊥
 unfolding everything
 not-own-index claim =
-    let e : left 1 5 ≡ refused 7 0 = claim (on 8) 1 2 two-teams two-teams two-summary (remove 1) (omega arith) refl refl (omega arith) refl refl refl refl in
+    let e : left 1 5 ≡ refused 7 0 = claim (on 8) 1 2 two-teams two-teams two-summary (remove 1) (omega arith) refl refl (omega arith) refl refl refl refl refl in
     let z : _≡_ {A = ℕ} 0 1 = cc in
     omega arith
 
@@ -177,17 +184,17 @@ not-own-index claim =
 pub not-own-rule : ByOwn 3 1 → ⊥
 unfolding everything
 not-own-rule claim =
-    let e : left 1 5 ≡ refused 3 1 = claim (on 8) 2 1 two-teams two-teams two-summary (move 0 0 5) (omega arith) refl refl (omega arith) refl refl refl refl in
+    let e : left 1 5 ≡ refused 3 1 = claim (on 8) 2 1 two-teams two-teams two-summary (move 0 0 5) (omega arith) refl refl (omega arith) refl refl refl refl refl in
     let z : _≡_ {A = ℕ} 0 1 = cc in
     omega arith
 
 -- 1 of the new table: the first window is owner 0's only one, or owner 1's
-pub not-own-absence : ByOwn 1 0 → ⊥
+pub not-own-absence : ByOwnBefore 1 0 → ⊥
 unfolding everything
 not-own-absence claim =
     let e : left 1 5 ≡ refused 1 0 =
     claim (on 8) 2 2 (2 ∷ 4 ∷ 0 ∷ 5 ∷ 6 ∷ 1 ∷ []) (0 ∷ 1 ∷ 1 ∷ 2 ∷ 4 ∷ 0 ∷ []) two-summary (remove 0)
-    (omega arith) refl refl (omega arith) refl refl refl refl in
+    (omega arith) refl refl (omega arith) refl refl refl refl refl in
     let z : _≡_ {A = ℕ} 0 1 = cc in
     omega arith
 
@@ -196,7 +203,7 @@ pub not-own-sliver : ByOwn 12 1 → ⊥
 unfolding everything
 not-own-sliver claim =
     let e : _≡_ {A = Answer Edited} (refused 3 2) (refused 12 1) =
-    claim (onAtLeast 8 0 2) 1 2 two-teams two-teams two-summary (add 1 4 5 0) (omega arith) refl refl (omega arith) refl refl refl refl in
+    claim (onAtLeast 8 0 2) 1 2 two-teams two-teams two-summary (add 1 4 5 0) (omega arith) refl refl (omega arith) refl refl refl refl refl in
     let z : _≡_ {A = ℕ} 3 12 = cc in
     omega arith
 
@@ -205,7 +212,7 @@ pub not-own-room : ByOwn 8 9 → ⊥
 unfolding everything
 not-own-room claim =
     let memory : List ℕ = 0 ∷ 2 ∷ 0 ∷ 6 ∷ 8 ∷ 1 ∷ [] in
-    let e : left 2 5 ≡ refused 8 9 = claim (on 8) 2 1 memory memory two-summary (add 1 3 5 1) (omega arith) refl refl (omega arith) refl refl refl refl in
+    let e : left 2 5 ≡ refused 8 9 = claim (on 8) 2 1 memory memory two-summary (add 1 3 5 1) (omega arith) refl refl (omega arith) refl refl refl refl refl in
     let z : _≡_ {A = ℕ} 0 1 = cc in
     omega arith
 
@@ -217,14 +224,9 @@ not-own-count claim =
     let e : _≡_ {A = ℕ} 1 2 = claim (on 8) 1 2 two-teams two-summary (move 0 0 1) _ _ refl refl refl in
     omega arith
 
--- so many windows of owner 1, a tick each, from tick k on
-abbrev others : ℕ → ℕ → List ℕ
-others k zero = []
-others k (suc n) = k ∷ suc k ∷ 1 ∷ others (suc (suc k)) n
-
 -- 64 windows, and room for one more
 abbrev crowd : List ℕ
-crowd = 0 ∷ 1 ∷ 0 ∷ others 3 64
+crowd = 0 ∷ 1 ∷ 0 ∷ others 64
 
 -- owner 0's summary, which nothing here computes
 abbrev crowd-summary : List ℕ
@@ -236,17 +238,16 @@ unfolding numbers·compute tables·compute tableFaults·compute constructors·co
 not-own-number claim =
     let fresh : List ℕ = summaryOf (on 200) (0 ∷ 1 ∷ []) in
     let front = written-begins fresh [] in
-    let full = new-refused teams (on 200) 64 crowd crowd-summary (add 1 1 2 1) (omega arith) refl front (omega arith) 1 0 refl in
+    let ready : Ready teams (on 200) 64 crowd crowd-summary = record { counted = omega arith; before = refl; belongs = front } in
+    let full = new-refused teams (on 200) 64 crowd crowd-summary (add 1 1 2 1) ready (omega arith) 1 0 refl in
     let alone = parts-given teams (on 200) 1 crowd crowd-summary (add 1 1 2 1) (record {
-      counted = omega arith;
-      before = refl;
-      belongs = front;
+      ready = record { counted = omega arith; before = refl; belongs = front };
       allowed = omega arith;
       after = refl;
       room = omega arith;
       summary-room = begins-length fresh crowd-summary front;
     }) in
     let belongs = begins-fine (on 200) (0 ∷ 1 ∷ []) crowd-summary front in
-    let e = sym alone ∙ claim (on 200) 64 1 crowd crowd crowd-summary (add 1 1 2 1) (omega arith) refl belongs (omega arith) refl refl refl full in
+    let e = sym alone ∙ claim (on 200) 64 1 crowd crowd crowd-summary (add 1 1 2 1) (omega arith) refl belongs (omega arith) refl refl refl refl full in
     let z : _≡_ {A = ℕ} 0 1 = cc in
     omega arith

@@ -1,17 +1,17 @@
 -- Document 02, request 6: a summary that is kept beside a table. Memory that begins with a table's summary answers as the table does, at every length; what
 -- does not is refused by 14; and what is made for a table belongs to it
 use mathlib.Core.Path.{_≡_, refl, sym, ap, _∙_, fun-ext}
-use mathlib.Core.Bool.{Bool, true, false, not, _||_, false≢true}
+use mathlib.Core.Bool.{Bool, true, false, not, _||_}
 use mathlib.Core.List.{List, [], _∷_, _++_, map}
 use Prim.Native.Nat.{ℕ, zero, suc, _+_, _-_, _*_, _/_, _%_, _≤_, _<_, min}
 use native.Mathlib.Omega.{arith}
 use native.Mathlib.Nat.{zero-add, mod-lt, mod-eq-of-lt, mod-add-div'}
 use native.Mathlib.Decide.{decLt}
-use lib.Dec.{leb, ltb, eqb}
+use lib.Dec.{leb, ltb}
 use lib.IntN.{ℤ, pos, _-ℤ_}
-use lib.ListN.{length, getD, take, drop, length-append, length-map, take-append-drop, List·getD-append}
+use lib.ListN.{length, getD, take, drop, length-map, List·getD-append}
 use lib.Seq.{take-append-seam}
-use borrow.Author.Tests.{ltb-true, lt-ltb, le-ltb, le-leb, lt-leb, eqb-true, eq-eqb, not-false}
+use borrow.Author.Tests.{ltb-true, lt-ltb, le-ltb, le-leb, lt-leb, not-false}
 use Rattle.scope.specs.Numbers.{bit, piecesFrom, pieces, written}
 use Rattle.scope.specs.Limits.{teams}
 use Rattle.scope.specs.Ticks.{Periodic, supply, perFrame, leastSupply}
@@ -23,13 +23,13 @@ use Rattle.scope.specs.Answers.{roomFault, criticalOf, leastSupplyAnswer, margi
 use Rattle.scope.specs.Shared.{own, sharedFault, unlessRefused, askedFor, kept, leastSupplyFor, marginFor}
 use Rattle.scope.specs.Summary.{summaryOf, makeFault, makeAnswer, makeOut, begins, summaryFault, windowsIn, ticksBefore, leastFrom, leastFromAnswer, marginFrom}
 use Rattle.scope.specs.Summary.{lengthsFault, marginsFault, marginsAnswer, marginsOut, makeFor, makeOutFor, leastFromFor, marginsFor, marginsOutFor}
-use Rattle.theory.specs.Numbers.{and-both, both-and}
-use Rattle.theory.specs.Lists.{Rising, keep-rising}
-use Rattle.theory.specs.Buffers.{begins-front, begins-take, begins-at, written-begins}
+use Rattle.theory.specs.Numbers.{and-both}
+use Rattle.theory.specs.Lists.{Rising, keep-rising, keep-most}
+use Rattle.theory.specs.Buffers.{begins-front, begins-at, written-begins}
 use Rattle.theory.specs.Ticks.{least-frames}
 use Rattle.theory.specs.Windows.{supplied-periodic}
 use Rattle.theory.specs.Partition.{critical-even, critical-supply}
-use Rattle.theory.specs.Answers.{fault-not-fine, faultIf-fine, orElse-fine, unless-given, unless-refused, table-legal}
+use Rattle.theory.specs.Answers.{fault-not-fine, faultIf-fine, orElse-fine, unless-given, unless-refused, lengths-each, fine-room, table-legal}
 use Rattle.theory.specs.Shared.{own-fine, asked-fine, asked-same, asked-given}
 use Rattle.theory.specs.Shortest.{base-else, table-base, group-base, room-base, length-base, lengths-base, Never, base-never, shared-most}
 
@@ -189,6 +189,11 @@ module _ (b : Board) (ws s : List ℕ) where
   unfolding marginFrom margin
   margin-from-exact some e ts t = ap (λ (x : ℕ). pos x -ℤ pos (demand ts t)) (least-from-exact some e t)
 
+-- room for as many numbers as the frame has ticks, and four more, is always enough
+pub summary-most : (b : Board) (ws : List ℕ) → length (summaryOf b ws) ≤ b .frame + 4
+unfolding summaryOf critical maximalRuns
+summary-most b ws = omega (arith, keep-most (edge (within (rises (suppliedBy b ws) (b .frame)) (b .frame))) (b .frame + 1))
+
 -- ---- a summary that belongs, and one that does not
 
 module _ (b : Board) (ws s : List ℕ) where
@@ -281,12 +286,18 @@ module _ (b : Board) (ws s : List ℕ) (t : ℕ) where
 
 -- ---- many margins at once
 
--- each length by itself
-lengths-each : (lengths : List ℕ) → lengthsFault lengths ≡ fine → (j : ℕ) → j < length lengths → lengthFault (getD lengths j 0) ≡ fine
+-- the first that is at fault
+lengths-first : (lengths : List ℕ) (n p : ℕ) → lengthsFault lengths ≡ fault n p → (j : ℕ) × (j < length lengths) × (lengthFault (getD lengths j 0) ≡ fault n p)
 unfolding lengthsFault
-lengths-each [] e j h = absurd (omega arith)
-lengths-each (t ∷ lengths) e zero h = orElse-fine (lengthFault t) (lengthsFault lengths) e .0
-lengths-each (t ∷ lengths) e (suc j) h = lengths-each lengths (orElse-fine (lengthFault t) (lengthsFault lengths) e .1) j (omega arith)
+lengths-first [] n p e = absurd (fault-not-fine (sym e))
+lengths-first (t ∷ lengths) n p e = go (lengths-first lengths n p) (lengthFault t) refl e
+  where
+    First : List ℕ → Type 0
+    First l = (j : ℕ) × (j < length l) × (lengthFault (getD l j 0) ≡ fault n p)
+
+    go : (lengthsFault lengths ≡ fault n p → First lengths) → (f : Fault) → lengthFault t ≡ f → (f orElse lengthsFault lengths) ≡ fault n p → First (t ∷ lengths)
+    go rest (fault m q) z e = (0, omega arith, z ∙ e)
+    go rest fine z e = let r = rest e in (suc (r .0), omega (arith, r .1), r .2)
 
 -- a list of values written at the front of a buffer, by place
 mapped-at : (f : ℕ → ℤ) (l : List ℕ) (j : ℕ) → j < length l → getD (map f l) j (pos 0) ≡ f (getD l j 0)
@@ -359,6 +370,29 @@ module _ (b : Board) (ws s ts lengths : List ℕ) where
         ap (λ (l : List ℤ). getD l j (pos 0)) (margins-agree .1) ∙ written-mapped marginAt lengths out j h in
         asked-fine teams b ws refused (λ l. marginAnswer b l ts t) shared
         ∙ rw (checked .table, checked .group, lengths-each lengths (checked .asked) j h) (ap given (sym there))
+
+  -- with a summary that belongs and room, what refuses them refuses one of them without it
+  pub one-refused : (room n p : ℕ) → summaryFault b (own b ws) s ≡ fine → length lengths ≤ room → 0 < length lengths → marginsFor b ws s ts lengths room ≡ refused n p →
+      (j : ℕ) × (j < length lengths) × (marginFor b ws ts (getD lengths j 0) ≡ refused n p)
+  unfolding marginsFor marginsAnswer marginsFault marginFor marginAnswer askedFor
+  one-refused room n p belongs fits some = shared-by (sharedFault teams b ws)
+    where
+      One : (ℕ → Answer ℤ) → Type 0
+      One entry = (j : ℕ) × (j < length lengths) × (entry (getD lengths j 0) ≡ refused n p)
+
+      checked-by : (f g : Fault) → (f orElse g orElse lengthsFault lengths orElse fine) ≡ fault n p → One (λ t. unless (f orElse g orElse lengthFault t) (marginAt t))
+      checked-by (fault m q) g e = (0, some, ap (λ (f : Fault). unless f (marginAt (getD lengths 0 0))) e)
+      checked-by fine (fault m q) e = (0, some, ap (λ (f : Fault). unless f (marginAt (getD lengths 0 0))) e)
+      checked-by fine fine e =
+          let first = lengths-first lengths n p (else-here n p (lengthsFault lengths) fine (λ q z. fault-not-fine (sym z)) e) in
+          (first .0, first .1, rw (first .2))
+
+      shared-by : (f : Fault) → unlessRefused f refused (unless (marginsFault b mine s ts lengths room) (length lengths)) ≡ refused n p →
+          One (λ t. unlessRefused f refused (unless (tableFault b mine orElse groupFault ts orElse lengthFault t) (marginAt t)))
+      shared-by (fault m q) e = let x : m ≡ n = cc in let y : q ≡ p = cc in (0, some, rw (x, y))
+      shared-by fine e =
+          checked-by (tableFault b mine) (groupFault ts)
+          (rw (belongs, fine-room (length lengths) room fits) at (unless-refused (marginsFault b mine s ts lengths room) (length lengths) n p e))
 
   -- 14 exactly when: the list of windows and the group have no fault, and the summary is not the owner's
   pub margins-not-belonging : (room : ℕ) → sharedFault teams b ws ≡ fine → groupFault ts ≡ fine → begins (summaryOf b (own b ws)) s ≡ false →
