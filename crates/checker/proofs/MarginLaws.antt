@@ -10,16 +10,15 @@ use lib.ListN.{length, getD, set, take, drop, length-take, length-drop, length-m
 use lib.Seq.{drop-cons, length-take-le}
 use mir.Syntax.{w64}
 use mir.Val.{toZ, ofZ}
-use lib.Dec.{ltb}
-use borrow.Author.Tests.{lt-ltb, le-ltb, ltb-false}
+use borrow.Author.Tests.{lt-ltb, le-ltb}
 use Rattle.scope.specs.Limits.{mostFrame, mostLength}
 use Rattle.scope.specs.Numbers.{written}
 use Rattle.scope.specs.Windows.{Board, windowsOf}
 use Rattle.scope.specs.Answers.{Fault.fine, Fault.fault, Answer.given, Answer.refused, _orElse_}
-use Rattle.scope.specs.Answers.{windowListFault, windowFault, frameFault, tableFault, groupFault, lengthFault, roomFault}
+use Rattle.scope.specs.Answers.{frameFault, tableFault, groupFault, lengthFault, roomFault}
 use Rattle.scope.specs.Tasks.{tasksOf, demand}
 use Rattle.scope.specs.Summary.{ticksBefore, leastFrom, marginFrom, summaryFault, lengthsFault, marginsFault}
-use Rattle.theory.specs.Answers.{orElse-fine, faultIf-fine, fault-not-fine, unless-given, frame-legal, length-legal, LegalGroup, group-legal}
+use Rattle.theory.specs.Answers.{orElse-fine, fault-not-fine, unless-given, frame-legal, length-legal, lengths-each, room-fine, table-framed, LegalGroup, group-legal}
 use Rattle.theory.specs.Buffers.{written-more}
 use Rattle.tables.proofs.FaultLaws.{fault-of}
 use Rattle.supply.specs.Search.{mostTicks, fromAnswer}
@@ -46,22 +45,9 @@ pub lengths-end : (l : List ℕ) (i : ℕ) → length l ≤ i → lengthsFault (
 lengths-end l i h = lengths-none (drop i l) (omega (arith, length-drop i l))
 
 pub each-asked : (l : List ℕ) (i : ℕ) → lengthsFault l ≡ fine → i < length l → getD l i 0 ≤ mostLength
-unfolding lengthsFault
-each-asked [] i e h = absurd (omega arith)
-each-asked (t ∷ l) zero e h = length-legal t (orElse-fine (lengthFault t) (lengthsFault l) e .0)
-each-asked (t ∷ l) (suc i) e h = each-asked l i (orElse-fine (lengthFault t) (lengthsFault l) e .1) (omega arith)
+each-asked l i e h = length-legal (getD l i 0) (lengths-each l e i h)
 
 -- ---- the checks together, where the table's have passed
-
-table-framed : (b : Board) (ws : List ℕ) → tableFault b ws ≡ fine → frameFault b ≡ fine
-unfolding tableFault
-table-framed b ws e =
-    let p = orElse-fine (windowListFault ws) (frameFault b orElse windowFault b (windowsOf ws)) e in
-    orElse-fine (frameFault b) (windowFault b (windowsOf ws)) (p .1) .0
-
-room-fits : (needed room : ℕ) → roomFault needed room ≡ fine → needed ≤ room
-unfolding roomFault
-room-fits needed room e = ltb-false room needed (faultIf-fine (ltb room needed) 8 needed e)
 
 -- what has passed
 pub record Passed (b : Board) (ts l : List ℕ) (room : ℕ) : Type 0 where
@@ -89,7 +75,7 @@ module _ (b : Board) (ws s ts l : List ℕ) (room : ℕ) (e : tableFault b ws �
         framed = table-framed b ws e;
         group = group-legal ts (q .0);
         asked = u .0;
-        roomy = room-fits (length l) room (u .1);
+        roomy = room-fine (length l) room (u .1);
       }
 
 -- ---- the least supply of one length

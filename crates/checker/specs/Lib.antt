@@ -1,3 +1,4 @@
 pub mod Found
 pub mod Rises
 pub mod Stretches
+pub mod Refused

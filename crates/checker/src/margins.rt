@@ -11,6 +11,7 @@ use tables::answer::Refusal;
 use tables::answer::refuse_signed;
 use tables::board::Board;
 use tables::length::Length;
+use tables::list::check_room;
 use tables::task::check_tasks;
 use tables::window::Window;
 ghost use mathlib.Core.Path.{_≡_};
@@ -20,12 +21,12 @@ ghost use lib.ListN.{length};
 ghost use Rattle.scope.specs.Limits.{mostLength};
 ghost use Rattle.scope.specs.Numbers.{written};
 ghost use Rattle.scope.specs.Tasks.{tasksOf};
-ghost use Rattle.scope.specs.Answers.{Fault.fine, frameFault, tableFault, roomFault};
+ghost use Rattle.scope.specs.Answers.{Fault.fine, frameFault, tableFault};
 ghost use Rattle.scope.specs.Summary.{marginFrom, lengthsFault, marginsFault, marginsAnswer, marginsOut, marginsFor, marginsOutFor};
 ghost use Rattle.theory.specs.Answers.{LegalGroup};
 ghost use Rattle.tables.specs.Told.{boardOf, faultOf, toldAmount};
 
-// Refusal 7 of lengths, each of which is in its range.
+// Refusal 7 of lengths, one of which is over the longest.
 fn check_lengths(lengths: &[u32]) -> Checked
     ensures { λ r. ⌜ faultOf r ≡ lengthsFault (now (lengths .entry)) ⌝ }
 {
@@ -35,16 +36,6 @@ fn check_lengths(lengths: &[u32]) -> Checked
             return Checked::Bad(Refusal::Asked);
         }
         i += 1;
-    }
-    Checked::Fine
-}
-
-// Refusal 8 of a buffer for so many numbers.
-fn check_room(needed: usize, room: usize) -> Checked
-    ensures { λ r. ⌜ faultOf r ≡ roomFault needed room ⌝ }
-{
-    if room < needed {
-        return Checked::Bad(Refusal::Room(needed as u64));
     }
     Checked::Fine
 }

@@ -1,22 +1,22 @@
 -- An edit in two halves, as the code makes it, and the list that it leaves
 use mathlib.Core.Path.{_≡_, refl, sym, ap, _∙_}
-use mathlib.Core.List.{List, [], _∷_, _++_}
+use mathlib.Core.List.{List, _++_}
 use Prim.Native.Nat.{ℕ, _+_, _-_, _*_, _/_, _%_, _≤_, _<_}
 use native.Mathlib.Omega.{arith}
-use lib.Dec.{leb, ltb}
-use lib.ListN.{length, getD, take, drop, length-append, length-drop}
+use lib.ListN.{length, take, drop, length-append, length-drop}
 use lib.Seq.{length-take-le, take-length, drop-drop, drop-append-seam}
-use borrow.Author.Tests.{lt-ltb, le-ltb, leb-false, ltb-false}
+use borrow.Author.Tests.{lt-ltb, le-ltb}
 use Rattle.scope.specs.Numbers.{written}
 use Rattle.scope.specs.Limits.{mostWindows}
 use Rattle.scope.specs.Windows.{Board}
 use Rattle.scope.specs.Answers.{Fault, Fault.fine, Fault.fault, _orElse_, unlessKept, tableFault, roomFault}
 use Rattle.scope.specs.Shared.{Owned, owned, own, sharedFault, askedFor, unlessRefused}
 use Rattle.scope.specs.Summary.{summaryOf, makeFault, makeOut, summaryFault, Edit, spliced, edited, indexFault, tableIn, countFault, editedList, editFault, editAnswer, editWindows, editSummary}
-use Rattle.theory.specs.Answers.{fault-not-fine, faultIf-fine, orElse-fine}
+use Rattle.theory.specs.Answers.{fault-not-fine, orElse-fine, fine-room, room-fault}
 use Rattle.theory.specs.Lists.{pieces-length}
 use Rattle.theory.specs.Shared.{whole, shared-parts, own-fine}
 use Rattle.theory.specs.Buffers.{take-written, length-written}
+use Rattle.theory.specs.Edits.{Allowed, index-allowed, countAfter, edited-length}
 use Rattle.supply.proofs.PartitionLaws.{after}
 use Rattle.edits.specs.declared.edit.Edit as declared
 use Rattle.edits.specs.declared.edit.Edit.the-variants.{Move, Add, Remove}
@@ -75,59 +75,20 @@ module _ (list come : List ℕ) (i gone : ℕ) (h : 3 * (i + gone) ≤ length li
       ∙ ap (after (3 * i + length come) (written (front ++ come) o)) (rest-of list (3 * (i + gone)))
       ∙ after-written (front ++ come) o (drop (3 * (i + gone)) list) (3 * i + length come) (omega (arith, n, length-append front come))
 
-  pub spliced-length : length (spliced i gone come list) + 3 * gone ≡ length list + length come
-  spliced-length =
-      omega (
-        arith,
-        length-append (take (3 * i) list ++ come) (drop (3 * (i + gone)) list),
-        length-append (take (3 * i) list) come,
-        length-take-le (3 * i) list (omega arith),
-        length-drop (3 * (i + gone)) list,
-      )
+-- ---- what is known of an edit once its kind is
 
--- each kind of edit: the index that is allowed, and the list that it leaves
+module _ (x y : declared.Edit) (is : x ≡ y) where
+  pub kind-index : (n : ℕ) → indexFault (editOf x) n ≡ fine → Allowed (editOf y) n
+  kind-index n f = index-allowed (editOf y) n (ap (λ (z : declared.Edit). indexFault (editOf z) n) (sym is) ∙ f)
 
-module _ (x : declared.Edit) (i s e : ℕ) (is : x ≡ Move i s e) where
-  pub move-index : (n : ℕ) → indexFault (editOf x) n ≡ fine → i < n
-  unfolding indexFault
-  move-index n f = leb-false n i (faultIf-fine (leb n i) 7 0 (ap (λ (y : declared.Edit). indexFault (editOf y) n) (sym is) ∙ f))
+  pub kind-list : (list : List ℕ) → edited (editOf x) list ≡ edited (editOf y) list
+  kind-list list = ap (λ (z : declared.Edit). edited (editOf z) list) is
 
-  pub move-list : (list : List ℕ) → edited (editOf x) list ≡ spliced i 1 (s ∷ e ∷ getD list (3 * i + 2) 0 ∷ []) list
-  unfolding edited
-  move-list list = ap (λ (y : declared.Edit). edited (editOf y) list) is
-
-  pub move-length : (list : List ℕ) → length list % 3 ≡ 0 → indexFault (editOf x) (length list / 3) ≡ fine → length (edited (editOf x) list) ≡ length list
-  move-length list m f =
-      let h : 3 * (i + 1) ≤ length list = omega (arith, move-index (length list / 3) f) in
-      omega (arith, ap length (move-list list), spliced-length list (s ∷ e ∷ getD list (3 * i + 2) 0 ∷ []) i 1 h)
-
-module _ (x : declared.Edit) (i s e o : ℕ) (is : x ≡ Add i s e o) where
-  pub add-index : (n : ℕ) → indexFault (editOf x) n ≡ fine → i ≤ n
-  unfolding indexFault
-  add-index n f = ltb-false n i (faultIf-fine (ltb n i) 7 0 (ap (λ (y : declared.Edit). indexFault (editOf y) n) (sym is) ∙ f))
-
-  pub add-list : (list : List ℕ) → edited (editOf x) list ≡ spliced i 0 (s ∷ e ∷ o ∷ []) list
-  unfolding edited
-  add-list list = ap (λ (y : declared.Edit). edited (editOf y) list) is
-
-  pub add-length : (list : List ℕ) → length list % 3 ≡ 0 → indexFault (editOf x) (length list / 3) ≡ fine → length (edited (editOf x) list) ≡ length list + 3
-  add-length list m f =
-      let h : 3 * (i + 0) ≤ length list = omega (arith, add-index (length list / 3) f) in
-      omega (arith, ap length (add-list list), spliced-length list (s ∷ e ∷ o ∷ []) i 0 h)
-
-module _ (x : declared.Edit) (i : ℕ) (is : x ≡ Remove i) where
-  pub remove-index : (n : ℕ) → indexFault (editOf x) n ≡ fine → i < n
-  unfolding indexFault
-  remove-index n f = leb-false n i (faultIf-fine (leb n i) 7 0 (ap (λ (y : declared.Edit). indexFault (editOf y) n) (sym is) ∙ f))
-
-  pub remove-list : (list : List ℕ) → edited (editOf x) list ≡ spliced i 1 [] list
-  unfolding edited
-  remove-list list = ap (λ (y : declared.Edit). edited (editOf y) list) is
-
-  pub remove-length : (list : List ℕ) → length list % 3 ≡ 0 → indexFault (editOf x) (length list / 3) ≡ fine → length (edited (editOf x) list) + 3 ≡ length list
-  remove-length list m f =
-      let h : 3 * (i + 1) ≤ length list = omega (arith, remove-index (length list / 3) f) in
-      omega (arith, ap length (remove-list list), spliced-length list [] i 1 h)
+  pub kind-length : (list : List ℕ) → length list % 3 ≡ 0 → indexFault (editOf x) (length list / 3) ≡ fine →
+      length (edited (editOf x) list) ≡ 3 * countAfter (editOf y) (length list / 3)
+  kind-length list m f =
+      let n : ℕ = length list / 3 in
+      ap length (kind-list list) ∙ edited-length (editOf y) n list (omega (arith, m)) (kind-index n f)
 
 -- ---- putting the new list into lent memory
 
@@ -144,13 +105,13 @@ module _ (owners : ℕ) (b : Board) (new : List ℕ) (windows summary : ℕ) whe
 
   module _ (e : sharedFault owners b new ≡ fine) where
     pub store-short : windows < length new → storeFault owners b new windows summary ≡ fault 8 (length new)
-    unfolding storeFault roomFault
-    store-short h = rw (e, lt-ltb windows (length new) h)
+    unfolding storeFault
+    store-short h = rw (e, room-fault (length new) windows h)
 
     -- with room for the windows, only the summary's may be missing, as making it would say
     pub store-make : length new ≤ windows → storeFault owners b new windows summary ≡ makeFault b (own b new) summary
-    unfolding storeFault makeFault roomFault
-    store-make h = rw (e, le-ltb windows (length new) h, own-fine owners b new e)
+    unfolding storeFault makeFault
+    store-make h = rw (e, fine-room (length new) windows h, own-fine owners b new e)
 
 -- then the summary's memory is as making it leaves it
 pub stored-summary : (owners : ℕ) (b : Board) (new : List ℕ) (windows : ℕ) (summary : List ℕ) →
@@ -213,9 +174,9 @@ ready-list owners b list summary edit count e =
 -- at most one window more
 pub edited-few : (x : declared.Edit) (list : List ℕ) → length list % 3 ≡ 0 → indexFault (editOf x) (length list / 3) ≡ fine →
     length (edited (editOf x) list) ≤ length list + 3
-edited-few (Move i s e) list m f = omega (arith, move-length (Move i s e) i s e refl list m f)
-edited-few (Add i s e o) list m f = omega (arith, add-length (Add i s e o) i s e o refl list m f)
-edited-few (Remove i) list m f = omega (arith, remove-length (Remove i) i refl list m f)
+edited-few (Move i s e) list m f = omega (arith, kind-length (Move i s e) (Move i s e) refl list m f)
+edited-few (Add i s e o) list m f = omega (arith, kind-length (Add i s e o) (Add i s e o) refl list m f)
+edited-few (Remove i) list m f = omega (arith, kind-length (Remove i) (Remove i) refl list m f)
 
 -- the windows of the list in lent memory are counted as they were told
 module _ (owners : ℕ) (b : Board) (count : ℕ) (memory summary : List ℕ) (edit : Edit) (h : 3 * count ≤ length memory) where

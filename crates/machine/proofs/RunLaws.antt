@@ -1,17 +1,16 @@
 -- The checks of a run, in their order, and what they leave
 use mathlib.Core.Path.{_≡_, sym, ap, _∙_}
 use mathlib.Core.List.{List}
-use Prim.Native.Nat.{ℕ, _*_, _≤_, _<_}
+use Prim.Native.Nat.{ℕ, _*_, _≤_}
 use native.Mathlib.Omega.{arith}
 use lib.ListN.{length, take}
-use borrow.Author.Tests.{lt-ltb, le-ltb}
 use Rattle.scope.specs.Limits.{mostWindows, mostTicks, mostJobs, teams}
 use Rattle.scope.specs.Windows.{Board, suppliedBy}
 use Rattle.scope.specs.Tasks.{tasksOf}
 use Rattle.scope.specs.Jobs.{jobsOf, job}
 use Rattle.scope.specs.Machine.{edf}
 use Rattle.scope.specs.Run.{Ran, ran}
-use Rattle.scope.specs.Answers.{Fault, Fault.fine, Fault.fault, Answer, Answer.refused, _orElse_, tableFault, groupFault, jobListFault, jobFault, roomFault}
+use Rattle.scope.specs.Answers.{Fault, Fault.fine, Answer, Answer.refused, _orElse_, tableFault, groupFault, jobListFault, jobFault, roomFault}
 use Rattle.scope.specs.Answers.{runFault, runAnswer, runOut}
 use Rattle.scope.specs.Shared.{ownAnswer, kept, runFor, runOutFor}
 use Rattle.theory.specs.Lists.{pieces-length}
@@ -20,16 +19,6 @@ use Rattle.theory.specs.Shared.{Taken, asked-taken, asked-not}
 use Rattle.tables.proofs.FaultLaws.{or-assoc, or-fine, given-by}
 use Rattle.jobs.specs.Legal.{Tasks, Jobs}
 use Rattle.jobs.proofs.Legality.{tasks-of, jobs-of}
-
--- the check of the room
-module _ (needed room : ℕ) where
-  pub no-room : room < needed → fault 8 needed ≡ roomFault needed room
-  unfolding roomFault
-  no-room h = rw (lt-ltb room needed h)
-
-  pub has-room : needed ≤ room → fine ≡ roomFault needed room
-  unfolding roomFault
-  has-room h = rw (le-ltb room needed h)
 
 module _ (ts : List ℕ) (n : ℕ) (js : List ℕ) (room : ℕ) where
   abbrev J : Fault

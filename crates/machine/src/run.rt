@@ -8,6 +8,7 @@ use tables::answer::Amount;
 use tables::answer::Checked;
 use tables::answer::Refusal;
 use tables::board::Board;
+use tables::list::check_room;
 use tables::task::Task;
 use tables::window::Window;
 ghost use mathlib.Core.Path.{_≡_};
@@ -97,17 +98,6 @@ fn check_run(tasks: &[u32], n: u32, jobs: &[u32], room: usize) -> Checked
     let list = check_jobs(tasks, n, jobs);
     let space = check_room(jobs.len() / 3, room);
     list.or_else(space)
-}
-
-// Refusal 8.
-fn check_room(needed: usize, room: usize) -> Checked
-    ensures { λ r. ⌜ faultOf r ≡ roomFault needed room ⌝ }
-{
-    if room < needed {
-        let place = needed as u64;
-        return Checked::Bad(Refusal::Room(place));
-    }
-    Checked::Fine
 }
 
 // A refusal leaves the lent buffer as it was.

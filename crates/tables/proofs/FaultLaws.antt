@@ -4,11 +4,10 @@ use mathlib.Core.Bool.{Bool, true, false, not, cond}
 use mathlib.Core.List.{List}
 use Prim.Native.Nat.{ℕ, _≤_, _<_}
 use native.Mathlib.Omega.{arith}
-use borrow.Author.Tests.{lt-ltb, le-ltb}
 use Rattle.scope.specs.Numbers.{first}
 use Rattle.scope.specs.Answers.{Fault, Fault.fine, Fault.fault, Answer.given, Answer.refused, faultIf, faultAt, _orElse_, unless, unlessKept, roomFault}
 use Rattle.theory.specs.Numbers.{some-first, none-first}
-use Rattle.theory.specs.Answers.{unless-given, unless-refused}
+use Rattle.theory.specs.Answers.{unless-given, unless-refused, fine-room, room-fault}
 
 pub if-true : (b : Bool) (n p : ℕ) → b ≡ true → fault n p ≡ faultIf b n p
 if-true b n p e = rw e
@@ -42,12 +41,10 @@ or-fine f g e = rw e
 -- room for what is written is the last thing that is checked
 module _ (f : Fault) (needed room : ℕ) (e : f ≡ fine) where
   pub then-short : room < needed → (f orElse roomFault needed room) ≡ fault 8 needed
-  unfolding roomFault
-  then-short h = or-fine f _ e ∙ sym (if-true _ 8 needed (lt-ltb room needed h))
+  then-short h = or-fine f _ e ∙ room-fault needed room h
 
   pub then-roomy : needed ≤ room → (f orElse roomFault needed room) ≡ fine
-  unfolding roomFault
-  then-roomy h = or-fine f _ e ∙ sym (if-false _ 8 needed (le-ltb room needed h))
+  then-roomy h = or-fine f _ e ∙ fine-room needed room h
 
 -- no fault: the value, and the buffer as it is to be
 pub given-by : {A : Type 0} (f : Fault) (a : A) → f ≡ fine → given a ≡ unless f a

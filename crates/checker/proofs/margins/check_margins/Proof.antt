@@ -7,7 +7,7 @@ use Rattle.checker.proofs.margins.check_margins.Tie as tie
 use Rattle.checker.proofs.margins.check_margins.Reads as reads
 use Rattle.checker.proofs.margins.check_margins.Lts as lts
 use Rattle.checker.proofs.margins.check_lengths.Reads as check-lengths-reads
-use Rattle.checker.proofs.margins.check_room.Reads as check-room-reads
+use Rattle.tables.proofs.list.check_room.Reads as check-room-reads
 use Rattle.supply.proofs.summary.check_summary.Reads as check-summary-reads
 use Rattle.tables.proofs.answer.Checked.or_else.Reads as or-else-reads
 use Rattle.tables.proofs.task.check_tasks.Reads as check-tasks-reads

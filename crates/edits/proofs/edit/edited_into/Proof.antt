@@ -4,8 +4,8 @@ use Prim.Native.Nat.{ℕ}
 use native.Mathlib.Omega.{arith}
 use borrow.Author.Needs.{needs}
 use Rattle.scope.specs.Numbers.{written}
-use Rattle.edits.proofs.EditLaws.{move-index, move-list, move-length, add-index, add-list, add-length}
-use Rattle.edits.proofs.EditLaws.{remove-index, remove-list, remove-length}
+use Rattle.scope.specs.Summary.{edited}
+use Rattle.edits.proofs.EditLaws.{kind-index, kind-list, kind-length}
 use Rattle.edits.proofs.edit.edited_into.Statement.{statement}
 use Rattle.edits.proofs.edit.edited_into.Tie as tie
 use Rattle.edits.proofs.edit.edited_into.Reads as reads
@@ -28,13 +28,13 @@ mul-t19 : tie.Need-mul-t19
 mul-t19 c = search needs
 
 shared-slice-read-t21 : tie.Need-shared-slice-read-t21
-shared-slice-read-t21 c = let e = c .before .before .before .before .before .before in omega (arith, move-index _ _ _ _ (c .before .before .edit .given .1) _ (e .pre .0), e .pre .1)
+shared-slice-read-t21 c = let e = c .before .before .before .before .before .before in omega (arith, kind-index _ _ (c .before .before .edit .given .1) _ (e .pre .0), e .pre .1)
 
 slice-aggregate-splice : tie.Need-slice-aggregate-splice
 slice-aggregate-splice c = search needs
 
 splice-requires : tie.Need-splice-requires
-splice-requires c κs = let e = c .before .before .before .before .before .before .before .before in omega (arith, move-index _ _ _ _ (c .before .before .before .before .edit .given .1) _ (e .pre .0), e .pre .1, e .pre .2)
+splice-requires c κs = let e = c .before .before .before .before .before .before .before .before in omega (arith, kind-index _ _ (c .before .before .before .before .edit .given .1) _ (e .pre .0), e .pre .1, e .pre .2)
 
 enum-known-edit-2 : tie.Need-enum-known-edit-2
 enum-known-edit-2 c = search needs
@@ -46,7 +46,7 @@ slice-aggregate-splice-2 : tie.Need-slice-aggregate-splice-2
 slice-aggregate-splice-2 c = search needs
 
 splice-requires-2 : tie.Need-splice-requires-2
-splice-requires-2 c κs = let e = c .before .before .before .before .before .before .before in omega (arith, add-index _ _ _ _ _ (c .before .before .before .edit2 .given .1) _ (e .pre .0), e .pre .1, e .pre .2)
+splice-requires-2 c κs = let e = c .before .before .before .before .before .before .before in omega (arith, kind-index _ _ (c .before .before .before .edit2 .given .1) _ (e .pre .0), e .pre .1, e .pre .2)
 
 add-result : tie.Need-add-result
 add-result c = search needs
@@ -61,21 +61,22 @@ slice-aggregate-splice-3 : tie.Need-slice-aggregate-splice-3
 slice-aggregate-splice-3 c = search needs
 
 splice-requires-3 : tie.Need-splice-requires-3
-splice-requires-3 c κs = let e = c .before .before .before .before .before .before .before in omega (arith, remove-index _ _ (c .before .before .before .edit3 .given .1) _ (e .pre .0), e .pre .1, e .pre .2)
+splice-requires-3 c κs = let e = c .before .before .before .before .before .before .before in omega (arith, kind-index _ _ (c .before .before .before .edit3 .given .1) _ (e .pre .0), e .pre .1, e .pre .2)
 
 sub-result : tie.Need-sub-result
-sub-result c = let e = c .before .before .before .before .before .before .before .before .before .before in omega (arith, remove-index _ _ (c .before .before .before .before .before .before .edit3 .given .1) _ (e .pre .0), e .pre .1)
+sub-result c = let e = c .before .before .before .before .before .before .before .before .before .before in omega (arith, kind-index _ _ (c .before .before .before .before .before .before .edit3 .given .1) _ (e .pre .0), e .pre .1)
 
 same-length : tie.Need-same-length
 same-length c = search needs
 
 returns : tie.Need-returns
+unfolding edited
 returns c =
     let e = c .before .before .before .before .before .before .before .before .before .before .before in
     let list = e .args .list .now in
     let is = c .before .before .before .before .before .before .before .edit .given .1 in
-    let l = move-list _ _ _ _ is list in (
-      omega (arith, move-length _ _ _ _ is list (e .pre .1) (e .pre .0)),
+    let l = kind-list _ _ is list in (
+      omega (arith, kind-length _ _ is list (e .pre .1) (e .pre .0)),
       c .before .before .splice .ensures ∙ ap (λ (x : List ℕ). written x (e .args .out .now)) (sym l),
     )
 
@@ -83,12 +84,13 @@ same-length-2 : tie.Need-same-length-2
 same-length-2 c = search needs
 
 returns-2 : tie.Need-returns-2
+unfolding edited
 returns-2 c =
     let e = c .before .before .before .before .before .before .before .before .before .before in
     let list = e .args .list .now in
     let is = c .before .before .before .before .before .before .edit2 .given .1 in
-    let l = add-list _ _ _ _ _ is list in (
-      omega (arith, add-length _ _ _ _ _ is list (e .pre .1) (e .pre .0)),
+    let l = kind-list _ _ is list in (
+      omega (arith, kind-length _ _ is list (e .pre .1) (e .pre .0)),
       c .before .before .splice2 .ensures ∙ ap (λ (x : List ℕ). written x (e .args .out .now)) (sym l),
     )
 
@@ -96,12 +98,13 @@ same-length-3 : tie.Need-same-length-3
 same-length-3 c = search needs
 
 returns-3 : tie.Need-returns-3
+unfolding edited
 returns-3 c =
     let e = c .before .before .before .before .before .before .before .before .before .before in
     let list = e .args .list .now in
     let is = c .before .before .before .before .before .before .edit3 .given .1 in
-    let l = remove-list _ _ is list in (
-      omega (arith, remove-length _ _ is list (e .pre .1) (e .pre .0)),
+    let l = kind-list _ _ is list in (
+      omega (arith, kind-length _ _ is list (e .pre .1) (e .pre .0)),
       c .before .before .splice3 .ensures ∙ ap (λ (x : List ℕ). written x (e .args .out .now)) (sym l),
     )
 

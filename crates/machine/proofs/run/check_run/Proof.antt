@@ -10,7 +10,7 @@ use Rattle.machine.proofs.run.check_run.Tie as tie
 use Rattle.machine.proofs.run.check_run.Reads as reads
 use Rattle.machine.proofs.run.check_run.Lts as lts
 use Rattle.jobs.proofs.check.check_jobs.Reads as check-jobs-reads
-use Rattle.machine.proofs.run.check_room.Reads as check-room-reads
+use Rattle.tables.proofs.list.check_room.Reads as check-room-reads
 use Rattle.tables.proofs.answer.Checked.or_else.Reads as or-else-reads
 
 check-jobs-requires : tie.Need-check-jobs-requires
