@@ -1,26 +1,27 @@
--- The two lines of the starts where a window ends, start by start, and the piece that they tell
+-- What lies ahead of a length, start by start where a window ends, and the piece that is foreseen
 use mathlib.Core.Path.{_≡_, ap}
 use mathlib.Core.Bool.{Bool, true, false}
 use mathlib.Core.List.{List}
-use Prim.Native.Nat.{ℕ, _+_, _-_, _/_, _≤_, _<_, min}
+use Prim.Native.Nat.{ℕ, _+_, _-_, _/_, _≤_, _<_}
 use native.Mathlib.Omega.{arith}
 use native.Mathlib.Nat.{add-assoc}
 use native.Mathlib.Numerals.{add-one}
-use native.Mathlib.Decide.{decLt}
+use native.Mathlib.Decide.{ℕ-discrete, decLt}
 use lib.ListN.{length}
-use borrow.Author.Tests.{lt-ltb, le-ltb}
+use borrow.Author.Tests.{lt-ltb, le-ltb, eq-eqb, ne-eqb}
 use Rattle.scope.specs.Numbers.{when}
 use Rattle.scope.specs.Ticks.{supply, leastSupply}
 use Rattle.scope.specs.Windows.{Board, suppliedBy}
 use Rattle.theory.specs.Answers.{LegalTable}
-use Rattle.theory.specs.Ticks.{supply-up}
+use Rattle.theory.specs.Ticks.{supply-le, supply-up, least-over-all-starts}
 use Rattle.theory.specs.Rows.{endOf, table-row, supply-between, ends-enough, position-in, position-before}
-use Rattle.theory.specs.Pieces.{Lines, lines-on, lines-off, lines-all, piece-up, piece-flat}
+use Rattle.theory.specs.Pieces as pieces
+use Rattle.theory.specs.Pieces.{ahead-on, ahead-off, ahead-still, piece-up, piece-flat}
 use Rattle.supply.specs.declared.row.Position.{Position}
 use Rattle.supply.specs.declared.row.Ticks.{Ticks}
 use Rattle.supply.specs.declared.pieces.Ahead.{Ahead}
 use Rattle.supply.specs.Positions.{opens, closes, ticksFrom, Behind}
-use Rattle.supply.specs.Ahead.{joinedOf, Straight, Told}
+use Rattle.supply.specs.Ahead.{joinedOf, Foreseen, Told}
 
 module _ (b : Board) (ws : List ℕ) where
   abbrev σ : ℕ → Bool
@@ -51,10 +52,21 @@ module _ (b : Board) (ws : List ℕ) where
             (record { some = omega arith; same = λ y m. omega (arith, inside x (omega arith) (omega arith), inside (x + y) (omega arith) (omega arith)) })
       ]
 
+  -- they are not many
+  pub ticks-near : (p : Position) (x : ℕ) → ticksFrom ws p x .far ≤ opens ws p + closes ws p
+  unfolding ticksFrom
+  ticks-near p x =
+      elim (decLt x (opens ws p)) [ yes u ↦ rw (lt-ltb x (opens ws p) u) (omega arith) | no u ↦ rw (le-ltb x (opens ws p) (omega arith)) (omega arith) ]
+
   -- ---- one start more
 
+  -- its stretch is in its length, and no shorter than the least supply
+  pub within-length : LegalTable b ws → (t i f least : ℕ) → least ≡ leastSupply σ P t → f ≡ supply σ (endOf ws i) t → (least ≤ f) × (f ≤ t)
+  within-length ok t i f least low is =
+      (omega (arith, low, is, least-over-all-starts σ P (table-row b ws ok .repeats) (endOf ws i) t), omega (arith, is, supply-le σ (endOf ws i) t))
+
   module _ (ok : LegalTable b ws) (t i f least : ℕ) (a : Ahead) (low : least ≡ leastSupply σ P t) (is : f ≡ supply σ (endOf ws i) t)
-      (lines : Lines σ P (endOf ws) t i (a .on) (a .off) (a .reach)) where
+      (so-far : pieces.Ahead σ P (endOf ws) t i (a .flat) (a .rise)) (some : 0 < a .rise) where
     straight : (v : Bool) (far : ℕ) → After (endOf ws i + t) (record { on = v; far = far }) →
         (y : ℕ) → y ≤ far → supply σ (endOf ws i) (t + y) ≡ f + when v y
     straight v far k y h =
@@ -67,51 +79,54 @@ module _ (b : Board) (ws : List ℕ) where
           ap (supply σ 0) (add-assoc (endOf ws i) t y),
         )
 
-    joins-at : (v : Bool) (far : ℕ) → After (endOf ws i + t) (record { on = v; far = far }) →
-        let r = joinedOf a (record { on = v; far = far }) f least in Lines σ P (endOf ws) t (i + 1) (r .on) (r .off) (r .reach)
+    -- what lies ahead then, and that it is no further
+    pub record Joined (r : Ahead) : Type 0 where
+      pub ahead : pieces.Ahead σ P (endOf ws) t (i + 1) (r .flat) (r .rise)
+      pub rises : 0 < r .rise
+      pub most : r .rise ≤ a .rise
+
+    joins-at : (v : Bool) (far : ℕ) → After (endOf ws i + t) (record { on = v; far = far }) → Joined (joinedOf a (record { on = v; far = far }) (f - least))
     unfolding joinedOf
     joins-at true far k =
-        rw (add-one i, low)
-        (lines-on σ P (table-row b ws ok .repeats) (endOf ws) t i (a .on) (a .off) (a .reach) far f is lines (straight true far k))
+        record {
+          ahead = rw (add-one i, low) (ahead-on σ P (table-row b ws ok .repeats) (endOf ws) t i (a .flat) (a .rise) far f is so-far (straight true far k));
+          rises = omega (arith, some, k .some);
+          most = omega arith;
+        }
     joins-at false far k =
-        rw (add-one i, low)
-        (lines-off σ P (table-row b ws ok .repeats) (endOf ws) t i (a .on) (a .off) (a .reach) far f is lines
-        (λ y h. omega (arith, straight false far k y h)))
+        elim (ℕ-discrete (f - least) 0) [
+          | yes z ↦ rw (eq-eqb (f - least) 0 z) (record {
+            ahead = rw (add-one i) (ahead-still σ P (table-row b ws ok .repeats) (endOf ws) t i (a .flat) (a .rise) far f is so-far (k .some)
+                (omega (arith, z, low, within-length ok t i f least low is)) (λ y h. omega (arith, straight false far k y h)));
+            rises = some;
+            most = omega arith;
+          })
+          | no z ↦ rw (ne-eqb (f - least) 0 z) (record {
+            ahead = rw (add-one i, low) (ahead-off σ P (table-row b ws ok .repeats) (endOf ws) t i (a .flat) (a .rise) far f is so-far);
+            rises = omega (arith, some, z);
+            most = omega arith;
+          })
+        ]
 
-    reach-at : (v : Bool) (far : ℕ) → 0 < far → 0 < a .reach →
-        let r = joinedOf a (record { on = v; far = far }) f least in (0 < r .reach) × (r .reach ≤ a .reach)
-    unfolding joinedOf
-    reach-at true far k h = omega arith
-    reach-at false far k h = omega arith
+    pub joins : (k : Ticks) → After (endOf ws i + t) k → Joined (joinedOf a k (f - least))
+    joins k after = joins-at (k .on) (k .far) after
 
-    module _ (k : Ticks) (after : After (endOf ws i + t) k) where
-      pub joins : let r = joinedOf a k f least in Lines σ P (endOf ws) t (i + 1) (r .on) (r .off) (r .reach)
-      joins = joins-at (k .on) (k .far) after
+-- ---- the piece that is foreseen
 
-      pub reaches : 0 < a .reach → let r = joinedOf a k f least in (0 < r .reach) × (r .reach ≤ a .reach)
-      reaches l = reach-at (k .on) (k .far) (after .some) l
+module _ (b : Board) (ws : List ℕ) (t least : ℕ) (a : Ahead) (low : least ≡ leastSupply (suppliedBy b ws) (b .frame) t) (s : Foreseen b ws t a) where
+  pub least-within : least ≤ t
+  least-within = omega (arith, low, least-over-all-starts _ _ (table-row b ws (s .legal) .repeats) 0 t, supply-le (suppliedBy b ws) 0 t)
 
-  -- of all starts
-  pub lines-straight : (ok : LegalTable b ws) (t n : ℕ) (a : Ahead) → length ws / 2 ≤ n → 0 < a .reach → t + a .reach ≤ P →
-      Lines σ P (endOf ws) t n (a .on) (a .off) (a .reach) → Straight σ P t a
-  lines-straight ok t n a h l m lines =
-      let row = table-row b ws ok in
+  pub told-up : a .flat ≡ 0 → Told (suppliedBy b ws) (b .frame) t (record { rising = true; end = t + a .rise; least = least + a .rise })
+  told-up none =
+      let row = table-row b ws (s .legal) in
       record {
-        some = l;
-        most = m;
-        is = lines-all σ P (row .repeats) (endOf ws) t n (a .on) (a .off) (a .reach)
-            (λ u p q. ends-enough σ P _ _ (endOf ws) row u p (λ i v. q i (omega arith))) lines;
+        piece = rw low (piece-up _ _ (row .repeats) (endOf ws) t (length ws / 2) (a .flat) (a .rise) (s .ahead)
+            (λ u p q. ends-enough _ _ _ _ (endOf ws) row u p q) none (s .some));
+        most = s .most;
       }
 
--- ---- the piece of two lines
-
-module _ (σ : ℕ → Bool) (P t n : ℕ) (a : Ahead) (s : Straight σ P t a) where
-  pub told-up : a .on < a .off → n ≡ min (a .reach) (a .off - a .on) → Told σ P t (record { rising = true; end = t + n; least = a .on + n })
-  told-up h e =
-      record {
-        piece = rw e (piece-up σ P t (a .on) (a .off) (a .reach) (s .some) (s .is) h);
-        most = omega (arith, s .most);
-      }
-
-  pub told-flat : a .off ≤ a .on → Told σ P t (record { rising = false; end = t + a .reach; least = a .off })
-  told-flat h = record { piece = piece-flat σ P t (a .on) (a .off) (a .reach) (s .some) (s .is) h; most = s .most }
+  pub told-flat : (n : ℕ) → 0 < n → n ≤ a .flat → t + n ≤ b .frame → Told (suppliedBy b ws) (b .frame) t (record { rising = false; end = t + n; least = least })
+  told-flat n some h fits =
+      let row = table-row b ws (s .legal) in
+      record { piece = rw low (piece-flat _ _ (row .repeats) (endOf ws) t (length ws / 2) (a .flat) (a .rise) (s .ahead) n some h); most = fits }

@@ -10,18 +10,17 @@ use crate::supply::start_after;
 use tables::board::Board;
 use tables::window::window_at;
 ghost use mathlib.Core.Path.{_≡_};
-ghost use Prim.Native.Nat.{_<_, _≤_, max};
+ghost use Prim.Native.Nat.{_+_, _<_, _^_, max};
 ghost use Rattle.scope.specs.Ticks.{leastSupply};
 ghost use Rattle.scope.specs.Windows.{suppliedBy};
 ghost use Rattle.theory.specs.Answers.{LegalTable};
 ghost use Rattle.tables.specs.Told.{boardOf};
-ghost use Rattle.supply.specs.Ahead.{joinedOf, Straight, Told};
+ghost use Rattle.supply.specs.Ahead.{joinedOf, Foreseen, Told};
 
-// The lesser of on + x and off is the least supply of t + x, for x up to reach.
+// What lies ahead of a length: the least supply stays for `flat` lengths or, where that is none, rises at each of `rise`.
 struct Ahead {
-    on: u32,
-    off: u32,
-    reach: u32,
+    flat: u32,
+    rise: u32,
 }
 
 // Lengths up to `end` over which the least supply rises at each tick or at none, and what it is at `end`.
@@ -37,41 +36,44 @@ pub(crate) fn larger(a: u32, b: u32) -> u32
     if a < b { b } else { a }
 }
 
-// One start more, whose stretch has `supply`. It may bend within the reach where it stays above the least supply anyway.
-fn joined(ahead: Ahead, ticks: Ticks, supply: u32, least: u32) -> Ahead
-    requires { ⌜ least ≤ supply ⌝ }
-    ensures { λ r. ⌜ r ≡ joinedOf ahead ticks supply least ⌝ }
+// One start more, whose stretch has `over` ticks more than the least supply. At the least, it keeps it there up to its next supplied tick; else the least can
+// rise until it meets this start.
+fn joined(ahead: Ahead, ticks: Ticks, over: u32) -> Ahead
+    requires { ⌜ ticks .far + over < 2 ^ 32 ⌝ }
+    ensures { λ r. ⌜ r ≡ joinedOf ahead ticks over ⌝ }
 {
-    let far = larger(ticks.far, supply - least);
-    let reach = lesser(ahead.reach, far);
     if ticks.on {
-        let on = lesser(ahead.on, supply);
+        let rise = lesser(ahead.rise, ticks.far + over);
         return Ahead {
-            on,
-            off: ahead.off,
-            reach,
+            flat: ahead.flat,
+            rise,
         };
     }
-    let off = lesser(ahead.off, supply);
+    if over == 0 {
+        let flat = larger(ahead.flat, ticks.far);
+        return Ahead {
+            flat,
+            rise: ahead.rise,
+        };
+    }
+    let rise = lesser(ahead.rise, over);
     Ahead {
-        on: ahead.on,
-        off,
-        reach,
+        flat: ahead.flat,
+        rise,
     }
 }
 
-// The two lines from length t on, whose least supply is `least`, over the starts where a window ends.
-fn lines_from(board: Board, windows: &[u32], t: u32, least: u32) -> Ahead
+// What lies ahead of length t, whose least supply is `least`, over the starts where a window ends.
+fn ahead_of(board: Board, windows: &[u32], t: u32, least: u32) -> Ahead
     requires { ⌜ LegalTable (boardOf board) (now windows) × (t < board .frame)
         × (least ≡ leastSupply (suppliedBy (boardOf board) (now windows)) (board .frame) t) ⌝ }
-    ensures { λ r. ⌜ Straight (suppliedBy (boardOf board) (now (windows .entry))) (board .frame) t r ⌝ }
+    ensures { λ r. ⌜ Foreseen (boardOf board) (now (windows .entry)) t r ⌝ }
 {
     let frame = board.frame;
     let count = windows.len() / 2;
     let mut ahead = Ahead {
-        on: frame,
-        off: frame,
-        reach: frame - t,
+        flat: 0,
+        rise: frame - t,
     };
     let mut earlier = 0;
     let mut position = Position::first();
@@ -83,7 +85,7 @@ fn lines_from(board: Board, windows: &[u32], t: u32, least: u32) -> Ahead
         position = moved(board, windows, position, end);
         let ticks = ticks_after(windows, position, end);
         let supply = upto(windows, position, end) - start.before;
-        ahead = joined(ahead, ticks, supply, least);
+        ahead = joined(ahead, ticks, supply - least);
         earlier = start.before;
         i += 1;
     }
@@ -96,21 +98,20 @@ pub(crate) fn piece_from(board: Board, windows: &[u32], t: u32, least: u32) -> P
         × (least ≡ leastSupply (suppliedBy (boardOf board) (now windows)) (board .frame) t) ⌝ }
     ensures { λ r. ⌜ Told (suppliedBy (boardOf board) (now (windows .entry))) (board .frame) t r ⌝ }
 {
-    let ahead = lines_from(board, windows, t, least);
-    let on = ahead.on;
-    let off = ahead.off;
-    let reach = ahead.reach;
-    if on < off {
-        let n = lesser(reach, off - on);
+    let ahead = ahead_of(board, windows, t, least);
+    let flat = ahead.flat;
+    if flat == 0 {
+        let n = ahead.rise;
         return Piece {
             rising: true,
             end: t + n,
-            least: on + n,
+            least: least + n,
         };
     }
+    let n = lesser(flat, board.frame - t);
     Piece {
         rising: false,
-        end: t + reach,
-        least: off,
+        end: t + n,
+        least,
     }
 }

@@ -1,22 +1,23 @@
 use borrow.Author.Needs.{needs}
 use native.Mathlib.Omega.{arith}
-use Prim.Native.Nat.{ℕ, _+_, _-_, _*_, _≤_, _<_}
+use Prim.Native.Nat.{ℕ, _+_, _-_, _*_, _/_, _≤_, _<_}
 use mathlib.Core.Path.{_≡_, ap, _∙_}
+use lib.ListN.{length}
+use Rattle.scope.specs.Limits.{mostFrame}
 use Rattle.scope.specs.Ticks.{supply}
 use Rattle.scope.specs.Windows.{suppliedBy}
 use Rattle.theory.specs.Answers.{LegalTable}
-use Rattle.theory.specs.Ticks.{least-over-all-starts}
 use Rattle.theory.specs.Rows.{endOf, table-row}
-use Rattle.theory.specs.Pieces.{Lines, lines-none}
+use Rattle.theory.specs.Pieces.{Ahead, ahead-none}
 use Rattle.tables.specs.Told.{boardOf, windowOf}
-use Rattle.supply.specs.Positions.{Behind}
+use Rattle.supply.specs.Positions.{opens, closes, Behind}
 use Rattle.supply.proofs.PositionLaws.{small, upto-is}
 use Rattle.supply.proofs.SupplyLaws.{Passed, Known, passed-none, still-behind, known, ends, here, passed-next}
-use Rattle.supply.proofs.PieceLaws.{After, ticks-alike, joins, reaches, lines-straight}
-use Rattle.supply.proofs.pieces.lines_from.Statement.{statement}
-use Rattle.supply.proofs.pieces.lines_from.Tie as tie
-use Rattle.supply.proofs.pieces.lines_from.Reads as reads
-use Rattle.supply.proofs.pieces.lines_from.Lts as lts
+use Rattle.supply.proofs.PieceLaws.{After, ticks-alike, ticks-near, within-length, joins}
+use Rattle.supply.proofs.pieces.ahead_of.Statement.{statement}
+use Rattle.supply.proofs.pieces.ahead_of.Tie as tie
+use Rattle.supply.proofs.pieces.ahead_of.Reads as reads
+use Rattle.supply.proofs.pieces.ahead_of.Lts as lts
 use Rattle.supply.proofs.pieces.joined.Reads as joined-reads
 use Rattle.supply.proofs.row.Position.first.Reads as first-reads
 use Rattle.supply.proofs.row.moved.Reads as moved-reads
@@ -28,8 +29,8 @@ use Rattle.tables.proofs.window.window_at.Reads as window-at-reads
 abbrev Inv-loop : tie.InvT-loop
 Inv-loop board windows t least frame count ahead₀ earlier₀ position₀ i₀ ahead earlier position i =
     let b = boardOf board in
-    (ok : LegalTable b windows) × Passed b windows ok t i earlier position × (0 < ahead .reach) × (t + ahead .reach ≤ frame)
-    × Lines (suppliedBy b windows) (board .frame) (endOf windows) t i (ahead .on) (ahead .off) (ahead .reach)
+    (ok : LegalTable b windows) × Passed b windows ok t i earlier position × (0 < ahead .rise) × (t + ahead .rise ≤ frame)
+    × Ahead (suppliedBy b windows) (board .frame) (endOf windows) t i (ahead .flat) (ahead .rise) × (i ≤ count)
 
 abbrev μ-loop : tie.MeasureT-loop
 μ-loop board windows t least frame count ahead₀ earlier₀ position₀ i₀ ahead earlier position i = count - i
@@ -47,7 +48,8 @@ loop-holds c =
       passed-none _ _ ok _ _ (c .first .ensures),
       omega arith,
       omega arith,
-      lines-none _ _ (table-row _ _ ok .repeats) _ _ _ _ (omega arith),
+      ahead-none _ _ (table-row _ _ ok .repeats) _ _ _,
+      omega arith,
     )
 
 window-at-requires : tie.Need-window-at-requires Inv-loop μ-loop
@@ -118,18 +120,25 @@ held c =
 sub-supply : tie.Need-sub-supply Inv-loop μ-loop
 sub-supply c = held (c .before) .fits
 
-joined-requires : tie.Need-joined-requires Inv-loop μ-loop
-joined-requires c κs =
+sub-joined : tie.Need-sub-joined Inv-loop μ-loop
+sub-joined c =
     let w = c .before .before .before .before .before .before in
     let l = w .before .before .loop in
     let e = w .before .before .before .before .before in
-    let a = e .args in
-    omega (
-      arith,
-      e .pre .2,
-      held (c .before) .is,
-      least-over-all-starts (suppliedBy (boardOf (a .board)) (a .windows .now)) (a .board .frame) (table-row _ _ (l .inv .0) .repeats) (endOf (a .windows .now) (l .i)) (a .t),
-    )
+    within-length (boardOf (e .args .board)) (e .args .windows .now) (l .inv .0) (e .args .t) (l .i) _ (e .args .least) (e .pre .2) (held (c .before) .is) .0
+
+joined-requires : tie.Need-joined-requires Inv-loop μ-loop
+joined-requires c κs =
+    let m = c .before .before .before .moved in
+    let w = c .before .before .before .before .before .before in
+    let l = w .before .before .loop in
+    let e = w .before .before .before .before .before in
+    let ws = e .args .windows .now in
+    let k = c .before .before .ticks-after in
+    let near : k .result .far ≤ opens ws (m .result) + closes ws (m .result) = rw (k .ensures) (ticks-near (boardOf (e .args .board)) ws (m .result) _) in
+    let far : k .result .far ≤ 8 * mostFrame = omega (arith, near, small _ _ (m .result) (m .ensures .0 .stands)) in
+    let f = within-length (boardOf (e .args .board)) ws (l .inv .0) (e .args .t) (l .i) _ (e .args .least) (e .pre .2) (held (c .before) .is) in
+    omega (arith, far, f .1, e .pre .1, l .inv .0 .frame-most)
 
 add-i : tie.Need-add-i Inv-loop μ-loop
 add-i c = search needs
@@ -149,22 +158,24 @@ loop-again c =
     let h = held u in
     let k = u .before .ticks-after .result in
     let f = u .upto .result - u .before .before .before .before .start-after .result .before in
-    let reach = reaches b ws (l .inv .0) (a .t) (l .i) f (a .least) (l .ahead) (e .pre .2) (h .is) (l .inv .4) k (h .after) (l .inv .2) in (
+    let j = joins b ws (l .inv .0) (a .t) (l .i) f (a .least) (l .ahead) (e .pre .2) (h .is) (l .inv .4) (l .inv .2) k (h .after) in (
       l .inv .0,
       rw (u .before .before .before .before .start-after .ensures .1)
           (passed-next b ws (l .inv .0) (a .t) (l .i) (l .earlier) (l .position) (l .inv .1) (omega arith) _ (w .window-at .ensures) _ (h .behind)),
-      rw (c .joined .ensures) (reach .0),
-      rw (c .joined .ensures) (omega (arith, reach .1, l .inv .3)),
-      rw (c .joined .ensures) (joins b ws (l .inv .0) (a .t) (l .i) f (a .least) (l .ahead) (e .pre .2) (h .is) (l .inv .4) k (h .after)),
+      rw (c .joined .ensures) (j .rises),
+      rw (c .joined .ensures) (omega (arith, j .most, l .inv .3)),
+      rw (c .joined .ensures) (j .ahead),
+      omega arith,
     )
 
 returns : tie.Need-returns Inv-loop μ-loop
 returns c =
     let l = c .before .loop in
-    lines-straight _ _ (l .inv .0) _ (l .i) (l .ahead) (omega arith) (l .inv .2) (l .inv .3) (l .inv .4)
+    let all : l .i ≡ length (c .before .before .before .before .args .windows .now) / 2 = omega (arith, l .inv .5) in
+    record { legal = l .inv .0; some = l .inv .2; most = l .inv .3; ahead = rw all at (l .inv .4) }
 
-pub lines-from-spec : {M : Type 1} → statement M
-lines-from-spec =
+pub ahead-of-spec : {M : Type 1} → statement M
+ahead-of-spec =
     tie.close
     (tie.spec
     Inv-loop
@@ -179,6 +190,7 @@ lines-from-spec =
     ticks-after-requires
     upto-requires
     sub-supply
+    sub-joined
     joined-requires
     add-i
     loop-less
