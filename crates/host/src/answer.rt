@@ -15,7 +15,7 @@ pub struct Answer {
 }
 
 impl Answer {
-    // a: number of document 01, b: place
+    // a: the documents' number, b: place
     pub const REFUSED: u32 = 0;
     // a: amount
     pub const AMOUNT: u32 = 1;
