@@ -536,28 +536,27 @@ static uint32_t larger(uint32_t a, uint32_t b)
     return a < b ? b : a;
 }
 
-/* the lesser of on + x and off is the least supply of t + x, for x up to reach */
+/* the least supply stays for `flat` lengths or, where that is none, rises at each of `rise` */
 struct ahead {
-    uint32_t on;
-    uint32_t off;
-    uint32_t reach;
+    uint32_t flat;
+    uint32_t rise;
 };
 
-/* one start more, whose stretch has `supply` */
-static struct ahead joined(struct ahead ahead, struct ticks ticks, uint32_t supply, uint32_t least)
+/* one start more, whose stretch has `over` ticks more than the least supply */
+static struct ahead joined(struct ahead ahead, struct ticks ticks, uint32_t over)
 {
-    uint32_t far = larger(ticks.far, supply - least);
-    uint32_t reach = smaller(ahead.reach, far);
     if (ticks.on)
-        return (struct ahead){smaller(ahead.on, supply), ahead.off, reach};
-    return (struct ahead){ahead.on, smaller(ahead.off, supply), reach};
+        return (struct ahead){ahead.flat, smaller(ahead.rise, ticks.far + over)};
+    if (over == 0)
+        return (struct ahead){larger(ahead.flat, ticks.far), ahead.rise};
+    return (struct ahead){ahead.flat, smaller(ahead.rise, over)};
 }
 
-/* the two lines from length t on, over the starts where a window ends */
-static struct ahead lines_from(uint32_t frame, struct list windows, uint32_t t, uint32_t least)
+/* what lies ahead of length t, over the starts where a window ends */
+static struct ahead ahead_of(uint32_t frame, struct list windows, uint32_t t, uint32_t least)
 {
     size_t count = windows.len / 2;
-    struct ahead ahead = {frame, frame, frame - t};
+    struct ahead ahead = {0, frame - t};
     uint32_t earlier = 0;
     struct position at = {0, 0, 0};
     for (size_t i = 0; i < count; i++) {
@@ -565,7 +564,7 @@ static struct ahead lines_from(uint32_t frame, struct list windows, uint32_t t, 
         earlier += end_of(windows, i) - start_of(windows, i);
         move_on(frame, windows, &at, end);
         struct ticks ticks = ticks_after(windows, &at, end);
-        ahead = joined(ahead, ticks, upto(windows, &at, end) - earlier, least);
+        ahead = joined(ahead, ticks, upto(windows, &at, end) - earlier - least);
     }
     return ahead;
 }
@@ -579,12 +578,10 @@ struct piece {
 
 static struct piece piece_from(uint32_t frame, struct list windows, uint32_t t, uint32_t least)
 {
-    struct ahead ahead = lines_from(frame, windows, t, least);
-    if (ahead.on < ahead.off) {
-        uint32_t n = smaller(ahead.reach, ahead.off - ahead.on);
-        return (struct piece){true, t + n, ahead.on + n};
-    }
-    return (struct piece){false, t + ahead.reach, ahead.off};
+    struct ahead ahead = ahead_of(frame, windows, t, least);
+    if (ahead.flat == 0)
+        return (struct piece){true, t + ahead.rise, least + ahead.rise};
+    return (struct piece){false, t + smaller(ahead.flat, frame - t), least};
 }
 
 /* Critical partition, delay and outage: partition.rt */
