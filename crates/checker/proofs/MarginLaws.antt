@@ -21,8 +21,8 @@ use Rattle.scope.specs.Summary.{ticksBefore, leastFrom, marginFrom, summaryFaul
 use Rattle.theory.specs.Answers.{orElse-fine, fault-not-fine, unless-given, frame-legal, length-legal, lengths-each, room-fine, table-framed, LegalGroup, group-legal}
 use Rattle.theory.specs.Buffers.{written-more}
 use Rattle.tables.proofs.FaultLaws.{fault-of}
-use Rattle.supply.specs.Search.{mostTicks, fromAnswer}
-use Rattle.supply.proofs.SearchLaws.{ticks-small}
+use Rattle.summaries.specs.Least.{mostTicks, fromAnswer}
+use Rattle.summaries.proofs.LeastLaws.{ticks-small}
 use Rattle.checker.proofs.DemandLaws.{sub-kept, demand-most}
 
 -- ---- the lengths, one after the other

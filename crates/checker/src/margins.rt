@@ -3,7 +3,7 @@ use crate::demand::demand_of;
 use crate::demand::difference;
 use shared::table::Owned;
 use shared::table::own_windows;
-use supply::search::least_from;
+use summaries::least::least_from;
 use supply::summary::check_summary;
 use tables::answer::Amount;
 use tables::answer::Checked;

@@ -1,7 +1,8 @@
 // The lengths at which the demand of a group rises, one after the other: no length between them is looked at, and nothing is divided.
+use tables::number::lesser;
 use tables::task::task_at;
 ghost use mathlib.Core.Path.{_≡_};
-ghost use Prim.Native.Nat.{_-_, _/_, _<_, _≤_, min};
+ghost use Prim.Native.Nat.{_-_, _/_, _<_, _≤_};
 ghost use lib.ListN.{length as lengthOf, getD, set};
 ghost use Rattle.scope.specs.Limits.{mostTasks, mostLength};
 ghost use Rattle.scope.specs.Tasks.{tasksOf, taskAt};
@@ -46,12 +47,6 @@ fn reach(tasks: &[u32], due: &mut [u32], i: usize, length: u32) -> u64
     let task = task_at(tasks, i);
     due[i] = length + task.period;
     task.work as u64
-}
-
-fn lesser(a: u32, b: u32) -> u32
-    ensures { λ r. ⌜ r ≡ min a b ⌝ }
-{
-    if b < a { b } else { a }
 }
 
 // On to a length, where `due` has the deadlines after the length before it: those that are reached move on by a period.

@@ -15,9 +15,8 @@ use Rattle.scope.specs.Summary.{summaryOf, makeFault, makeOut, summaryFault, Ed
 use Rattle.theory.specs.Answers.{fault-not-fine, orElse-fine, fine-room, room-fault}
 use Rattle.theory.specs.Lists.{pieces-length}
 use Rattle.theory.specs.Shared.{whole, shared-parts, own-fine}
-use Rattle.theory.specs.Buffers.{take-written, length-written}
+use Rattle.theory.specs.Buffers.{take-written, length-written, after}
 use Rattle.theory.specs.Edits.{Allowed, index-allowed, countAfter, edited-length}
-use Rattle.supply.proofs.PartitionLaws.{after}
 use Rattle.edits.specs.declared.edit.Edit as declared
 use Rattle.edits.specs.declared.edit.Edit.the-variants.{Move, Add, Remove}
 use Rattle.edits.specs.Told.{editOf}

@@ -2,8 +2,8 @@
 use crate::answer::Answer;
 use crate::answer::amount_answer;
 use checker::margins::margins;
-use supply::summary::least_supply;
-use supply::summary::make_summary;
+use summaries::summary::least_supply;
+use summaries::summary::make_summary;
 use tables::board::Board;
 ghost use mathlib.Core.Path.{_≡_};
 ghost use lib.ListN.{length};

@@ -2,9 +2,11 @@ use crate::late::late;
 use crate::pending::Pending;
 use jobs::check::Run;
 use tables::cursor::Cursor;
+use tables::number::larger;
+use tables::number::lesser;
 use tables::task::Task;
 ghost use mathlib.Core.Path.{_≡_};
-ghost use Prim.Native.Nat.{_+_, _<_, _^_, min, max};
+ghost use Prim.Native.Nat.{_+_, _<_, _^_};
 ghost use lib.ListN.{length};
 ghost use Rattle.scope.specs.Limits.{mostTasks, mostJobs};
 ghost use Rattle.machine.specs.Places.{allPlaces};
@@ -69,7 +71,7 @@ impl RunState {
     {
         let pending = Pending { bits: self.pending };
         let mut s = self;
-        s.backlog = greater(self.backlog, pending.count());
+        s.backlog = larger(self.backlog, pending.count());
         s
     }
 
@@ -105,16 +107,4 @@ impl RunState {
         }
         s
     }
-}
-
-fn lesser(a: u32, b: u32) -> u32
-    ensures { λ r. ⌜ r ≡ min a b ⌝ }
-{
-    if b < a { b } else { a }
-}
-
-fn greater(a: u32, b: u32) -> u32
-    ensures { λ r. ⌜ r ≡ max a b ⌝ }
-{
-    if a < b { b } else { a }
 }

@@ -7,7 +7,7 @@ use crate::lines;
 use crate::stream::Cursor;
 use crate::stream::any;
 use crate::stream::bad;
-use crate::summaries;
+use crate::summary_entries;
 use libc::STDIN_FILENO;
 ghost use mathlib.Core.Path.{_≡_};
 ghost use lib.ListN.{length};
@@ -56,10 +56,10 @@ fn on_board(stream: &[u8], from: Cursor) -> Cursor {
     let after = code.after;
     let entry = code.value;
     match entry {
-        20 => summaries::make(stream, after, asked),
-        21 => summaries::least_supply(stream, after, asked),
-        22 => summaries::margins(stream, after, asked),
-        23 => summaries::edit(stream, after, asked),
+        20 => summary_entries::make(stream, after, asked),
+        21 => summary_entries::least_supply(stream, after, asked),
+        22 => summary_entries::margins(stream, after, asked),
+        23 => summary_entries::edit(stream, after, asked),
         _ => over_table(stream, start, asked),
     }
 }

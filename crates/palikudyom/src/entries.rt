@@ -18,6 +18,7 @@ use crate::stream::room;
 use checker::bound;
 use checker::demand;
 use checker::verdict;
+use gaps::outage;
 use machine::run;
 use shared::table::as_owned;
 use supply::partition;
@@ -178,7 +179,7 @@ pub(crate) fn outage(stream: &[u8], from: Cursor, asked: Asked) -> Cursor {
     if end.good {
         let board = w.board;
         let m = w.count;
-        lines::amount(b"OUTAGE ", partition::outage(board, &windows[..m]));
+        lines::amount(b"OUTAGE ", outage::outage(board, &windows[..m]));
     }
     end
 }

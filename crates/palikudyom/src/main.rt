@@ -8,7 +8,7 @@ mod input;
 mod lines;
 mod plan_file;
 mod stream;
-mod summaries;
+mod summary_entries;
 mod trace_file;
 
 use crate::trace_file::Before;

@@ -3,4 +3,3 @@ pub mod SupplyLaws
 pub mod PieceLaws
 pub mod PartitionLaws
 pub mod SummaryLaws
-pub mod SearchLaws

@@ -1,27 +1,25 @@
 -- The critical partition and the delay as the code finds them, piece by piece
 use mathlib.Core.Path.{_≡_, refl, sym, ap, _∙_}
 use mathlib.Core.Bool.{Bool, true, false, cond, not, _&&_, Bool·beq, and-true, and-assoc}
-use mathlib.Core.List.{List, [], _∷_, _++_, append-assoc, append-nil}
+use mathlib.Core.List.{List, [], _∷_, _++_}
 use mathlib.Core.Logic.{inl, inr}
 use Prim.Native.Nat.{ℕ, zero, suc, _+_, _-_, _*_, _≤_, _<_}
 use native.Mathlib.Nat.{add-zero, zero-add, add-suc}
 use native.Mathlib.Numerals.{add-one}
 use native.Mathlib.Omega.{arith}
 use lib.Dec.{ltb, eqb}
-use lib.ListN.{length, getD, set, take, drop, length-append, take-append-drop}
-use lib.Seq.{length-take-le}
+use lib.ListN.{length, getD, drop, length-append}
 use borrow.Author.Tests.{lt-ltb}
-use Rattle.scope.specs.Numbers.{greatest, keep, written}
+use Rattle.scope.specs.Numbers.{greatest, keep}
 use Rattle.scope.specs.Ticks.{Periodic, perFrame, leastSupply}
 use Rattle.scope.specs.Windows.{Board, suppliedBy}
 use Rattle.scope.specs.Partition.{rises, within, edge, maximalRuns, critical, lag, delay}
-use Rattle.scope.specs.Answers.{Fault.fine, Fault.fault, tableFault, roomFault, criticalOf, criticalFault}
+use Rattle.scope.specs.Answers.{Fault.fine, Fault.fault, tableFault, criticalOf, criticalFault}
 use Rattle.scope.specs.Summary.{begins}
 use Rattle.theory.specs.Numbers.{bool-cases}
-use Rattle.theory.specs.Lists.{keep-hit, keep-miss}
+use Rattle.theory.specs.Lists.{keep-most, keep-hit, keep-miss}
 use Rattle.theory.specs.MaximalRuns.{within-in, within-out}
 use Rattle.theory.specs.Delay.{least-average, lag-exact}
-use Rattle.theory.specs.Buffers.{written-more}
 use Rattle.tables.proofs.FaultLaws.{then-short, then-roomy}
 use Rattle.supply.specs.declared.partition.Met.{Met}
 use Rattle.supply.specs.declared.pieces.Piece.{Piece}
@@ -51,10 +49,6 @@ module _ (p : ℕ → Bool) where
   count-turn : (n : ℕ) → (length (keep p n) ≤ length (keep p (n + 1))) × (length (keep p (n + 1)) ≤ length (keep p n) + 1)
   count-turn n =
       elim (bool-cases (p n)) [ inl e ↦ omega (arith, count-hit n e) | inr e ↦ omega (arith, count-miss n e) ]
-
-  pub count-le : (n : ℕ) → length (keep p n) ≤ n
-  count-le zero = omega (arith, ap length kept-none)
-  count-le (suc n) = rw (← add-one) (omega (arith, count-turn n, count-le n))
 
   count-add : (n m : ℕ) → length (keep p n) ≤ length (keep p (n + m))
   count-add n zero = rw (add-zero n) (omega arith)
@@ -142,7 +136,7 @@ module _ (b : Board) (ws : List ℕ) where
 
   -- no more of them than lengths
   pub edges-few : (t : ℕ) → length (edges b ws t) ≤ t
-  edges-few t = count-le (edge risen) t
+  edges-few t = keep-most (edge risen) t
 
   -- a piece from t on, before which it rose or not
   module _ (t : ℕ) (p : Piece) (told : Told σ P t p) (before : Bool) (is : before ≡ rose b ws t) where
@@ -241,23 +235,6 @@ module _ (held : List ℕ) (from : ℕ) (l : List ℕ) (x : ℕ) (m : Met) (so :
   pub counted-next : (here : Bool) (next : List ℕ) → (here ≡ true → next ≡ l ++ (x ∷ [])) → (here ≡ false → next ≡ l) → Counted held from next (metOf m held from here x)
   counted-next true next more still = rw (more refl) counted-more
   counted-next false next more still = rw (still refl) counted-still
-
--- ---- a buffer d with a list written after its first numbers
-
-abbrev pub after : ℕ → List ℕ → List ℕ → List ℕ
-after from d l = written (take from d ++ l) d
-
-module _ (from : ℕ) (d : List ℕ) (h : from ≤ length d) where
-  pub after-none : d ≡ after from d []
-  unfolding written
-  after-none = rw (append-nil (take from d), length-take-le from d h) (sym (take-append-drop from d))
-
-  pub after-more : (l out : List ℕ) (at a : ℕ) → at ≡ from + length l → at < length d → out ≡ after from d l → set out at a ≡ after from d (l ++ (a ∷ []))
-  after-more l out at a e m is =
-      let z : length (take from d ++ l) ≡ at = omega (arith, length-append (take from d) l, length-take-le from d h) in
-      let u : length (take from d ++ l) < length d = omega arith in
-      ap (λ (o : List ℕ). set o at a) is ∙ ap (λ (n : ℕ). set (after from d l) n a) (sym z) ∙ written-more (take from d ++ l) d a u
-      ∙ ap (λ (x : List ℕ). written x d) (append-assoc (take from d) l (a ∷ []))
 
 -- ---- the critical partition
 

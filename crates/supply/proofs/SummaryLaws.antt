@@ -1,5 +1,5 @@
 -- A summary as the code makes it, and holds it against numbers
-use mathlib.Core.Path.{_≡_, refl, sym, ap, ap₂, _∙_}
+use mathlib.Core.Path.{_≡_, refl, ap, _∙_}
 use mathlib.Core.Bool.{Bool, true, false, _&&_}
 use mathlib.Core.List.{List, [], _∷_}
 use Prim.Native.Nat.{ℕ, _+_, _/_, _≤_, _<_}
@@ -8,14 +8,12 @@ use lib.ListN.{length, set, drop}
 use Rattle.scope.specs.Numbers.{written}
 use Rattle.scope.specs.Ticks.{perFrame}
 use Rattle.scope.specs.Windows.{Board, suppliedBy}
-use Rattle.scope.specs.Partition.{delay}
-use Rattle.scope.specs.Answers.{Fault.fine, Fault.fault, windowListFault, frameFault, tableFault, criticalOf}
-use Rattle.scope.specs.Summary.{summaryOf, makeFault, begins, summaryFault, leastFromAnswer}
-use Rattle.theory.specs.Answers.{orElse-fine}
+use Rattle.scope.specs.Partition.{delay as delayOf}
+use Rattle.scope.specs.Answers.{Fault.fine, Fault.fault, tableFault, criticalOf}
+use Rattle.scope.specs.Summary.{summaryOf, makeFault, begins}
+use Rattle.theory.specs.Buffers.{after}
 use Rattle.tables.proofs.FaultLaws.{then-short, then-roomy}
 use Rattle.supply.specs.Measures.{hasAt}
-use Rattle.supply.specs.Search.{fromAnswer}
-use Rattle.supply.proofs.PartitionLaws.{after}
 
 -- ---- making
 
@@ -35,12 +33,12 @@ headed (x ∷ y ∷ []) l a d n h = absurd (omega arith)
 headed (x ∷ y ∷ z ∷ o) l a d n h = refl
 
 module _ (b : Board) (ws : List ℕ) where
-  pub made : (o o₁ : List ℕ) (whole late count : ℕ) → 3 ≤ length o → o₁ ≡ whole ∷ late ∷ count ∷ drop 3 o →
-      whole ≡ perFrame (suppliedBy b ws) (b .frame) → late ≡ delay (suppliedBy b ws) (b .frame) → count ≡ length (criticalOf b ws) / 2 →
+  pub made : (o o₁ : List ℕ) (whole delay count : ℕ) → 3 ≤ length o → o₁ ≡ whole ∷ delay ∷ count ∷ drop 3 o →
+      whole ≡ perFrame (suppliedBy b ws) (b .frame) → delay ≡ delayOf (suppliedBy b ws) (b .frame) → count ≡ length (criticalOf b ws) / 2 →
       after 3 o₁ (criticalOf b ws) ≡ written (summaryOf b ws) o
   unfolding summaryOf
-  made o o₁ whole late count h e f g k =
-      ap (λ (x : List ℕ). after 3 x (criticalOf b ws)) e ∙ headed o (criticalOf b ws) whole late count h ∙ rw (f, g, k)
+  made o o₁ whole delay count h e f g k =
+      ap (λ (x : List ℕ). after 3 x (criticalOf b ws)) e ∙ headed o (criticalOf b ws) whole delay count h ∙ rw (f, g, k)
 
   pub summary-numbers : (n : ℕ) → n ≡ length (criticalOf b ws) → n + 3 ≡ length (summaryOf b ws)
   unfolding summaryOf
@@ -61,7 +59,7 @@ module _ (b : Board) (ws : List ℕ) where
 -- the first three numbers of a fresh making, as the code has found them
 pub record Head (b : Board) (ws : List ℕ) (a d n : ℕ) : Type 0 where
   pub whole : a ≡ perFrame (suppliedBy b ws) (b .frame)
-  pub late : d ≡ delay (suppliedBy b ws) (b .frame)
+  pub delay : d ≡ delayOf (suppliedBy b ws) (b .frame)
   pub count : n ≡ length (criticalOf b ws) / 2
 
 -- four tests: three numbers, and the rest
@@ -75,7 +73,7 @@ begins-tests a d n l (x ∷ y ∷ z ∷ s) = refl
 module _ {b : Board} {ws : List ℕ} {a d n : ℕ} (head : Head b ws a d n) (s : List ℕ) where
   tests : begins (summaryOf b ws) s ≡ (hasAt s 0 a && (hasAt s 1 d && (hasAt s 2 n && begins (criticalOf b ws) (drop 3 s))))
   unfolding summaryOf
-  tests = rw (head .whole, head .late, head .count) (begins-tests _ _ _ _ s)
+  tests = rw (head .whole, head .delay, head .count) (begins-tests _ _ _ _ s)
 
   pub not-first : hasAt s 0 a ≡ false → begins (summaryOf b ws) s ≡ false
   not-first e = tests ∙ rw e
@@ -93,14 +91,3 @@ module _ {b : Board} {ws : List ℕ} {a d n : ℕ} (head : Head b ws a d n) (s :
 
   pub all-three : hasAt s 0 a ≡ true → hasAt s 1 d ≡ true → hasAt s 2 n ≡ true → begins (summaryOf b ws) s ≡ begins (criticalOf b ws) (drop 3 s)
   all-three e f g = tests ∙ rw (e, f, g)
-
--- ---- a legal list of windows has a frame
-
-frame-fine : (b : Board) (ws : List ℕ) → tableFault b ws ≡ fine → frameFault b ≡ fine
-unfolding tableFault
-frame-fine b ws e = orElse-fine (frameFault b) _ (orElse-fine (windowListFault ws) _ e .1) .0
-
--- what its summary tells is the answer, where it belongs
-pub from-belonging : (b : Board) (ws s : List ℕ) (t : ℕ) → tableFault b ws ≡ fine → summaryFault b ws s ≡ fine → fromAnswer b s t ≡ leastFromAnswer b ws s t
-unfolding fromAnswer leastFromAnswer
-from-belonging b ws s t e f = rw (frame-fine b ws e, e, f)

@@ -6,7 +6,7 @@ use mathlib.Core.List.{List, [], _∷_}
 use lib.Dec.{eqb}
 use lib.ListN.{length, drop}
 use Rattle.scope.specs.Windows.{Board, suppliedBy}
-use Rattle.scope.specs.Partition.{delay}
+use Rattle.scope.specs.Partition.{delay as delayOf}
 use Rattle.scope.specs.Answers.{criticalOf}
 use Rattle.scope.specs.Summary.{begins}
 use Rattle.supply.specs.declared.partition.Met.{Met}
@@ -24,5 +24,5 @@ metOf m held from here t = cond here (record { count = m .count + 1; same = m .s
 
 pub record Measured (b : Board) (ws held : List ℕ) (from : ℕ) (m : Measure) : Type 0 where
   pub numbers : m .numbers ≡ length (criticalOf b ws)
-  pub late : m .late ≡ delay (suppliedBy b ws) (b .frame)
+  pub delay : m .delay ≡ delayOf (suppliedBy b ws) (b .frame)
   pub same : m .same ≡ begins (criticalOf b ws) (drop from held)

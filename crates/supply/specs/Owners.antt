@@ -1,6 +1,6 @@
 -- Request 4, of what `supplied` answers: no tick is supplied to both owners
 use mathlib.Core.Path.{_≡_, refl, sym, ap, _∙_}
-use mathlib.Core.Bool.{Bool, true}
+use mathlib.Core.Bool.{true}
 use mathlib.Core.List.{List}
 use Prim.Native.Nat.{ℕ}
 use Rattle.scope.specs.Limits.{teams}

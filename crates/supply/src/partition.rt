@@ -1,4 +1,3 @@
-use crate::pieces::larger;
 use crate::pieces::piece_from;
 use crate::supply::least_at_ends;
 use shared::table::Owned;
@@ -9,7 +8,6 @@ use tables::answer::Refusal;
 use tables::answer::refuse;
 use tables::board::Board;
 use tables::window::Window;
-use tables::window::window_at;
 ghost use mathlib.Core.Path.{_≡_};
 ghost use mathlib.Core.List.{_++_};
 ghost use Prim.Native.Nat.{_+_, _-_, _*_, _≤_, max};
@@ -18,9 +16,8 @@ ghost use Rattle.scope.specs.Limits.{mostFrame};
 ghost use Rattle.scope.specs.Numbers.{written};
 ghost use Rattle.scope.specs.Ticks.{perFrame};
 ghost use Rattle.scope.specs.Windows.{suppliedBy};
-ghost use Rattle.scope.specs.Partition.{outage as outageBy};
 ghost use Rattle.scope.specs.Answers.{Fault.fine, tableFault, criticalOf, criticalAnswer, criticalOut, delayAnswer};
-ghost use Rattle.scope.specs.Shared.{criticalFor, criticalOutFor, delayFor, outageFor};
+ghost use Rattle.scope.specs.Shared.{criticalFor, criticalOutFor, delayFor};
 ghost use Rattle.theory.specs.Answers.{LegalTable};
 ghost use Rattle.tables.specs.Told.{boardOf, toldAmount, toldDelay};
 ghost use Rattle.supply.specs.Measures.{hasAt, metOf, Measured};
@@ -28,7 +25,7 @@ ghost use Rattle.supply.specs.Measures.{hasAt, metOf, Measured};
 // How many numbers the critical partition has, the delay, and whether the numbers that are held begin with the partition.
 pub(crate) struct Measure {
     pub numbers: u32,
-    pub late: u32,
+    pub delay: u32,
     pub same: bool,
 }
 
@@ -61,7 +58,7 @@ fn edge_met(met: Met, held: &[u32], from: usize, here: bool, t: u32) -> Met
     met
 }
 
-fn later(a: u64, b: u64) -> u64
+fn greater(a: u64, b: u64) -> u64
     ensures { λ r. ⌜ r ≡ max a b ⌝ }
 {
     if a < b { b } else { a }
@@ -92,7 +89,7 @@ pub(crate) fn measured(
         count: 0,
         same: true,
     };
-    let mut late = 0;
+    let mut delay = 0;
     let mut before = false;
     let mut least = 0;
     let mut t = 0;
@@ -104,12 +101,12 @@ pub(crate) fn measured(
         least = piece.least;
         t = piece.end;
         let here = lag_with(whole, t, frame, least);
-        late = later(late, here);
+        delay = greater(delay, here);
     }
     let all = edge_met(met, held, from, before, frame);
     Measure {
         numbers: all.count,
-        late: late as u32,
+        delay: delay as u32,
         same: all.same,
     }
 }
@@ -177,7 +174,7 @@ fn delay_on(board: Board, windows: &[u32]) -> Delay
 {
     let per_frame = least_at_ends(board, windows, 0).whole;
     let measure = measured(board, windows, per_frame, &windows[..0], 0);
-    let delay = measure.late as u64;
+    let delay = measure.delay as u64;
     Delay::Of { delay, per_frame }
 }
 
@@ -189,48 +186,5 @@ pub fn delay(board: Board, windows: &[u32]) -> Delay
     match own_windows(Owned::TEAMS, board, windows, &mut own) {
         Amount::Refused(r) => Delay::Refused(r),
         Amount::Of(n) => delay_on(board, &own[..n as usize]),
-    }
-}
-
-// The gap from the end of the last window to the first one's start in the next frame.
-fn joined(frame: u32, end: u32, start: u32) -> u32
-    requires { ⌜ (end ≤ frame) × (start ≤ frame) × (frame ≤ mostFrame) ⌝ }
-    ensures { λ r. ⌜ r ≡ frame - end + start ⌝ }
-{
-    frame - end + start
-}
-
-// The longest run of unsupplied ticks over endless frames: the longest gap between two windows, or between the last one and the next frame's first.
-fn outage_of(board: Board, windows: &[u32]) -> u32
-    requires { ⌜ LegalTable (boardOf board) (now windows) ⌝ }
-    ensures { λ r. ⌜ r ≡ outageBy (suppliedBy (boardOf board) (now (windows .entry))) (board .frame) ⌝ }
-{
-    let count = windows.len() / 2;
-    let first = window_at(windows, 0);
-    let mut end = first.end;
-    let mut most = 0;
-    let mut i = 1;
-    while i < count {
-        let window = window_at(windows, i);
-        let gap = window.start - end;
-        most = larger(most, gap);
-        end = window.end;
-        i += 1;
-    }
-    let gap = joined(board.frame, end, first.start);
-    larger(most, gap)
-}
-
-// The longest outage over endless frames. Refusals: a table's.
-pub fn outage(board: Board, windows: &[u32]) -> Amount
-    ensures { λ r. ⌜ toldAmount r ≡ outageFor (boardOf board) (now (windows .entry)) ⌝ }
-{
-    let mut own = [0; 2 * Window::MOST];
-    match own_windows(Owned::TEAMS, board, windows, &mut own) {
-        Amount::Refused(r) => Amount::Refused(r),
-        Amount::Of(n) => {
-            let longest = outage_of(board, &own[..n as usize]);
-            Amount::Of(longest as u64)
-        }
     }
 }

@@ -5,12 +5,13 @@ use crate::row::Ticks;
 use crate::row::moved;
 use crate::row::ticks_after;
 use crate::row::upto;
-use crate::supply::lesser;
 use crate::supply::start_after;
 use tables::board::Board;
+use tables::number::larger;
+use tables::number::lesser;
 use tables::window::window_at;
 ghost use mathlib.Core.Path.{_≡_};
-ghost use Prim.Native.Nat.{_+_, _<_, _^_, max};
+ghost use Prim.Native.Nat.{_+_, _<_, _^_};
 ghost use Rattle.scope.specs.Ticks.{leastSupply};
 ghost use Rattle.scope.specs.Windows.{suppliedBy};
 ghost use Rattle.theory.specs.Answers.{LegalTable};
@@ -28,12 +29,6 @@ pub(crate) struct Piece {
     pub rising: bool,
     pub end: u32,
     pub least: u32,
-}
-
-pub(crate) fn larger(a: u32, b: u32) -> u32
-    ensures { λ r. ⌜ r ≡ max a b ⌝ }
-{
-    if a < b { b } else { a }
 }
 
 // One start more, whose stretch has `over` ticks more than the least supply. At the least, it keeps it there up to its next supplied tick; else the least can

@@ -8,12 +8,13 @@ use tables::answer::Checked;
 use tables::answer::Supplied;
 use tables::board::Board;
 use tables::length::check_length;
+use tables::number::lesser;
 use tables::window::Window;
 use tables::window::check_table;
 use tables::window::is_on;
 use tables::window::window_at;
 ghost use mathlib.Core.Path.{_≡_};
-ghost use Prim.Native.Nat.{_+_, _-_, _≤_, min};
+ghost use Prim.Native.Nat.{_+_, _-_, _≤_};
 ghost use Rattle.scope.specs.Limits.{mostFrame, mostLength};
 ghost use Rattle.scope.specs.Ticks.{perFrame, leastSupply};
 ghost use Rattle.scope.specs.Windows.{suppliedBy};
@@ -26,12 +27,6 @@ ghost use Rattle.tables.specs.Told.{boardOf, toldSupplied, toldAmount};
 pub(crate) struct Least {
     pub supply: u32,
     pub whole: u32,
-}
-
-pub(crate) fn lesser(a: u32, b: u32) -> u32
-    ensures { λ r. ⌜ r ≡ min a b ⌝ }
-{
-    if b < a { b } else { a }
 }
 
 // A start that is tried, and the supplied ticks before it.

@@ -5,5 +5,6 @@ pub mod board;
 pub mod cursor;
 pub mod length;
 pub mod list;
+pub mod number;
 pub mod task;
 pub mod window;

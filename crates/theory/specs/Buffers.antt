@@ -1,13 +1,13 @@
 -- Laws of a lent buffer with a list written at its front
 use mathlib.Core.Path.{_≡_, refl, sym, ap, _∙_}
 use mathlib.Core.Bool.{true, false≢true}
-use mathlib.Core.List.{List, [], _∷_, _++_, append-assoc}
+use mathlib.Core.List.{List, [], _∷_, _++_, append-assoc, append-nil}
 use Prim.Native.Nat.{ℕ, suc, _+_, _≤_, _<_}
 use native.Mathlib.Numerals.{add-one}
 use native.Mathlib.Omega.{arith}
 use lib.Dec.{eqb}
 use lib.ListN.{length, getD, set, take, drop, length-set, length-append, length-drop, take-append-drop, List·getD-append}
-use lib.Seq.{drop-cons, set-append-seam, take-append-seam, take-suc-set}
+use lib.Seq.{drop-cons, set-append-seam, take-append-seam, take-suc-set, length-take-le}
 use borrow.Author.Tests.{eqb-true, eq-eqb}
 use Rattle.scope.specs.Numbers.{written}
 use Rattle.scope.specs.Summary.{begins}
@@ -36,6 +36,23 @@ pub take-written : (l d : List ℕ) → take (length l) (written l d) ≡ l
 unfolding written
 take-written l d = take-append-seam l (drop (length l) d)
 
+-- ---- a buffer d with a list written after its first numbers
+
+abbrev pub after : ℕ → List ℕ → List ℕ → List ℕ
+after from d l = written (take from d ++ l) d
+
+module _ (from : ℕ) (d : List ℕ) (h : from ≤ length d) where
+  pub after-none : d ≡ after from d []
+  unfolding written
+  after-none = rw (append-nil (take from d), length-take-le from d h) (sym (take-append-drop from d))
+
+  pub after-more : (l out : List ℕ) (at a : ℕ) → at ≡ from + length l → at < length d → out ≡ after from d l → set out at a ≡ after from d (l ++ (a ∷ []))
+  after-more l out at a e m is =
+      let z : length (take from d ++ l) ≡ at = omega (arith, length-append (take from d) l, length-take-le from d h) in
+      let u : length (take from d ++ l) < length d = omega arith in
+      ap (λ (o : List ℕ). set o at a) is ∙ ap (λ (n : ℕ). set (after from d l) n a) (sym z) ∙ written-more (take from d ++ l) d a u
+      ∙ ap (λ (x : List ℕ). written x d) (append-assoc (take from d) l (a ∷ []))
+
 -- ---- memory that begins with a list
 
 -- the list, and whatever follows it
@@ -53,15 +70,6 @@ append-begins [] rest = refl
 append-begins (x ∷ l) rest = both-and (eq-eqb x x refl) (append-begins l rest)
 
 module _ (l m : List ℕ) where
-  -- exactly when its front is the list
-  pub begins-take : begins l m ≡ true → take (length l) m ≡ l
-  begins-take e = ap (take (length l)) (begins-front l m e) ∙ take-append-seam l (drop (length l) m)
-
-  pub take-begins : take (length l) m ≡ l → begins l m ≡ true
-  take-begins e =
-      let n : ℕ = length l in
-      ap (begins l) (sym (take-append-drop n m) ∙ ap (λ (k : List ℕ). k ++ drop n m) e) ∙ append-begins l (drop n m)
-
   pub begins-length : begins l m ≡ true → length l ≤ length m
   begins-length e = omega (arith, ap length (begins-front l m e), length-append l (drop (length l) m))
 

@@ -13,7 +13,7 @@ use Rattle.checker.proofs.margins.margin_from.Reads as reads
 use Rattle.checker.proofs.margins.margin_from.Lts as lts
 use Rattle.checker.proofs.demand.demand_of.Reads as demand-of-reads
 use Rattle.checker.proofs.demand.difference.Reads as difference-reads
-use Rattle.supply.proofs.search.least_from.Reads as least-from-reads
+use Rattle.summaries.proofs.least.least_from.Reads as least-from-reads
 
 least-from-requires : tie.Need-least-from-requires
 least-from-requires c κs = search needs

@@ -10,7 +10,7 @@ use Rattle.checker.proofs.rise.rise_at.Statement.{statement}
 use Rattle.checker.proofs.rise.rise_at.Tie as tie
 use Rattle.checker.proofs.rise.rise_at.Reads as reads
 use Rattle.checker.proofs.rise.rise_at.Lts as lts
-use Rattle.checker.proofs.rise.lesser.Reads as lesser-reads
+use Rattle.tables.proofs.number.lesser.Reads as lesser-reads
 use Rattle.checker.proofs.rise.reach.Reads as reach-reads
 
 abbrev Inv-loop : tie.InvT-loop

@@ -5,7 +5,7 @@ use native.Mathlib.Omega.{arith}
 use lib.ListN.{length, take, length-set}
 use lib.Seq.{length-take-le, take-suc, take-length}
 use borrow.Author.Needs.{needs}
-use Rattle.supply.proofs.PartitionLaws.{after, after-none, after-more}
+use Rattle.theory.specs.Buffers.{after, after-none, after-more}
 use Rattle.edits.proofs.splice.copy.Statement.{statement}
 use Rattle.edits.proofs.splice.copy.Tie as tie
 use Rattle.edits.proofs.splice.copy.Reads as reads

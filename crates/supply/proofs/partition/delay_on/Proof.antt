@@ -27,7 +27,7 @@ cast-delay c = search needs
 returns : tie.Need-returns
 unfolding delayAnswer
 returns c =
-    ap₂ (λ (d a : ℕ). given (record { delay = d; A = a })) (c .before .measured .ensures .late) (c .before .before .before .least-at-ends .ensures .1)
+    ap₂ (λ (d a : ℕ). given (record { delay = d; A = a })) (c .before .measured .ensures .delay) (c .before .before .before .least-at-ends .ensures .1)
     ∙ given-by _ _ (c .before .before .before .before .before .pre)
 
 pub delay-on-spec : {M : Type 1} → statement M

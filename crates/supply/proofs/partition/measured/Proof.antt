@@ -6,7 +6,7 @@ use borrow.Author.Needs.{needs}
 use Rattle.scope.specs.Numbers.{greatest}
 use Rattle.scope.specs.Ticks.{leastSupply}
 use Rattle.scope.specs.Windows.{suppliedBy}
-use Rattle.scope.specs.Partition.{lag, delay}
+use Rattle.scope.specs.Partition.{lag, delay as delayOf}
 use Rattle.scope.specs.Answers.{criticalOf}
 use Rattle.theory.specs.Ticks.{least-none}
 use Rattle.theory.specs.Rows.{table-row}
@@ -21,18 +21,18 @@ use Rattle.supply.proofs.partition.measured.Reads as reads
 use Rattle.supply.proofs.partition.measured.Lts as lts
 use Rattle.supply.proofs.partition.edge_met.Reads as edge-met-reads
 use Rattle.supply.proofs.partition.lag_with.Reads as lag-with-reads
-use Rattle.supply.proofs.partition.later.Reads as later-reads
+use Rattle.supply.proofs.partition.greater.Reads as greater-reads
 use Rattle.supply.proofs.pieces.piece_from.Reads as piece-from-reads
 
 abbrev Inv-loop : tie.InvT-loop
-Inv-loop board windows whole held from frame met₀ late₀ before₀ least₀ t₀ met late before least t =
+Inv-loop board windows whole held from frame met₀ delay₀ before₀ least₀ t₀ met delay before least t =
     let b = boardOf board in
     let σ = suppliedBy b windows in
     (t ≤ frame) × (before ≡ rose b windows t) × (least ≡ leastSupply σ (board .frame) t) × Counted held from (edges b windows t) met
-    × (late ≡ greatest (lag σ (board .frame)) (t + 1))
+    × (delay ≡ greatest (lag σ (board .frame)) (t + 1))
 
 abbrev μ-loop : tie.MeasureT-loop
-μ-loop board windows whole held from frame met₀ late₀ before₀ least₀ t₀ met late before least t = frame - t
+μ-loop board windows whole held from frame met₀ delay₀ before₀ least₀ t₀ met delay before least t = frame - t
 
 loop-holds : tie.Need-loop-holds Inv-loop μ-loop
 loop-holds c =
@@ -55,8 +55,8 @@ lag-with-requires c κs =
     let e = c .before .before .before .before .before .before in
     lag-order _ _ (table-row _ _ (e .pre .0) .repeats) _ _ _ (c .before .piece-from .ensures .piece .ends) (e .pre .2)
 
-later-requires : tie.Need-later-requires Inv-loop μ-loop
-later-requires c κs = search needs
+greater-requires : tie.Need-greater-requires Inv-loop μ-loop
+greater-requires c κs = search needs
 
 loop-less : tie.Need-loop-less Inv-loop μ-loop
 loop-less c = let p = c .before .before .before .piece-from .ensures in omega (arith, p .most, p .piece .after)
@@ -81,7 +81,7 @@ loop-again c =
           (next-none b ws (l .t) r p (l .before) (l .inv .1))),
       omega (
         arith,
-        c .later .ensures,
+        c .greater .ensures,
         c .before .lag-with .ensures,
         lag-is σ P per (r .end) (r .least) (a .whole) (p .piece .ends) (e .pre .2),
         l .inv .4,
@@ -95,7 +95,7 @@ ended c = omega (arith, c .before .loop .inv .0, c .loop-test .left)
 
 -- and the delay is found
 delay-is : (c : tie.After-loop Inv-loop μ-loop) → let a = c .before .before .before .before .args in
-    c .before .loop .late ≡ delay (suppliedBy (boardOf (a .board)) (a .windows .now)) (a .board .frame)
+    c .before .loop .delay ≡ delayOf (suppliedBy (boardOf (a .board)) (a .windows .now)) (a .board .frame)
 delay-is c =
     let e = c .before .before .before .before in
     let σ = suppliedBy (boardOf (e .args .board)) (e .args .windows .now) in
@@ -125,7 +125,7 @@ returns c =
     let all = counted-next _ _ (edges b ws (l .t)) P (l .met) (l .inv .3) (l .before) (criticalOf b ws)
     (λ h. last-edge b ws (l .before) is h ∙ ap (λ (k : ℕ). edges b ws k ++ (P ∷ [])) (sym z)) (λ h. last-none b ws (l .before) is h ∙ ap (edges b ws) (sym z)) in
     let met = c .edge-met2 .ensures in
-    record { numbers = ap (λ (m : Met). m .count) met ∙ all .count; late = delay-is (c .before); same = ap (λ (m : Met). m .same) met ∙ all .same }
+    record { numbers = ap (λ (m : Met). m .count) met ∙ all .count; delay = delay-is (c .before); same = ap (λ (m : Met). m .same) met ∙ all .same }
 
 pub measured-spec : {M : Type 1} → statement M
 measured-spec =
@@ -137,7 +137,7 @@ measured-spec =
     piece-from-requires
     edge-met-requires
     lag-with-requires
-    later-requires
+    greater-requires
     loop-less
     loop-again
     edge-met-requires-2

@@ -8,9 +8,9 @@ use Rattle.scope.specs.Windows.{suppliedBy}
 use Rattle.scope.specs.Answers.{criticalOf}
 use Rattle.theory.specs.Ticks.{least-none}
 use Rattle.theory.specs.Rows.{table-row}
+use Rattle.theory.specs.Buffers.{after, after-none, after-more}
 use Rattle.tables.specs.Told.{boardOf}
 use Rattle.supply.proofs.PartitionLaws.{was-none, edges, edges-none, rose, next-rose, next-edge, next-none, next-most, last-edge, last-none}
-use Rattle.supply.proofs.PartitionLaws.{after, after-none, after-more}
 use Rattle.supply.proofs.partition.write_edges.Statement.{statement}
 use Rattle.supply.proofs.partition.write_edges.Tie as tie
 use Rattle.supply.proofs.partition.write_edges.Reads as reads

@@ -5,8 +5,8 @@ use Rattle.supply.proofs.pieces.joined.Statement.{statement}
 use Rattle.supply.proofs.pieces.joined.Tie as tie
 use Rattle.supply.proofs.pieces.joined.Reads as reads
 use Rattle.supply.proofs.pieces.joined.Lts as lts
-use Rattle.supply.proofs.pieces.larger.Reads as larger-reads
-use Rattle.supply.proofs.supply.lesser.Reads as lesser-reads
+use Rattle.tables.proofs.number.larger.Reads as larger-reads
+use Rattle.tables.proofs.number.lesser.Reads as lesser-reads
 
 add-lesser : tie.Need-add-lesser
 add-lesser c = search needs

@@ -6,7 +6,7 @@ use Rattle.supply.proofs.pieces.piece_from.Tie as tie
 use Rattle.supply.proofs.pieces.piece_from.Reads as reads
 use Rattle.supply.proofs.pieces.piece_from.Lts as lts
 use Rattle.supply.proofs.pieces.ahead_of.Reads as ahead-of-reads
-use Rattle.supply.proofs.supply.lesser.Reads as lesser-reads
+use Rattle.tables.proofs.number.lesser.Reads as lesser-reads
 
 ahead-of-requires : tie.Need-ahead-of-requires
 ahead-of-requires c κs = search needs

@@ -1,10 +1,9 @@
-use mathlib.Core.Path.{_≡_, ap, ap₂}
+use mathlib.Core.Path.{_≡_, ap}
 use native.Mathlib.Omega.{arith}
-use Prim.Native.Nat.{ℕ, _+_, _-_}
+use Prim.Native.Nat.{_+_, _-_}
 use borrow.Author.Needs.{needs}
 use borrow.Author.Tests.{lt-ltb, le-ltb}
 use Rattle.scope.specs.Windows.{Window}
-use Rattle.supply.specs.declared.row.Ticks.{Ticks}
 use Rattle.supply.specs.Positions.{opens, closes, ticksFrom}
 use Rattle.supply.proofs.row.ticks_after.Statement.{statement}
 use Rattle.supply.proofs.row.ticks_after.Tie as tie

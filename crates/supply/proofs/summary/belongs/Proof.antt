@@ -22,10 +22,10 @@ measured-requires c κs = (c .before .before .before .pre, omega arith, c .least
 -- the first three numbers are those of a fresh making
 expected : (c : tie.After-measured) →
     let a = c .before .before .before .before .args in
-    Head (boardOf (a .board)) (a .windows .now) (c .before .least-at-ends .result .whole) (c .measured .result .late) (c .measured .result .numbers / 2)
+    Head (boardOf (a .board)) (a .windows .now) (c .before .least-at-ends .result .whole) (c .measured .result .delay) (c .measured .result .numbers / 2)
 expected c = record {
   whole = c .before .least-at-ends .ensures .1;
-  late = c .measured .ensures .late;
+  delay = c .measured .ensures .delay;
   count = ap (λ (n : ℕ). n / 2) (c .measured .ensures .numbers);
 }
 

@@ -1,5 +1,4 @@
 use mathlib.Core.Path.{sym, _∙_}
-use borrow.Author.Needs.{needs}
 use Rattle.theory.specs.Answers.{table-legal}
 use Rattle.theory.specs.Summaries.{begins-fine, begins-not}
 use Rattle.supply.proofs.summary.check_belongs.Statement.{statement}

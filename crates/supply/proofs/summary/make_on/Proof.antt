@@ -83,7 +83,7 @@ returns-2 c =
       ap given n ∙ given-by _ _ f,
       c .before .before .write-edges .ensures
           ∙ made b (a .windows .now) (a .out .now) _ _ _ _ (omega (arith, left)) (c .before .before .before .before .before .before .write-head .ensures)
-          (m .before .before .least-at-ends .ensures .1) (m .measured .ensures .late) (ap (λ (x : ℕ). x / 2) (m .measured .ensures .numbers))
+          (m .before .before .least-at-ends .ensures .1) (m .measured .ensures .delay) (ap (λ (x : ℕ). x / 2) (m .measured .ensures .numbers))
           ∙ written-by _ _ _ f,
     )
 

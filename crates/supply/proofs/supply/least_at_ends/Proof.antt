@@ -1,6 +1,6 @@
 use mathlib.Core.Path.{_≡_, ap, _∙_}
 use native.Mathlib.Omega.{arith}
-use Prim.Native.Nat.{ℕ, _+_, _-_, _/_, _≤_, _<_}
+use Prim.Native.Nat.{ℕ, _+_, _-_}
 use borrow.Author.Needs.{needs}
 use Rattle.scope.specs.Ticks.{supply}
 use Rattle.scope.specs.Windows.{suppliedBy}
@@ -16,7 +16,7 @@ use Rattle.supply.proofs.supply.least_at_ends.Lts as lts
 use Rattle.supply.proofs.row.Position.first.Reads as first-reads
 use Rattle.supply.proofs.row.moved.Reads as moved-reads
 use Rattle.supply.proofs.row.upto.Reads as upto-reads
-use Rattle.supply.proofs.supply.lesser.Reads as lesser-reads
+use Rattle.tables.proofs.number.lesser.Reads as lesser-reads
 use Rattle.supply.proofs.supply.start_after.Reads as start-after-reads
 use Rattle.tables.proofs.window.window_at.Reads as window-at-reads
 

@@ -4,7 +4,7 @@ use Rattle.machine.proofs.state.RunState.admitted.Tie as tie
 use Rattle.machine.proofs.state.RunState.admitted.Reads as reads
 use Rattle.machine.proofs.state.RunState.admitted.Lts as lts
 use Rattle.machine.proofs.pending.Pending.with.Reads as with-reads
-use Rattle.machine.proofs.state.lesser.Reads as lesser-reads
+use Rattle.tables.proofs.number.lesser.Reads as lesser-reads
 
 with-requires : tie.Need-with-requires
 with-requires c κs = search needs
