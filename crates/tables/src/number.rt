@@ -1,4 +1,4 @@
-// The lesser and the larger of two numbers.
+// The lesser and the larger of two numbers, for every crate above.
 ghost use mathlib.Core.Path.{_≡_};
 ghost use Prim.Native.Nat.{min, max};
 

@@ -1,4 +1,4 @@
--- Laws of a lent buffer with a list written at its front
+-- Laws of a lent buffer with a list written at its front, or after its first numbers
 use mathlib.Core.Path.{_≡_, refl, sym, ap, _∙_}
 use mathlib.Core.Bool.{true, false≢true}
 use mathlib.Core.List.{List, [], _∷_, _++_, append-assoc, append-nil}
