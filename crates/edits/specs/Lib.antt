@@ -1,3 +1,4 @@
 pub mod Told
 pub mod Stored
 pub mod Refused
+pub mod Agrees
