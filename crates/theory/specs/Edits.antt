@@ -1,5 +1,5 @@
--- Document 02, request 6, of edits: what an edit leaves belongs to the table it leaves, a refused one leaves everything, an edit is undone by its opposite, and
--- what of it may depend on the other team
+-- Document 02, request 6, of edits: what an edit leaves belongs to the table it leaves, an edit is undone by its opposite, every refusal of one and which check
+-- gives it, and what of it may depend on the other team
 use mathlib.Core.Path.{_≡_, refl, sym, ap, _∙_}
 use mathlib.Core.Bool.{Bool, true, false, not, cond, _||_}
 use mathlib.Core.Logic.{_⊎_, inl, inr, _≢_, _↔_}
@@ -59,10 +59,14 @@ pub record Ready (owners : ℕ) (b : Board) (count : ℕ) (memory summary : List
   pub belongs : begins (summaryIn b count memory) summary ≡ true
 
 module _ (owners : ℕ) (b : Board) (count : ℕ) (memory summary : List ℕ) (edit : Edit) where
-  pub record EditParts : Type 0 where
+  -- all is checked but room
+  pub record Fitting : Type 0 where
     pub ready : Ready owners b count memory summary
     pub allowed : Allowed edit count
     pub after : sharedFault owners b (editedList count memory edit) ≡ fine
+
+  pub record EditParts : Type 0 where
+    pub fitting : Fitting
     pub room : length (editedList count memory edit) ≤ length memory
     pub summary-room : length (editedSummary b count memory edit) ≤ length summary
 
@@ -80,14 +84,13 @@ module _ (owners : ℕ) (b : Board) (count : ℕ) (memory summary : List ℕ) (e
       let p₄ = orElse-fine (indexFault edit count) (new orElse windows orElse numbers) (p₃ .1) in
       let p₅ = orElse-fine new (windows orElse numbers) (p₄ .1) in
       let p₆ = orElse-fine windows numbers (p₅ .1) in
+      let ready : Ready owners b count memory summary = record {
+        counted = ltb-false (length memory) (3 * count) (faultIf-fine _ 1 0 (p₁ .0));
+        before = p₂ .0;
+        belongs = fine-begins b (own b (tableIn count memory)) summary (p₃ .0);
+      } in
       record {
-        ready = record {
-          counted = ltb-false (length memory) (3 * count) (faultIf-fine _ 1 0 (p₁ .0));
-          before = p₂ .0;
-          belongs = fine-begins b (own b (tableIn count memory)) summary (p₃ .0);
-        };
-        allowed = index-allowed edit count (p₄ .0);
-        after = p₅ .0;
+        fitting = record { ready = ready; allowed = index-allowed edit count (p₄ .0); after = p₅ .0 };
         room = room-fine (length (editedList count memory edit)) (length memory) (p₆ .0);
         summary-room = room-fine (length (editedSummary b count memory edit)) (length summary) (p₆ .1);
       }
@@ -109,8 +112,8 @@ module _ (owners : ℕ) (b : Board) (count : ℕ) (memory summary : List ℕ) (e
   -- and nothing else is checked
   pub parts-edit : EditParts → editFault owners b count memory summary edit ≡ fine
   parts-edit p =
-      indexed-fault (p .ready) (p .allowed) ∙ rw (
-        p .after,
+      indexed-fault (p .fitting .ready) (p .fitting .allowed) ∙ rw (
+        p .fitting .after,
         fine-room (length (editedList count memory edit)) (length memory) (p .room),
         fine-room (length (editedSummary b count memory edit)) (length summary) (p .summary-room),
       )
@@ -161,12 +164,12 @@ module _ (owners : ℕ) (b : Board) (count : ℕ) (memory summary : List ℕ) (e
       let g = edit-given x e in
       let p = g .parts in
       let l : List ℕ = editedList count memory edit in
-      let threes = whole owners b l (shared-parts owners b l (p .after) .0) .threes in
+      let threes = whole owners b l (shared-parts owners b l (p .fitting .after) .0) .threes in
       let n : 3 * x .windows ≡ length l = omega (arith, g .windows, threes) in
       let list : tableIn (x .windows) (editWindows owners b count memory summary edit) ≡ l = rw (n, g .window-memory) (take-written l memory) in
       record {
         list = list;
-        legal = ap (sharedFault owners b) list ∙ p .after;
+        legal = ap (sharedFault owners b) list ∙ p .fitting .after;
         belongs = rw (list, g .summary-memory) (begins-fine b (own b l) _ (written-begins (editedSummary b count memory edit) summary));
         window-length = ap length (g .window-memory) ∙ length-written l memory (p .room);
         summary-length = ap length (g .summary-memory) ∙ length-written (editedSummary b count memory edit) summary (p .summary-room);
@@ -182,7 +185,7 @@ edit-as-made b count memory summary edit x e =
     let l : List ℕ = editedList count memory edit in
     let mine : List ℕ = own b l in
     let is = edit-leaves teams b count memory summary edit x e .list in
-    let legal = g .parts .after in
+    let legal = g .parts .fitting .after in
     let table : tableFault b mine ≡ fine = own-fine teams b l legal in
     let room : roomFault (length (summaryOf b mine)) (length summary) ≡ fine = fine-room (length (summaryOf b mine)) (length summary) (g .parts .summary-room) in (
       ap (λ (ws : List ℕ). makeFor b ws (length summary)) is
@@ -249,6 +252,11 @@ edited-length (move i s e) count l n h = omega (arith, splice-length i l (omega 
 edited-length (add i s e o) count l n h = omega (arith, splice-length i l (omega arith) 0 (s ∷ e ∷ o ∷ []))
 edited-length (remove i) count l n h = omega (arith, splice-length i l (omega arith) 1 [])
 
+-- of the list in lent memory
+left-long : (edit : Edit) (count : ℕ) (memory : List ℕ) → 3 * count ≤ length memory → Allowed edit count →
+    length (editedList count memory edit) ≡ 3 * countAfter edit count
+left-long edit count memory counted allowed = edited-length edit count (tableIn count memory) (length-take-le (3 * count) memory counted) allowed
+
 -- ---- an edit is undone by another
 
 -- the one that undoes an edit of a list
@@ -295,34 +303,37 @@ module _ (owners : ℕ) (b : Board) (count : ℕ) (memory summary : List ℕ) (e
 
   -- the numbers of the list before
   held : length (tableIn count memory) ≡ 3 * count
-  held = length-take-le (3 * count) memory (edit-given owners b count memory summary edit x e .parts .ready .counted)
+  held = length-take-le (3 * count) memory (edit-given owners b count memory summary edit x e .parts .fitting .ready .counted)
 
   -- how many windows are answered
   pub count-answered : x .windows ≡ countAfter edit count
   count-answered =
       let g = edit-given owners b count memory summary edit x e in
-      omega (arith, g .windows, edited-length edit count (tableIn count memory) held (g .parts .allowed))
+      omega (arith, g .windows, left-long edit count memory (g .parts .fitting .ready .counted) (g .parts .fitting .allowed))
 
   -- the list before comes back
   back-list : editedList (x .windows) m′ back ≡ tableIn count memory
   back-list =
       ap (edited back) (edit-leaves owners b count memory summary edit x e .list)
-      ∙ undone edit count (tableIn count memory) held (edit-given owners b count memory summary edit x e .parts .allowed)
+      ∙ undone edit count (tableIn count memory) held (edit-given owners b count memory summary edit x e .parts .fitting .allowed)
 
   back-parts : EditParts owners b (x .windows) m′ s′ back
   back-parts =
-      let p = edit-given owners b count memory summary edit x e .parts in
+      let g = edit-given owners b count memory summary edit x e .parts in
+      let p = g .fitting in
       let l = edit-leaves owners b count memory summary edit x e in
-      let n = edited-length edit count (tableIn count memory) held (p .allowed) in
+      let n = left-long edit count memory (p .ready .counted) (p .allowed) in
       let room = begins-length (summaryIn b count memory) summary (p .ready .belongs) in
       record {
-        ready = record {
-          counted = omega (arith, count-answered, n, p .room, l .window-length);
-          before = l .legal;
-          belongs = fine-begins b (own b (tableIn (x .windows) m′)) s′ (l .belongs);
+        fitting = record {
+          ready = record {
+            counted = omega (arith, count-answered, n, g .room, l .window-length);
+            before = l .legal;
+            belongs = fine-begins b (own b (tableIn (x .windows) m′)) s′ (l .belongs);
+          };
+          allowed = rw count-answered (undo-allowed edit count (tableIn count memory) (p .allowed));
+          after = rw back-list (p .ready .before);
         };
-        allowed = rw count-answered (undo-allowed edit count (tableIn count memory) (p .allowed));
-        after = rw back-list (p .ready .before);
         room = omega (arith, ap length back-list, held, p .ready .counted, l .window-length);
         summary-room = rw back-list (omega (arith, room, l .summary-length));
       }
@@ -419,9 +430,9 @@ pub other-owner : (owners : ℕ) (b : Board) (count : ℕ) (memory summary : Lis
 other-owner owners b count memory summary edit x e u =
     let g = edit-given owners b count memory summary edit x e in
     let l : List ℕ = tableIn count memory in
-    let same = own-kept b edit count l (held owners b count memory summary edit x e) (g .parts .allowed) u in (
+    let same = own-kept b edit count l (held owners b count memory summary edit x e) (g .parts .fitting .allowed) u in (
       same,
-      g .summary-memory ∙ ap (λ (k : List ℕ). written (summaryOf b k) summary) same ∙ begins-written (summaryOf b (own b l)) summary (g .parts .ready .belongs),
+      g .summary-memory ∙ ap (λ (k : List ℕ). written (summaryOf b k) summary) same ∙ begins-written (summaryOf b (own b l)) summary (g .parts .fitting .ready .belongs),
       g .numbers ∙ ap (λ (k : List ℕ). length (summaryOf b k)) same,
     )
 
@@ -460,12 +471,6 @@ pub record Fourteen (owners : ℕ) (b : Board) (count : ℕ) (memory summary : L
 -- every refusal of an edit, and which check gives it, those before it passed: of the table as it is, the summary, the index, the table as it would be, room
 -- for either
 module _ (owners : ℕ) (b : Board) (count : ℕ) (memory summary : List ℕ) (edit : Edit) where
-  -- all is checked but room
-  pub record Fitting : Type 0 where
-    pub ready : Ready owners b count memory summary
-    pub allowed : Allowed edit count
-    pub after : sharedFault owners b (editedList count memory edit) ≡ fine
-
   pub data EditRefusal : ℕ → ℕ → Type 0 where
     short-memory : length memory < 3 * count → EditRefusal 1 0
     old-table : {n p : ℕ} → 3 * count ≤ length memory → sharedFault owners b (tableIn count memory) ≡ fault n p → WholeRefusal count n p → EditRefusal n p
@@ -474,8 +479,8 @@ module _ (owners : ℕ) (b : Board) (count : ℕ) (memory summary : List ℕ) (e
     absent-index : Ready owners b count memory summary → (Allowed edit count → ⊥) → EditRefusal 7 0
     new-table : {n p : ℕ} → Ready owners b count memory summary → Allowed edit count → sharedFault owners b (editedList count memory edit) ≡ fault n p →
         NewRefusal b (editedList count memory edit) (countAfter edit count) n p → EditRefusal n p
-    no-room : Fitting → length memory < 3 * countAfter edit count → EditRefusal 8 (3 * countAfter edit count)
-    no-summary-room : Fitting → 3 * countAfter edit count ≤ length memory → length summary < length (editedSummary b count memory edit) →
+    no-room : Fitting owners b count memory summary edit → length memory < 3 * countAfter edit count → EditRefusal 8 (3 * countAfter edit count)
+    no-summary-room : Fitting owners b count memory summary edit → 3 * countAfter edit count ≤ length memory → length summary < length (editedSummary b count memory edit) →
         EditRefusal 8 (length (editedSummary b count memory edit))
 
 no-numbers : (l : List ℕ) → length l ≡ 0 → l ≡ []
@@ -576,7 +581,7 @@ module _ (owners : ℕ) (b : Board) (count : ℕ) (memory : List ℕ) (edit : Ed
       let old : List ℕ = tableIn count memory in
       let parts = shared-parts owners b old before in
       new-refusal owners b (editedList count memory edit) (countAfter edit count) (whole owners b old (parts .0) .framed) (sliver-ranged b old (parts .2))
-      (edited-length edit count old (length-take-le (3 * count) memory counted) allowed) n p f
+      (left-long edit count memory counted allowed) n p f
 
 module _ (owners : ℕ) (b : Board) (count : ℕ) (memory summary : List ℕ) (edit : Edit) (n p : ℕ) where
   abbrev R : Type 0
@@ -608,7 +613,7 @@ module _ (owners : ℕ) (b : Board) (count : ℕ) (memory summary : List ℕ) (e
       Fits = Fitting owners b count memory summary edit
 
       long : Fits → length new ≡ 3 * countAfter edit count
-      long c = edited-length edit count old (length-take-le (3 * count) memory (c .ready .counted)) (c .allowed)
+      long c = left-long edit count memory (c .ready .counted) (c .allowed)
 
       last : Fault
       last = faultIf (ltb (length summary) numbers) 8 numbers
@@ -665,14 +670,10 @@ module _ (owners : ℕ) (b : Board) (count : ℕ) (memory summary : List ℕ) (e
   unfolding editAnswer editFault countFault
   old-refused n p c f = rw (le-ltb (length memory) (3 * count) c, f)
 
-  -- the list that is left, in numbers
-  left-long : Fitting owners b count memory summary edit → length (editedList count memory edit) ≡ 3 * countAfter edit count
-  left-long c = edited-length edit count (tableIn count memory) (length-take-le (3 * count) memory (c .ready .counted)) (c .allowed)
-
   fitting-fault : Fitting owners b count memory summary edit →
       editFault owners b count memory summary edit
       ≡ (roomFault (3 * countAfter edit count) (length memory) orElse roomFault (length (editedSummary b count memory edit)) (length summary))
-  fitting-fault c = indexed-fault owners b count memory summary edit (c .ready) (c .allowed) ∙ rw (c .after, left-long c)
+  fitting-fault c = indexed-fault owners b count memory summary edit (c .ready) (c .allowed) ∙ rw (c .after, left-long edit count memory (c .ready .counted) (c .allowed))
 
   pub refusal-edit : (n p : ℕ) → EditRefusal owners b count memory summary edit n p → editAnswer owners b count memory summary edit ≡ refused n p
   unfolding editAnswer editFault countFault summaryFault
@@ -819,7 +820,7 @@ module _ (owners : ℕ) (b : Board) (count : ℕ) (memory summary : List ℕ) (e
 
       roomy : indexFault edit count ≡ fine → sharedFault owners b new ≡ fine → (t : Bool) → ltb (length memory) (length new) ≡ t → T
       roomy i a true z =
-          let long = edited-length edit count (tableIn count memory) (length-take-le (3 * count) memory (ready .counted)) (index-allowed edit count i) in
+          let long = left-long edit count memory (ready .counted) (index-allowed edit count i) in
           let full = room-fault (length new) (length memory) (ltb-true (length memory) (length new) z) in
           let e : later ≡ fault 8 (length new) = rw (i, a, full) in
           inl (so by-room (e ∙ ap (fault 8) long))

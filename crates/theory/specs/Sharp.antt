@@ -158,7 +158,7 @@ ByOwn = ByOwnAnd (λ b count k memory m edit. own b (editedList count memory edi
 
 -- of the windows before it alone
 abbrev ByOwnBefore : ℕ → ℕ → Type 0
-ByOwnBefore = ByOwnAnd (λ b count k memory m edit. k ≡ k)
+ByOwnBefore = ByOwnAnd (λ b count k memory m edit. Unit {0})
 
 -- owner 0's window alone, or owner 1's behind it
 abbrev two-teams : List ℕ
@@ -194,7 +194,7 @@ unfolding everything
 not-own-absence claim =
     let e : left 1 5 ≡ refused 1 0 =
     claim (on 8) 2 2 (2 ∷ 4 ∷ 0 ∷ 5 ∷ 6 ∷ 1 ∷ []) (0 ∷ 1 ∷ 1 ∷ 2 ∷ 4 ∷ 0 ∷ []) two-summary (remove 0)
-    (omega arith) refl refl (omega arith) refl refl refl refl refl in
+    (omega arith) refl refl (omega arith) refl refl refl tt refl in
     let z : _≡_ {A = ℕ} 0 1 = cc in
     omega arith
 
@@ -241,9 +241,7 @@ not-own-number claim =
     let ready : Ready teams (on 200) 64 crowd crowd-summary = record { counted = omega arith; before = refl; belongs = front } in
     let full = new-refused teams (on 200) 64 crowd crowd-summary (add 1 1 2 1) ready (omega arith) 1 0 refl in
     let alone = parts-given teams (on 200) 1 crowd crowd-summary (add 1 1 2 1) (record {
-      ready = record { counted = omega arith; before = refl; belongs = front };
-      allowed = omega arith;
-      after = refl;
+      fitting = record { ready = record { counted = omega arith; before = refl; belongs = front }; allowed = omega arith; after = refl };
       room = omega arith;
       summary-room = begins-length fresh crowd-summary front;
     }) in

@@ -286,16 +286,16 @@ module _ (b : Board) (ws s : List ℕ) (t : ℕ) where
 
 -- ---- many margins at once
 
--- the first that is at fault
-lengths-first : (lengths : List ℕ) (n p : ℕ) → lengthsFault lengths ≡ fault n p → (j : ℕ) × (j < length lengths) × (lengthFault (getD lengths j 0) ≡ fault n p)
+-- one that is at fault
+length-at-fault : (lengths : List ℕ) (n p : ℕ) → lengthsFault lengths ≡ fault n p → (j : ℕ) × (j < length lengths) × (lengthFault (getD lengths j 0) ≡ fault n p)
 unfolding lengthsFault
-lengths-first [] n p e = absurd (fault-not-fine (sym e))
-lengths-first (t ∷ lengths) n p e = go (lengths-first lengths n p) (lengthFault t) refl e
+length-at-fault [] n p e = absurd (fault-not-fine (sym e))
+length-at-fault (t ∷ lengths) n p e = go (length-at-fault lengths n p) (lengthFault t) refl e
   where
-    First : List ℕ → Type 0
-    First l = (j : ℕ) × (j < length l) × (lengthFault (getD l j 0) ≡ fault n p)
+    One : List ℕ → Type 0
+    One l = (j : ℕ) × (j < length l) × (lengthFault (getD l j 0) ≡ fault n p)
 
-    go : (lengthsFault lengths ≡ fault n p → First lengths) → (f : Fault) → lengthFault t ≡ f → (f orElse lengthsFault lengths) ≡ fault n p → First (t ∷ lengths)
+    go : (lengthsFault lengths ≡ fault n p → One lengths) → (f : Fault) → lengthFault t ≡ f → (f orElse lengthsFault lengths) ≡ fault n p → One (t ∷ lengths)
     go rest (fault m q) z e = (0, omega arith, z ∙ e)
     go rest fine z e = let r = rest e in (suc (r .0), omega (arith, r .1), r .2)
 
@@ -384,8 +384,8 @@ module _ (b : Board) (ws s ts lengths : List ℕ) where
       checked-by (fault m q) g e = (0, some, ap (λ (f : Fault). unless f (marginAt (getD lengths 0 0))) e)
       checked-by fine (fault m q) e = (0, some, ap (λ (f : Fault). unless f (marginAt (getD lengths 0 0))) e)
       checked-by fine fine e =
-          let first = lengths-first lengths n p (else-here n p (lengthsFault lengths) fine (λ q z. fault-not-fine (sym z)) e) in
-          (first .0, first .1, rw (first .2))
+          let one = length-at-fault lengths n p (else-here n p (lengthsFault lengths) fine (λ q z. fault-not-fine (sym z)) e) in
+          (one .0, one .1, rw (one .2))
 
       shared-by : (f : Fault) → unlessRefused f refused (unless (marginsFault b mine s ts lengths room) (length lengths)) ≡ refused n p →
           One (λ t. unlessRefused f refused (unless (tableFault b mine orElse groupFault ts orElse lengthFault t) (marginAt t)))
