@@ -584,7 +584,7 @@ static struct piece piece_from(uint32_t frame, struct list windows, uint32_t t, 
     return (struct piece){false, t + smaller(ahead.flat, frame - t), least};
 }
 
-/* Critical partition, delay and outage: partition.rt */
+/* Critical partition and delay: partition.rt */
 
 /* how many numbers the critical partition has, the delay, and whether the numbers that are held begin with the partition */
 struct measure {
@@ -755,7 +755,7 @@ struct palikudyom_answer plain_critical_every_length(struct palikudyom_board boa
     return one(PALIKUDYOM_AMOUNT, numbers / 2);
 }
 
-/* The outage: partition.rt */
+/* The outage: gaps' outage.rt */
 
 static uint32_t outage_of(uint32_t frame, struct list windows)
 {
@@ -830,7 +830,7 @@ static struct checked check_summary(uint32_t frame, struct list windows, struct 
     return check_belongs(frame, windows, summary);
 }
 
-/* What a summary tells: search.rt */
+/* What a summary tells: summaries' least.rt */
 
 /* the ticks of a window before tick r */
 static uint32_t part(uint32_t start, uint32_t end, uint32_t r)

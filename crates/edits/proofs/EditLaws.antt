@@ -15,7 +15,7 @@ use Rattle.scope.specs.Summary.{summaryOf, makeFault, makeOut, summaryFault, Ed
 use Rattle.theory.specs.Answers.{fault-not-fine, orElse-fine, fine-room, room-fault}
 use Rattle.theory.specs.Lists.{pieces-length}
 use Rattle.theory.specs.Shared.{whole, shared-parts, own-fine}
-use Rattle.theory.specs.Buffers.{take-written, length-written, after}
+use Rattle.theory.specs.Buffers.{take-written, length-written, writtenAfter}
 use Rattle.theory.specs.Edits.{Allowed, index-allowed, countAfter, edited-length}
 use Rattle.edits.specs.declared.edit.Edit as declared
 use Rattle.edits.specs.declared.edit.Edit.the-variants.{Move, Add, Remove}
@@ -49,11 +49,11 @@ grown l k d =
     ∙ ap (drop (length k)) (drop-append-seam l (drop (length l) d))
     ∙ drop-drop (length k) (length l) d ∙ ap (λ (n : ℕ). drop n d) (sym (length-append l k)))
 
-after-written : (l d k : List ℕ) (at : ℕ) → at ≡ length l → after at (written l d) k ≡ written (l ++ k) d
+after-written : (l d k : List ℕ) (at : ℕ) → at ≡ length l → writtenAfter at (written l d) k ≡ written (l ++ k) d
 after-written l d k at e = rw e (ap (λ (x : List ℕ). written (x ++ k) (written l d)) (take-written l d) ∙ grown l k d)
 
 -- a buffer keeps its length
-pub after-length : (at : ℕ) (d k : List ℕ) → at + length k ≤ length d → length (after at d k) ≡ length d
+pub after-length : (at : ℕ) (d k : List ℕ) → at + length k ≤ length d → length (writtenAfter at d k) ≡ length d
 after-length at d k h =
     length-written (take at d ++ k) d (omega (arith, length-append (take at d) k, length-take-le at d (omega arith)))
 
@@ -64,14 +64,14 @@ rest-of l n = ap (λ (m : ℕ). take m (drop n l)) (sym (length-drop n l)) ∙ t
 -- ---- the list that an edit leaves, in three copies
 
 module _ (list come : List ℕ) (i gone : ℕ) (h : 3 * (i + gone) ≤ length list) where
-  pub spliced-copies : (o o₁ o₂ o₃ : List ℕ) → o₁ ≡ after 0 o (take (3 * i) list) → o₂ ≡ after (3 * i) o₁ come →
-      o₃ ≡ after (3 * i + length come) o₂ (take (length list - 3 * (i + gone)) (drop (3 * (i + gone)) list)) → o₃ ≡ written (spliced i gone come list) o
+  pub spliced-copies : (o o₁ o₂ o₃ : List ℕ) → o₁ ≡ writtenAfter 0 o (take (3 * i) list) → o₂ ≡ writtenAfter (3 * i) o₁ come →
+      o₃ ≡ writtenAfter (3 * i + length come) o₂ (take (length list - 3 * (i + gone)) (drop (3 * (i + gone)) list)) → o₃ ≡ written (spliced i gone come list) o
   spliced-copies o o₁ o₂ o₃ e f g =
       let front : List ℕ = take (3 * i) list in
       let n : length front ≡ 3 * i = length-take-le (3 * i) list (omega arith) in
-      let two : o₂ ≡ written (front ++ come) o = f ∙ ap (λ (x : List ℕ). after (3 * i) x come) e ∙ after-written front o come (3 * i) (sym n) in
-      g ∙ ap (λ (x : List ℕ). after (3 * i + length come) x (take (length list - 3 * (i + gone)) (drop (3 * (i + gone)) list))) two
-      ∙ ap (after (3 * i + length come) (written (front ++ come) o)) (rest-of list (3 * (i + gone)))
+      let two : o₂ ≡ written (front ++ come) o = f ∙ ap (λ (x : List ℕ). writtenAfter (3 * i) x come) e ∙ after-written front o come (3 * i) (sym n) in
+      g ∙ ap (λ (x : List ℕ). writtenAfter (3 * i + length come) x (take (length list - 3 * (i + gone)) (drop (3 * (i + gone)) list))) two
+      ∙ ap (writtenAfter (3 * i + length come) (written (front ++ come) o)) (rest-of list (3 * (i + gone)))
       ∙ after-written (front ++ come) o (drop (3 * (i + gone)) list) (3 * i + length come) (omega (arith, n, length-append front come))
 
 -- ---- what is known of an edit once its kind is

@@ -1,3 +1,4 @@
+// A window moved, added or removed in lent window memory, with the summary in lent memory beside it. Document 02, request 6.
 use crate::splice::copy;
 use crate::splice::splice;
 use shared::table::Owned;
@@ -40,7 +41,7 @@ pub enum Edit {
 }
 
 // Refusal 7 of an index that is absent.
-fn present(absent: bool) -> Checked
+fn check_present(absent: bool) -> Checked
     ensures { λ r. ⌜ faultOf r ≡ faultIf absent 7 0 ⌝ }
 {
     if absent {
@@ -58,14 +59,14 @@ fn check_index(edit: Edit, count: usize) -> Checked
             index,
             start: _,
             end: _,
-        } => present(count <= index as usize),
+        } => check_present(count <= index as usize),
         Edit::Add {
             index,
             start: _,
             end: _,
             owner: _,
-        } => present(count < index as usize),
-        Edit::Remove { index } => present(count <= index as usize),
+        } => check_present(count < index as usize),
+        Edit::Remove { index } => check_present(count <= index as usize),
     }
 }
 

@@ -1,15 +1,15 @@
 // The list of numbers that an edit leaves, in memory of its own.
 ghost use mathlib.Core.Path.{_≡_};
-ghost use mathlib.Core.List.{_++_};
 ghost use Prim.Native.Nat.{_+_, _*_, _≤_};
-ghost use lib.ListN.{length, take};
+ghost use lib.ListN.{length};
 ghost use Rattle.scope.specs.Numbers.{written};
 ghost use Rattle.scope.specs.Summary.{spliced};
+ghost use Rattle.theory.specs.Buffers.{writtenAfter};
 
 // Copies numbers into out, from an index on.
 pub(crate) fn copy(numbers: &[u32], at: usize, out: &mut [u32])
     requires { ⌜ at + length (now numbers) ≤ length (now out) ⌝ }
-    ensures { λ _. ⌜ now (out .exit) ≡ written (take at (now (out .entry)) ++ now (numbers .entry)) (now (out .entry)) ⌝ }
+    ensures { λ _. ⌜ now (out .exit) ≡ writtenAfter at (now (out .entry)) (now (numbers .entry)) ⌝ }
 {
     let count = numbers.len();
     let mut i = 0;

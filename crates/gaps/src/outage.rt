@@ -1,3 +1,4 @@
+// The longest outage: the longest gap between windows, over endless frames.
 use shared::table::Owned;
 use shared::table::own_windows;
 use tables::answer::Amount;

@@ -1,4 +1,4 @@
--- Request 6, of what the code answers: the least supply from a summary that belongs is the least supply, refusals too; and one that was made belongs
+-- Request 6, of what the code answers: the least supply from a summary that belongs, and so from one that was made, is the least supply, refusals too
 use mathlib.Core.Path.{_≡_, refl, sym, ap, _∙_}
 use mathlib.Core.List.{List}
 use Prim.Native.Nat.{ℕ}

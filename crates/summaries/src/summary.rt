@@ -1,3 +1,4 @@
+// A summary of the asked owner's windows, made and asked for the least supply. Document 02, request 6.
 use crate::least::least_from;
 use shared::table::Owned;
 use shared::table::own_windows;
@@ -26,7 +27,7 @@ pub fn make_summary(board: Board, windows: &[u32], out: &mut [u32]) -> Amount
 }
 
 // The least supply of a length on a list of windows in pairs, from its summary. Refusals 1 2 3 14 7.
-fn least_in(board: Board, windows: &[u32], summary: &[u32], length: u32) -> Amount
+fn least_from_in(board: Board, windows: &[u32], summary: &[u32], length: u32) -> Amount
     ensures { λ r. ⌜ toldAmount r ≡ leastFromAnswer (boardOf board) (now (windows .entry)) (now (summary .entry)) length ⌝ }
 {
     match check_summary(board, windows, summary) {
@@ -42,6 +43,6 @@ pub fn least_supply(board: Board, windows: &[u32], summary: &[u32], length: u32)
     let mut own = [0; 2 * Window::MOST];
     match own_windows(Owned::TEAMS, board, windows, &mut own) {
         Amount::Refused(r) => Amount::Refused(r),
-        Amount::Of(n) => least_in(board, &own[..n as usize], summary, length),
+        Amount::Of(n) => least_from_in(board, &own[..n as usize], summary, length),
     }
 }

@@ -11,7 +11,7 @@ use Rattle.scope.specs.Windows.{Board, suppliedBy}
 use Rattle.scope.specs.Partition.{delay as delayOf}
 use Rattle.scope.specs.Answers.{Fault.fine, Fault.fault, tableFault, criticalOf}
 use Rattle.scope.specs.Summary.{summaryOf, makeFault, begins}
-use Rattle.theory.specs.Buffers.{after}
+use Rattle.theory.specs.Buffers.{writtenAfter}
 use Rattle.tables.proofs.FaultLaws.{then-short, then-roomy}
 use Rattle.supply.specs.Measures.{hasAt}
 
@@ -25,7 +25,7 @@ head-is (x ∷ y ∷ []) a d n h = absurd (omega arith)
 head-is (x ∷ y ∷ z ∷ o) a d n h = refl
 
 -- and what is written after them
-headed : (o l : List ℕ) (a d n : ℕ) → 3 ≤ length o → after 3 (a ∷ d ∷ n ∷ drop 3 o) l ≡ written (a ∷ d ∷ n ∷ l) o
+headed : (o l : List ℕ) (a d n : ℕ) → 3 ≤ length o → writtenAfter 3 (a ∷ d ∷ n ∷ drop 3 o) l ≡ written (a ∷ d ∷ n ∷ l) o
 unfolding written
 headed [] l a d n h = absurd (omega arith)
 headed (x ∷ []) l a d n h = absurd (omega arith)
@@ -35,10 +35,10 @@ headed (x ∷ y ∷ z ∷ o) l a d n h = refl
 module _ (b : Board) (ws : List ℕ) where
   pub made : (o o₁ : List ℕ) (whole delay count : ℕ) → 3 ≤ length o → o₁ ≡ whole ∷ delay ∷ count ∷ drop 3 o →
       whole ≡ perFrame (suppliedBy b ws) (b .frame) → delay ≡ delayOf (suppliedBy b ws) (b .frame) → count ≡ length (criticalOf b ws) / 2 →
-      after 3 o₁ (criticalOf b ws) ≡ written (summaryOf b ws) o
+      writtenAfter 3 o₁ (criticalOf b ws) ≡ written (summaryOf b ws) o
   unfolding summaryOf
   made o o₁ whole delay count h e f g k =
-      ap (λ (x : List ℕ). after 3 x (criticalOf b ws)) e ∙ headed o (criticalOf b ws) whole delay count h ∙ rw (f, g, k)
+      ap (λ (x : List ℕ). writtenAfter 3 x (criticalOf b ws)) e ∙ headed o (criticalOf b ws) whole delay count h ∙ rw (f, g, k)
 
   pub summary-numbers : (n : ℕ) → n ≡ length (criticalOf b ws) → n + 3 ≡ length (summaryOf b ws)
   unfolding summaryOf

@@ -1,3 +1,4 @@
+// The critical partition and the delay, found piece by piece.
 use crate::pieces::piece_from;
 use crate::supply::least_at_ends;
 use shared::table::Owned;
@@ -9,16 +10,15 @@ use tables::answer::refuse;
 use tables::board::Board;
 use tables::window::Window;
 ghost use mathlib.Core.Path.{_≡_};
-ghost use mathlib.Core.List.{_++_};
 ghost use Prim.Native.Nat.{_+_, _-_, _*_, _≤_, max};
-ghost use lib.ListN.{length, take};
+ghost use lib.ListN.{length};
 ghost use Rattle.scope.specs.Limits.{mostFrame};
-ghost use Rattle.scope.specs.Numbers.{written};
 ghost use Rattle.scope.specs.Ticks.{perFrame};
 ghost use Rattle.scope.specs.Windows.{suppliedBy};
 ghost use Rattle.scope.specs.Answers.{Fault.fine, tableFault, criticalOf, criticalAnswer, criticalOut, delayAnswer};
 ghost use Rattle.scope.specs.Shared.{criticalFor, criticalOutFor, delayFor};
 ghost use Rattle.theory.specs.Answers.{LegalTable};
+ghost use Rattle.theory.specs.Buffers.{writtenAfter};
 ghost use Rattle.tables.specs.Told.{boardOf, toldAmount, toldDelay};
 ghost use Rattle.supply.specs.Measures.{hasAt, metOf, Measured};
 
@@ -114,7 +114,7 @@ pub(crate) fn measured(
 // Writes the critical partition after the first `from` numbers of out.
 pub(crate) fn write_edges(board: Board, windows: &[u32], from: usize, out: &mut [u32])
     requires { ⌜ LegalTable (boardOf board) (now windows) × (from + length (criticalOf (boardOf board) (now windows)) ≤ length (now out)) ⌝ }
-    ensures { λ _. ⌜ now (out .exit) ≡ written (take from (now (out .entry)) ++ criticalOf (boardOf board) (now (windows .entry))) (now (out .entry)) ⌝ }
+    ensures { λ _. ⌜ now (out .exit) ≡ writtenAfter from (now (out .entry)) (criticalOf (boardOf board) (now (windows .entry))) ⌝ }
 {
     let frame = board.frame;
     let mut at = from;

@@ -1,3 +1,4 @@
 pub mod Told
 pub mod Determined
 pub mod Cursors
+pub mod Refused

@@ -1,4 +1,4 @@
--- Laws of a lent buffer with a list written at its front, or after its first numbers
+-- Laws of a lent buffer with a list written at its front, or after its first numbers, and of one that begins with a list
 use mathlib.Core.Path.{_≡_, refl, sym, ap, _∙_}
 use mathlib.Core.Bool.{true, false≢true}
 use mathlib.Core.List.{List, [], _∷_, _++_, append-assoc, append-nil}
@@ -38,19 +38,19 @@ take-written l d = take-append-seam l (drop (length l) d)
 
 -- ---- a buffer d with a list written after its first numbers
 
-abbrev pub after : ℕ → List ℕ → List ℕ → List ℕ
-after from d l = written (take from d ++ l) d
+abbrev pub writtenAfter : ℕ → List ℕ → List ℕ → List ℕ
+writtenAfter from d l = written (take from d ++ l) d
 
 module _ (from : ℕ) (d : List ℕ) (h : from ≤ length d) where
-  pub after-none : d ≡ after from d []
+  pub after-none : d ≡ writtenAfter from d []
   unfolding written
   after-none = rw (append-nil (take from d), length-take-le from d h) (sym (take-append-drop from d))
 
-  pub after-more : (l out : List ℕ) (at a : ℕ) → at ≡ from + length l → at < length d → out ≡ after from d l → set out at a ≡ after from d (l ++ (a ∷ []))
+  pub after-more : (l out : List ℕ) (at a : ℕ) → at ≡ from + length l → at < length d → out ≡ writtenAfter from d l → set out at a ≡ writtenAfter from d (l ++ (a ∷ []))
   after-more l out at a e m is =
       let z : length (take from d ++ l) ≡ at = omega (arith, length-append (take from d) l, length-take-le from d h) in
       let u : length (take from d ++ l) < length d = omega arith in
-      ap (λ (o : List ℕ). set o at a) is ∙ ap (λ (n : ℕ). set (after from d l) n a) (sym z) ∙ written-more (take from d ++ l) d a u
+      ap (λ (o : List ℕ). set o at a) is ∙ ap (λ (n : ℕ). set (writtenAfter from d l) n a) (sym z) ∙ written-more (take from d ++ l) d a u
       ∙ ap (λ (x : List ℕ). written x d) (append-assoc (take from d) l (a ∷ []))
 
 -- ---- memory that begins with a list

@@ -5,7 +5,7 @@ use native.Mathlib.Omega.{arith}
 use lib.ListN.{length, take, length-set}
 use lib.Seq.{length-take-le, take-suc, take-length}
 use borrow.Author.Needs.{needs}
-use Rattle.theory.specs.Buffers.{after, after-none, after-more}
+use Rattle.theory.specs.Buffers.{writtenAfter, after-none, after-more}
 use Rattle.edits.proofs.splice.copy.Statement.{statement}
 use Rattle.edits.proofs.splice.copy.Tie as tie
 use Rattle.edits.proofs.splice.copy.Reads as reads
@@ -13,7 +13,7 @@ use Rattle.edits.proofs.splice.copy.Lts as lts
 
 abbrev Inv-loop : tie.InvT-loop
 Inv-loop numbers at out₀ count i₀ out i =
-    (i ≤ count) × (at + length numbers ≤ length out₀) × (length out ≡ length out₀) × (out ≡ after at out₀ (take i numbers))
+    (i ≤ count) × (at + length numbers ≤ length out₀) × (length out ≡ length out₀) × (out ≡ writtenAfter at out₀ (take i numbers))
 
 abbrev μ-loop : tie.MeasureT-loop
 μ-loop numbers at out₀ count i₀ out i = count - i
@@ -54,7 +54,7 @@ loop-again c =
       simp length-set (l .inv .2),
       after-more (a .at) (a .out .now) (omega (arith, l .inv .1)) (take (l .i) (a .numbers .now)) (l .out) _ _
           (omega (arith, length-take-le (l .i) (a .numbers .now) (omega arith))) (omega (arith, l .inv .1)) (l .inv .3)
-          ∙ ap (after (a .at) (a .out .now)) (sym (rw add-one (take-suc (a .numbers .now) (l .i) 0 h))),
+          ∙ ap (writtenAfter (a .at) (a .out .now)) (sym (rw add-one (take-suc (a .numbers .now) (l .i) 0 h))),
     )
 
 same-length : tie.Need-same-length Inv-loop μ-loop
@@ -65,7 +65,7 @@ returns c =
     let a = c .before .before .args in
     let l = c .before .loop in
     let e : l .i ≡ length (a .numbers .now) = omega (arith, l .inv .0, c .loop-test .left) in
-    l .inv .3 ∙ ap (after (a .at) (a .out .now)) (ap (λ (n : ℕ). take n (a .numbers .now)) e ∙ take-length (a .numbers .now))
+    l .inv .3 ∙ ap (writtenAfter (a .at) (a .out .now)) (ap (λ (n : ℕ). take n (a .numbers .now)) e ∙ take-length (a .numbers .now))
 
 pub copy-spec : {M : Type 1} → statement M
 copy-spec =

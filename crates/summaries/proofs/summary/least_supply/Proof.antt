@@ -11,7 +11,7 @@ use Rattle.summaries.proofs.summary.least_supply.Statement.{statement}
 use Rattle.summaries.proofs.summary.least_supply.Tie as tie
 use Rattle.summaries.proofs.summary.least_supply.Reads as reads
 use Rattle.summaries.proofs.summary.least_supply.Lts as lts
-use Rattle.summaries.proofs.summary.least_in.Reads as least-in-reads
+use Rattle.summaries.proofs.summary.least_from_in.Reads as least-from-in-reads
 use Rattle.shared.proofs.table.own_windows.Reads as own-windows-reads
 
 -- the owner's windows stand in the memory
@@ -38,11 +38,11 @@ enum-known-n c = search needs
 array-share-prefix-own : tie.Need-array-share-prefix-own
 array-share-prefix-own c = let t = own-at c in omega (arith, t .few)
 
-slice-aggregate-least-in : tie.Need-slice-aggregate-least-in
-slice-aggregate-least-in c = sym (length-take-le _ _ (array-share-prefix-own (c .before)))
+slice-aggregate-least-from-in : tie.Need-slice-aggregate-least-from-in
+slice-aggregate-least-from-in c = sym (length-take-le _ _ (array-share-prefix-own (c .before)))
 
-least-in-requires : tie.Need-least-in-requires
-least-in-requires c κs = search needs
+least-from-in-requires : tie.Need-least-from-in-requires
+least-from-in-requires c κs = search needs
 
 returns : tie.Need-returns
 unfolding leastFromFor
@@ -52,7 +52,7 @@ returns c =
 
 returns-2 : tie.Need-returns-2
 unfolding leastFromFor
-returns-2 c = c .least-in .ensures ∙ asked-taken _ _ _ refused (λ l. leastFromAnswer _ l _ _) (own-at (c .before .before))
+returns-2 c = c .least-from-in .ensures ∙ asked-taken _ _ _ refused (λ l. leastFromAnswer _ l _ _) (own-at (c .before .before))
 
 pub least-supply-spec : {M : Type 1} → statement M
 least-supply-spec =
@@ -63,7 +63,7 @@ least-supply-spec =
     enum-known-r
     enum-known-n
     array-share-prefix-own
-    slice-aggregate-least-in
-    least-in-requires
+    slice-aggregate-least-from-in
+    least-from-in-requires
     returns
     returns-2)

@@ -8,7 +8,7 @@ use Rattle.scope.specs.Windows.{suppliedBy}
 use Rattle.scope.specs.Answers.{criticalOf}
 use Rattle.theory.specs.Ticks.{least-none}
 use Rattle.theory.specs.Rows.{table-row}
-use Rattle.theory.specs.Buffers.{after, after-none, after-more}
+use Rattle.theory.specs.Buffers.{writtenAfter, after-none, after-more}
 use Rattle.tables.specs.Told.{boardOf}
 use Rattle.supply.proofs.PartitionLaws.{was-none, edges, edges-none, rose, next-rose, next-edge, next-none, next-most, last-edge, last-none}
 use Rattle.supply.proofs.partition.write_edges.Statement.{statement}
@@ -26,7 +26,7 @@ Inv-loop board windows from out₀ frame at₀ before₀ least₀ t₀ out at be
     × (at ≡ from + length (edges b windows t))
     × (length out ≡ length out₀)
     × (from + length (criticalOf b windows) ≤ length out₀)
-    × (out ≡ after from out₀ (edges b windows t))
+    × (out ≡ writtenAfter from out₀ (edges b windows t))
 
 abbrev μ-loop : tie.MeasureT-loop
 μ-loop board windows from out₀ frame at₀ before₀ least₀ t₀ out at before least t = frame - t
@@ -42,7 +42,7 @@ loop-holds c =
       omega (arith, ap length e),
       refl,
       p .1,
-      after-none (a .from) (a .out .now) (omega (arith, p .1)) ∙ ap (after (a .from) (a .out .now)) (sym e),
+      after-none (a .from) (a .out .now) (omega (arith, p .1)) ∙ ap (writtenAfter (a .from) (a .out .now)) (sym e),
     )
 
 piece-from-requires : tie.Need-piece-from-requires Inv-loop μ-loop
@@ -92,7 +92,7 @@ loop-again c =
       simp length-set (l .inv .4),
       l .inv .5,
       after-more (a .from) (a .out .now) (omega (arith, l .inv .5)) (edges b (a .windows .now) (l .t)) (l .out) (l .at) (l .t) (l .inv .3) (omega (arith, room c, l .inv .4)) (l .inv .6)
-          ∙ ap (after (a .from) (a .out .now)) (sym e),
+          ∙ ap (writtenAfter (a .from) (a .out .now)) (sym e),
     )
 
 loop-less-2 : tie.Need-loop-less-2 Inv-loop μ-loop
@@ -112,7 +112,7 @@ loop-again-2 c =
       omega (arith, l .inv .3, ap length e),
       l .inv .4,
       l .inv .5,
-      l .inv .6 ∙ ap (after (a .from) (a .out .now)) (sym e),
+      l .inv .6 ∙ ap (writtenAfter (a .from) (a .out .now)) (sym e),
     )
 
 -- at the end of the frame
@@ -159,7 +159,7 @@ returns c =
     let l = c .before .before .loop in
     after-more (a .from) (a .out .now) (omega (arith, l .inv .5)) (edges (boardOf (a .board)) (a .windows .now) (l .t)) (l .out) (l .at) (a .board .frame) (l .inv .3)
     (omega (arith, room-2 c, l .inv .4)) (l .inv .6)
-    ∙ ap (after (a .from) (a .out .now)) (sym (closed c))
+    ∙ ap (writtenAfter (a .from) (a .out .now)) (sym (closed c))
 
 same-length-2 : tie.Need-same-length-2 Inv-loop μ-loop
 same-length-2 c = c .before .before .loop .inv .4
@@ -171,7 +171,7 @@ returns-2 c =
     let b = boardOf (a .board) in
     let e = ended (c .before) in
     l .inv .6
-    ∙ ap (after (a .from) (a .out .now)) (ap (edges b (a .windows .now)) e ∙ sym (last-none b (a .windows .now) (l .before) (l .inv .1 ∙ ap (rose b (a .windows .now)) e) (c .if2 .left)))
+    ∙ ap (writtenAfter (a .from) (a .out .now)) (ap (edges b (a .windows .now)) e ∙ sym (last-none b (a .windows .now) (l .before) (l .inv .1 ∙ ap (rose b (a .windows .now)) e) (c .if2 .left)))
 
 pub write-edges-spec : {M : Type 1} → statement M
 write-edges-spec =

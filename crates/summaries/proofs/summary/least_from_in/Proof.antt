@@ -5,10 +5,10 @@ use Rattle.scope.specs.Summary.{summaryFault, leastFromAnswer}
 use Rattle.tables.specs.Told.{faultOf}
 use Rattle.tables.proofs.FaultLaws.{refused-first}
 use Rattle.summaries.proofs.LeastLaws.{from-belonging}
-use Rattle.summaries.proofs.summary.least_in.Statement.{statement}
-use Rattle.summaries.proofs.summary.least_in.Tie as tie
-use Rattle.summaries.proofs.summary.least_in.Reads as reads
-use Rattle.summaries.proofs.summary.least_in.Lts as lts
+use Rattle.summaries.proofs.summary.least_from_in.Statement.{statement}
+use Rattle.summaries.proofs.summary.least_from_in.Tie as tie
+use Rattle.summaries.proofs.summary.least_from_in.Reads as reads
+use Rattle.summaries.proofs.summary.least_from_in.Lts as lts
 use Rattle.summaries.proofs.least.least_from.Reads as least-from-reads
 use Rattle.supply.proofs.summary.check_summary.Reads as check-summary-reads
 
@@ -35,7 +35,7 @@ returns-2 c =
     c .least-from .ensures
     ∙ from-belonging _ _ _ _ (sym (c .before .before .before .check-summary .ensures) ∙ ap faultOf (c .before .enum-told .given .1))
 
-pub least-in-spec : {M : Type 1} → statement M
-least-in-spec =
+pub least-from-in-spec : {M : Type 1} → statement M
+least-from-in-spec =
     tie.close
     (tie.spec check-summary-requires enum-known-r enum-told least-from-requires returns returns-2)
