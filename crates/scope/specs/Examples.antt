@@ -519,8 +519,8 @@ table =
     ∷ ("12 before 8, an edit" asks editOfFor (onAtLeast 4 0 2) 1 (0 ∷ 2 ∷ 0 ∷ []) halfSummary (add 1 3 4 1) gives anEdit (refused 12 1) (0 ∷ 2 ∷ 0 ∷ []) halfSummary)
     ∷ ("an edit without room for the windows" asks editOfFor (on 4) 1 (0 ∷ 1 ∷ 0 ∷ 9 ∷ 9 ∷ []) oneSummary (add 1 2 3 0)
     gives anEdit (refused 8 6) (0 ∷ 1 ∷ 0 ∷ 9 ∷ 9 ∷ []) oneSummary)
-    ∷ ("an edit without room for the summary" asks editOfFor (on 4) 1 Y (1 ∷ 3 ∷ 1 ∷ 3 ∷ 4 ∷ 9 ∷ []) (add 1 2 3 0)
-    gives anEdit (refused 8 7) Y (1 ∷ 3 ∷ 1 ∷ 3 ∷ 4 ∷ 9 ∷ []))
+    ∷ ("an edit without room for the summary" asks editOfFor (on 4) 1 (0 ∷ 1 ∷ 0 ∷ 9 ∷ 9 ∷ 9 ∷ []) (1 ∷ 3 ∷ 1 ∷ 3 ∷ 4 ∷ 9 ∷ []) (add 1 2 3 0)
+    gives anEdit (refused 8 7) (0 ∷ 1 ∷ 0 ∷ 9 ∷ 9 ∷ 9 ∷ []) (1 ∷ 3 ∷ 1 ∷ 3 ∷ 4 ∷ 9 ∷ []))
     -- of the four errors, W5 and W9 show two: here supply counted from tick 0 passes the first, and starts at window ends miss the second's least start
     ∷ ("supply from tick 0" asks verdictOf 8 X (2 ∷ 8 ∷ 3 ∷ []) gives aVerdict (given (miss 3 2 2 0)))
     ∷ ("starts at window ends" asks verdictOf 8 X (2 ∷ 4 ∷ 4 ∷ []) gives aVerdict (given (miss 4 1 2 1)))
