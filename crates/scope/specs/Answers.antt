@@ -1,13 +1,13 @@
 -- Document 01, "Refusal numbers": what each entry checks, in which order, and what it answers and writes, on any numbers at all.
 use Prim.Native.Nat.{ℕ, _/_}
-use mathlib.Core.Bool.{Bool, true, false, _||_}
+use mathlib.Core.Bool.{Bool, true, false, not, _&&_, _||_}
 use mathlib.Core.Option.{Option, none, some}
 use mathlib.Core.List.{List, [], _∷_}
 use lib.Dec.{leb, ltb, eqb}
 use lib.IntN.{ℤ}
 use lib.ListN.{length}
 use Rattle.scope.specs.Numbers.{badCount, written}
-use Rattle.scope.specs.Limits.{mostFrame, mostShortest, mostWindows, mostTasks, mostCycle, mostLength, mostTicks, mostJobs}
+use Rattle.scope.specs.Limits.{mostFrame, mostShortest, mostLost, mostWindows, mostTasks, mostCycle, mostLength, mostTicks, mostJobs}
 use Rattle.scope.specs.Ticks.{perFrame, leastSupply}
 use Rattle.scope.specs.Windows.{Board, Window, windowsOf, suppliedBy, badWindow}
 use Rattle.scope.specs.Partition.{critical, delay, outage}
@@ -108,6 +108,11 @@ jobFault ts n js = faultAt 11 (badJob ts n js)
 unfoldable pub shortestFault : Board → Fault
 shortestFault b = faultIf (eqb (b .shortest) 0 || ltb mostShortest (b .shortest)) 12 64
 
+-- 13: the rule is neither 1 nor 2, more than 65,535 ticks are lost, or rule 1 comes with lost ticks
+unfoldable pub ruleFault : Board → Fault
+ruleFault b =
+    faultIf (not (eqb (b .rule) 1 || eqb (b .rule) 2) || ltb mostLost (b .lost) || (eqb (b .rule) 1 && ltb 0 (b .lost))) 13 0
+
 -- the checks of a table, 1 2 3, and of a group, 4 5, as lists of numbers
 unfoldable pub tableFault : Board → List ℕ → Fault
 tableFault b ws = windowListFault ws orElse frameFault b orElse windowFault b (windowsOf ws)
@@ -117,9 +122,9 @@ groupFault ts = taskListFault ts orElse taskFault (tasksOf ts)
 
 -- ---- one value alone, as a constructor takes it
 
--- which owners there are is judged with the windows
+-- which owners there are, and whether a tick is left to the one asked for, is judged with the windows
 unfoldable pub boardAnswer : Board → Answer Board
-boardAnswer b = unless (frameFault b orElse shortestFault b) b
+boardAnswer b = unless (frameFault b orElse shortestFault b orElse ruleFault b) b
 
 unfoldable pub windowAnswer : Board → Window → Answer Window
 windowAnswer b w = unless (windowFault b (w ∷ [])) w

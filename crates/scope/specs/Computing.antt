@@ -11,7 +11,7 @@ use Rattle.scope.specs.Jobs.{jobLegal, badJob}
 use Rattle.scope.specs.Machine.{pending, tick, workLeft}
 use Rattle.scope.specs.Run.{late, outcome, backlogIn, backlog, countOf, ran, counts}
 use Rattle.scope.specs.Answers.{windowListFault, frameFault, windowFault, tableFault, lengthFault, roomFault, criticalFault, taskListFault, taskFault}
-use Rattle.scope.specs.Answers.{groupFault, cycleFault, absentFault, jobListFault, jobFault, runFault, shortestFault, boardAnswer, windowAnswer, taskAnswer}
+use Rattle.scope.specs.Answers.{groupFault, cycleFault, absentFault, jobListFault, jobFault, runFault, shortestFault, ruleFault, boardAnswer, windowAnswer, taskAnswer}
 use Rattle.scope.specs.Answers.{suppliedAnswer, lengthAnswer, runTicksAnswer, leastSupplyAnswer, criticalAnswer, criticalOut, delayAnswer, outageAnswer}
 use Rattle.scope.specs.Answers.{demandAnswer}
 use Rattle.scope.specs.Answers.{marginAnswer, verdictAnswer, boundAnswer, runAnswer, runOut}
@@ -22,8 +22,8 @@ use Rattle.scope.specs.Trace.{readRecord, recordsWithin, traceOf, elapse
 use Rattle.scope.specs.Trace.{recordBytes, traceBytes}
 use Rattle.scope.specs.Replay.{ends, endedIn, endedFrom, releasedAt, recordedTo, firstDifference, replayed, extentFault, recordFault, replayFault}
 use Rattle.scope.specs.Replay.{recordsAnswer, replayAnswer}
-use Rattle.scope.specs.Shared.{windowsFor, asOwned, follows, ownedLegal, badOwned, ownedListFault, ownedFault, wholeFault, absentOwnerFault}
-use Rattle.scope.specs.Shared.{sliver, firstSliver, sliverFault, sharedFault}
+use Rattle.scope.specs.Shared.{windowsFor, leftOf, asOwned, follows, ownedLegal, badOwned, ownedListFault, ownedFault, wholeFault, absentOwnerFault}
+use Rattle.scope.specs.Shared.{sliver, firstSliver, sliverFault, lostFault, sharedFault}
 use Rattle.scope.specs.Shared.{ownedAnswer, ownFault, ownAnswer, ownOut, asOwnedAnswer, asOwnedOut}
 use Rattle.scope.specs.Shared.{askedFor, suppliedFor, leastSupplyFor, criticalFor, criticalOutFor, delayFor, outageFor, marginFor, verdictFor, boundFor}
 use Rattle.scope.specs.Shared.{runFor, runOutFor, recordsFor, replayFor, planAnswer}
@@ -61,7 +61,7 @@ unfolding taskListFault taskFault groupFault cycleFault absentFault jobListFault
 groupFaults·compute = tt
 
 unfoldable pub constructors·compute : Unit {0}
-unfolding shortestFault boardAnswer windowAnswer taskAnswer lengthAnswer runTicksAnswer
+unfolding shortestFault ruleFault boardAnswer windowAnswer taskAnswer lengthAnswer runTicksAnswer
 constructors·compute = tt
 
 unfoldable pub tableAnswers·compute : Unit {0}
@@ -89,7 +89,7 @@ unfolding ends endedIn endedFrom releasedAt recordedTo firstDifference replayed 
 replays·compute = tt
 
 unfoldable pub sharedFaults·compute : Unit {0}
-unfolding windowsFor asOwned follows ownedLegal badOwned ownedListFault ownedFault wholeFault absentOwnerFault sliver firstSliver sliverFault sharedFault ownedAnswer ownFault ownAnswer ownOut asOwnedAnswer asOwnedOut askedFor
+unfolding windowsFor leftOf asOwned follows ownedLegal badOwned ownedListFault ownedFault wholeFault absentOwnerFault sliver firstSliver sliverFault lostFault sharedFault ownedAnswer ownFault ownAnswer ownOut asOwnedAnswer asOwnedOut askedFor
 sharedFaults·compute = tt
 
 unfoldable pub sharedAnswers·compute : Unit {0}

@@ -16,9 +16,9 @@ use Rattle.scope.specs.Machine.{pending, worked}
 
 -- ---- 001's definitions
 
--- each tick cut into q: the frame, the edges and the shortest window times q
+-- each tick cut into q: the frame, the edges, the shortest window and the lost ticks times q
 abbrev pub finerBoard : ℕ → Board → Board
-finerBoard q b = record { frame = q * b .frame; owner = b .owner; shortest = q * b .shortest }
+finerBoard q b = record { frame = q * b .frame; owner = b .owner; shortest = q * b .shortest; rule = b .rule; lost = q * b .lost }
 
 abbrev pub finerWindows : ℕ → List Window → List Window
 finerWindows q ws = map (λ w. window (q * w .start) (q * w .end)) ws

@@ -47,7 +47,7 @@ pub data Question : Type 0 where
   writtenPlan : (plan : Plan) (buffer : List ℕ) → Question
   lineInto : (settings : ℕ) (plan buffer : List ℕ) → Question
   frames : (frames : List ℕ) → Question
-  shortests : (shortests : List ℕ) → Question
+  boardsAlone : (boards : List Board) → Question
   askedLengths : (lengths : List ℕ) → Question
   runTicks : (ticks : List ℕ) → Question
   windowAlone : (frame start end : ℕ) → Question
@@ -100,11 +100,19 @@ pub data Reply : Type 0 where
 abbrev release : Record
 release = record { instant = 0; kind = 0; task = 0; work = 1 }
 
--- a board with frame P that asks for owner o and allows no window shorter than m
-abbrev pub onAtLeast : ℕ → ℕ → ℕ → Board
-onAtLeast P o m = record { frame = P; owner = o; shortest = m }
+-- a board with frame P that asks for owner o, allows no window shorter than m, and gives windows by rule r with q ticks lost
+abbrev pub onRule : ℕ → ℕ → ℕ → ℕ → ℕ → Board
+onRule P o m r q = record { frame = P; owner = o; shortest = m; rule = r; lost = q }
 
--- one that allows every window
+-- one that allows every window, and loses q ticks of each
+abbrev pub losing : ℕ → ℕ → ℕ → Board
+losing P o q = onRule P o 1 2 q
+
+-- one that gives the whole window
+abbrev pub onAtLeast : ℕ → ℕ → ℕ → Board
+onAtLeast P o m = onRule P o m 1 0
+
+-- and allows every window
 abbrev pub onFor : ℕ → ℕ → Board
 onFor P o = onAtLeast P o 1
 
@@ -126,7 +134,7 @@ reply (demandsOf ts lengths) = amounts (map (demandAnswer ts) lengths)
 reply (writtenPlan plan out) = bytesIn (writeAnswer plan (length out)) (writeOut plan out)
 reply (lineInto k plan out) = bytesIn (lineAnswer (planAnswer k plan) (length out)) (lineOut (planAnswer k plan) out)
 reply (frames l) = boards (map (λ P. boardAnswer (on P)) l)
-reply (shortests l) = boards (map (λ m. boardAnswer (onAtLeast 8 0 m)) l)
+reply (boardsAlone l) = boards (map boardAnswer l)
 reply (askedLengths l) = amounts (map lengthAnswer l)
 reply (runTicks l) = amounts (map runTicksAnswer l)
 reply (windowAlone P s e) = aWindow (windowAnswer (on P) (window s e))
@@ -395,7 +403,7 @@ table =
     ∷ ("the largest m" asks suppliedOfFor (onAtLeast 65536 0 65536) (0 ∷ 65536 ∷ 0 ∷ []) (9 ∷ []) gives ticks (given true ∷ []))
     ∷ ("one more than the largest m" asks suppliedOfFor (onAtLeast 65536 0 65537) (0 ∷ 65536 ∷ 0 ∷ []) (9 ∷ []) gives ticks (refused 12 64 ∷ []))
     ∷ ("the range before the windows" asks outageOfFor (onAtLeast 8 0 65537) (0 ∷ 1 ∷ 0 ∷ []) gives amounts (refused 12 64 ∷ []))
-    ∷ ("shortest windows" asks shortests (0 ∷ 1 ∷ 65536 ∷ 65537 ∷ [])
+    ∷ ("shortest windows" asks boardsAlone (map (onAtLeast 8 0) (0 ∷ 1 ∷ 65536 ∷ 65537 ∷ []))
     gives boards (refused 12 64 ∷ given (on 8) ∷ given (onAtLeast 8 0 65536) ∷ refused 12 64 ∷ []))
     -- after 1, 2, 3 and an absent owner, before 4; after a trace's 9; and nothing is written
     ∷ ("1 before 12" asks verdictOfFor (onAtLeast 8 0 0) [] [] gives aVerdict (refused 1 0))
@@ -521,6 +529,86 @@ table =
     gives anEdit (refused 8 6) (0 ∷ 1 ∷ 0 ∷ 9 ∷ 9 ∷ []) oneSummary)
     ∷ ("an edit without room for the summary" asks editOfFor (on 4) 1 (0 ∷ 1 ∷ 0 ∷ 9 ∷ 9 ∷ 9 ∷ []) (1 ∷ 3 ∷ 1 ∷ 3 ∷ 4 ∷ 9 ∷ []) (add 1 2 3 0)
     gives anEdit (refused 8 7) (0 ∷ 1 ∷ 0 ∷ 9 ∷ 9 ∷ 9 ∷ []) (1 ∷ 3 ∷ 1 ∷ 3 ∷ 4 ∷ 9 ∷ []))
+    -- request 7: of X's windows a board that loses one tick leaves (1,2) and (6,7), the last tick of each
+    ∷ ("a tick lost" asks suppliedOfFor (losing 8 0 1) XShared (0 ∷ 1 ∷ 2 ∷ 5 ∷ 6 ∷ 8 ∷ 9 ∷ [])
+    gives ticks (given false ∷ given true ∷ given false ∷ given false ∷ given true ∷ given false ∷ given true ∷ []))
+    ∷ ("least supply after a loss" asks leastSuppliesFor (losing 8 0 1) XShared (0 ∷ 1 ∷ 2 ∷ 3 ∷ 4 ∷ 5 ∷ 6 ∷ 7 ∷ 8 ∷ [])
+    gives amounts (map given (0 ∷ 0 ∷ 0 ∷ 0 ∷ 0 ∷ 1 ∷ 1 ∷ 1 ∷ 2 ∷ [])))
+    ∷ ("critical windows after a loss" asks criticalWindowsFor (losing 8 0 1) XShared (9 ∷ 9 ∷ 9 ∷ 9 ∷ 9 ∷ []) gives windows (given 2) (4 ∷ 5 ∷ 7 ∷ 8 ∷ 9 ∷ []))
+    ∷ ("delay after a loss" asks delayOfFor (losing 8 0 1) XShared gives aDelay (given (record { delay = 8; A = 2 })))
+    ∷ ("outage after a loss" asks outageOfFor (losing 8 0 1) XShared gives amounts (given 4 ∷ []))
+    ∷ ("W4's task after a loss" asks verdictOfFor (losing 8 0 1) XShared (1 ∷ 4 ∷ 4 ∷ []) gives aVerdict (given (miss 4 2 1 0)))
+    ∷ ("its margin" asks marginOfFor (losing 8 0 1) XShared (1 ∷ 4 ∷ 4 ∷ []) 4 gives aMargin (given (negsuc 0)))
+    ∷ ("a task that meets after a loss" asks verdictOfFor (losing 8 0 1) XShared (1 ∷ 8 ∷ 5 ∷ []) gives aVerdict (given (meets 8)))
+    ∷ ("bounds after a loss" asks boundsOfFor (losing 8 0 1) XShared (1 ∷ 8 ∷ 8 ∷ 1 ∷ 8 ∷ 8 ∷ []) (0 ∷ 1 ∷ []) gives bounds (map (λ t. given (bound t)) (5 ∷ 8 ∷ [])))
+    ∷ ("a run after a loss" asks runOfFor (losing 8 0 1) XShared (1 ∷ 8 ∷ 5 ∷ 1 ∷ 8 ∷ 8 ∷ []) 10 (2 ∷ 0 ∷ 1 ∷ 2 ∷ 1 ∷ 1 ∷ []) (9 ∷ 9 ∷ 9 ∷ [])
+    gives aRun (given (record { outcome = met; backlog = 2 })) (5 ∷ 8 ∷ 9 ∷ []))
+    ∷ ("a trace after a loss" asks replayOfFor (losing 8 0 1) XShared (1 ∷ 8 ∷ 5 ∷ []) (0 ∷ 0 ∷ 1 ∷ 100 ∷ 1 ∷ 0 ∷ 101 ∷ [])
+    gives aReplay (given (Replays.differs (some (completion 1 0)) none)))
+    ∷ ("the trace of that board" asks replayOfFor (losing 8 0 1) XShared (1 ∷ 8 ∷ 5 ∷ []) (0 ∷ 0 ∷ 1 ∷ 100 ∷ 1 ∷ 0 ∷ 102 ∷ []) gives aReplay (given Replays.same))
+    ∷ ("a summary after a loss" asks summaryMadeFor (losing 8 0 1) XShared (9 ∷ 9 ∷ 9 ∷ 9 ∷ 9 ∷ 9 ∷ 9 ∷ 9 ∷ []) gives summary (given 7) (2 ∷ 8 ∷ 2 ∷ 4 ∷ 5 ∷ 7 ∷ 8 ∷ 9 ∷ []))
+    ∷ ("least supply from it" asks leastFromsFor (losing 8 0 1) XShared (2 ∷ 8 ∷ 2 ∷ 4 ∷ 5 ∷ 7 ∷ 8 ∷ []) (5 ∷ 15 ∷ []) gives amounts (given 1 ∷ given 3 ∷ []))
+    ∷ ("X's own summary after a loss" asks leastFromsFor (losing 8 0 1) XShared XSummary (5 ∷ []) gives amounts (refused 14 0 ∷ []))
+    ∷ ("margins after a loss" asks marginsOfFor (losing 8 0 1) XShared (2 ∷ 8 ∷ 2 ∷ 4 ∷ 5 ∷ 7 ∷ 8 ∷ []) (1 ∷ 4 ∷ 4 ∷ []) (4 ∷ 8 ∷ []) (pos 9 ∷ pos 9 ∷ [])
+    gives margins (given 2) (negsuc 0 ∷ pos 0 ∷ []))
+    -- each window loses its own first ticks, and one no longer than these gives nothing: owner 1's (2,5) leaves (3,5), and (7,8) nothing
+    ∷ ("what owner 1 is left" asks ownOf (losing 8 1 1) XShared (9 ∷ 9 ∷ 9 ∷ 9 ∷ 9 ∷ []) gives windows (given 2) (3 ∷ 5 ∷ 9 ∷ 9 ∷ 9 ∷ []))
+    ∷ ("its ticks" asks suppliedOfFor (losing 8 1 1) XShared (2 ∷ 3 ∷ 4 ∷ 7 ∷ []) gives ticks (given false ∷ given true ∷ given true ∷ given false ∷ []))
+    ∷ ("one tick that is left" asks outageOfFor (losing 8 1 2) XShared gives amounts (given 7 ∷ []))
+    ∷ ("what is left without room" asks ownOf (losing 8 1 1) XShared (9 ∷ []) gives windows (refused 8 2) (9 ∷ []))
+    -- rule 2 without a loss gives what rule 1 gives
+    ∷ ("W1 by rule 2" asks leastSuppliesFor (losing 8 0 0) XShared (0 ∷ 1 ∷ 2 ∷ 3 ∷ 4 ∷ 5 ∷ 6 ∷ 7 ∷ 8 ∷ [])
+    gives amounts (map given (0 ∷ 0 ∷ 0 ∷ 0 ∷ 1 ∷ 2 ∷ 2 ∷ 3 ∷ 4 ∷ [])))
+    -- 13: no tick is left to the asked owner, whatever another's windows are; no such rule; too many lost ticks; a loss under rule 1
+    ∷ ("no tick left" asks verdictOfFor (losing 8 0 2) XShared [] gives aVerdict (refused 13 0))
+    ∷ ("ticks left to the other team" asks verdictOfFor (losing 8 1 2) XShared [] gives aVerdict (given (meets 8)))
+    ∷ ("no tick left to the other team" asks outageOfFor (losing 8 0 2) labShared gives amounts (given 4 ∷ []))
+    ∷ ("no rule 0" asks outageOfFor (onRule 8 0 1 0 0) XShared gives amounts (refused 13 0 ∷ []))
+    ∷ ("no rule 3" asks outageOfFor (onRule 8 0 1 3 1) XShared gives amounts (refused 13 0 ∷ []))
+    ∷ ("a loss under rule 1" asks outageOfFor (onRule 8 0 1 1 1) XShared gives amounts (refused 13 0 ∷ []))
+    ∷ ("the largest loss" asks suppliedOfFor (losing 65536 0 65535) (0 ∷ 65536 ∷ 0 ∷ []) (65534 ∷ 65535 ∷ []) gives ticks (given false ∷ given true ∷ []))
+    ∷ ("one more than the largest loss" asks suppliedOfFor (losing 65536 0 65536) (0 ∷ 65536 ∷ 0 ∷ []) (9 ∷ []) gives ticks (refused 13 0 ∷ []))
+    ∷ ("boards by their rule" asks boardsAlone (onRule 8 0 1 0 0 ∷ onRule 8 0 1 1 0 ∷ onRule 8 0 1 1 1 ∷ losing 8 0 0 ∷ losing 8 0 65535 ∷ losing 8 0 65536 ∷ onRule 8 0 1 3 0 ∷ [])
+    gives boards (refused 13 0 ∷ given (on 8) ∷ refused 13 0 ∷ given (losing 8 0 0) ∷ given (losing 8 0 65535) ∷ refused 13 0 ∷ refused 13 0 ∷ []))
+    ∷ ("a board's 2 and 12 before its 13" asks boardsAlone (onRule 0 0 0 3 0 ∷ onRule 8 0 0 3 0 ∷ []) gives boards (refused 2 0 ∷ refused 12 64 ∷ []))
+    -- after 1, 2, 3, an absent owner and 12, before 4; after a trace's 9; and nothing is written
+    ∷ ("1 before 13" asks verdictOfFor (onRule 8 0 1 3 0) [] [] gives aVerdict (refused 1 0))
+    ∷ ("2 before 13" asks verdictOfFor (onRule 0 0 1 3 0) XShared [] gives aVerdict (refused 2 0))
+    ∷ ("3 before 13" asks verdictOfFor (losing 8 0 2) (0 ∷ 2 ∷ 0 ∷ 2 ∷ 4 ∷ 0 ∷ []) [] gives aVerdict (refused 3 1))
+    ∷ ("an absent owner before 13" asks verdictOfFor (onRule 8 1 1 3 0) (0 ∷ 2 ∷ 0 ∷ []) [] gives aVerdict (refused 1 0))
+    ∷ ("m's range before 13" asks verdictOfFor (onRule 8 0 0 3 0) XShared [] gives aVerdict (refused 12 64))
+    ∷ ("another team's sliver before 13" asks verdictOfFor (onRule 8 0 2 2 2) XShared [] gives aVerdict (refused 12 3))
+    ∷ ("13 before 4" asks verdictOfFor (losing 8 0 2) XShared (1 ∷ []) gives aVerdict (refused 13 0))
+    ∷ ("13 before 7" asks leastSuppliesFor (losing 8 0 2) XShared (1000001 ∷ []) gives amounts (refused 13 0 ∷ []))
+    ∷ ("13 before 8" asks criticalWindowsFor (losing 8 0 2) XShared (9 ∷ []) gives windows (refused 13 0) (9 ∷ []))
+    ∷ ("13 before 10" asks runOfFor (losing 8 0 2) XShared [] 0 (1 ∷ []) (9 ∷ []) gives aRun (refused 13 0) (9 ∷ []))
+    ∷ ("13 before 14" asks leastFromsFor (losing 8 0 2) XShared [] (5 ∷ []) gives amounts (refused 13 0 ∷ []))
+    ∷ ("9 before 13" asks replayOfFor (losing 8 0 2) XShared [] (2 ∷ []) gives aReplay (refused 9 0))
+    ∷ ("an owner's windows of which nothing is left" asks ownOf (losing 8 0 2) XShared (9 ∷ []) gives windows (refused 13 0) (9 ∷ []))
+    -- edits: the old table's 13 before 14, the new one's after its 3 and 12; another team may be left nothing
+    ∷ ("a move after a loss" asks editOfFor (losing 8 0 1) 2 (0 ∷ 2 ∷ 0 ∷ 5 ∷ 6 ∷ 0 ∷ []) (1 ∷ 7 ∷ 1 ∷ 7 ∷ 8 ∷ 9 ∷ 9 ∷ []) (move 1 5 7)
+    gives anEdit (given (record { windows = 2; numbers = 7 })) (0 ∷ 2 ∷ 0 ∷ 5 ∷ 7 ∷ 0 ∷ []) (2 ∷ 8 ∷ 2 ∷ 4 ∷ 5 ∷ 7 ∷ 8 ∷ []))
+    ∷ ("a removal that leaves no tick" asks editOfFor (losing 8 0 1) 2 (0 ∷ 2 ∷ 0 ∷ 5 ∷ 6 ∷ 0 ∷ []) (1 ∷ 7 ∷ 1 ∷ 7 ∷ 8 ∷ []) (remove 0)
+    gives anEdit (refused 13 0) (0 ∷ 2 ∷ 0 ∷ 5 ∷ 6 ∷ 0 ∷ []) (1 ∷ 7 ∷ 1 ∷ 7 ∷ 8 ∷ []))
+    ∷ ("the new table's 3 before 13" asks editOfFor (losing 4 0 2) 1 (0 ∷ 3 ∷ 0 ∷ []) oneSummary (move 0 3 5) gives anEdit (refused 3 0) (0 ∷ 3 ∷ 0 ∷ []) oneSummary)
+    ∷ ("the new table's 12 before 13" asks editOfFor (onRule 4 0 2 2 2) 1 (0 ∷ 3 ∷ 0 ∷ []) oneSummary (move 0 0 1) gives anEdit (refused 12 0) (0 ∷ 3 ∷ 0 ∷ []) oneSummary)
+    ∷ ("the old table's 13 before 14" asks editOfFor (losing 4 0 3) 1 (0 ∷ 3 ∷ 0 ∷ []) oneSummary (move 0 0 4) gives anEdit (refused 13 0) (0 ∷ 3 ∷ 0 ∷ []) oneSummary)
+    ∷ ("the new table's 13 after 7" asks editOfFor (losing 4 0 2) 1 (0 ∷ 3 ∷ 0 ∷ []) oneSummary (move 1 0 1) gives anEdit (refused 7 0) (0 ∷ 3 ∷ 0 ∷ []) oneSummary)
+    ∷ ("another team that is left nothing" asks editOfFor (losing 4 0 1) 2 halves oneSummary (move 1 2 3)
+    gives anEdit (given (record { windows = 2; numbers = 5 })) (0 ∷ 2 ∷ 0 ∷ 2 ∷ 3 ∷ 1 ∷ []) oneSummary)
+    -- plan files with m, rule and lost ticks first
+    ∷ ("W6 with its settings first" asks lineOf 3 (2 ∷ 1 ∷ 0 ∷ 8 ∷ 2 ∷ 0 ∷ 2 ∷ 5 ∷ 7 ∷ 2 ∷ 1 ∷ 4 ∷ 4 ∷ 2 ∷ 8 ∷ 6 ∷ [])
+    gives text (bytes "MISS length 6 start 2 demand 3 supply 2\n"))
+    ∷ ("W4 with a tick lost" asks lineOf 3 (1 ∷ 2 ∷ 1 ∷ 8 ∷ 2 ∷ 0 ∷ 2 ∷ 5 ∷ 7 ∷ 1 ∷ 1 ∷ 4 ∷ 4 ∷ []) gives text (bytes "MISS length 4 start 2 demand 1 supply 0\n"))
+    ∷ ("a plan that is left no tick" asks lineOf 3 (1 ∷ 2 ∷ 2 ∷ 8 ∷ 2 ∷ 0 ∷ 2 ∷ 5 ∷ 7 ∷ 0 ∷ []) gives text (bytes "REFUSED 13 at 0\n"))
+    ∷ ("a plan of no rule" asks lineOf 3 (1 ∷ 3 ∷ 0 ∷ 8 ∷ 2 ∷ 0 ∷ 2 ∷ 5 ∷ 7 ∷ 0 ∷ []) gives text (bytes "REFUSED 13 at 0\n"))
+    ∷ ("a plan's 12 before 13" asks lineOf 3 (3 ∷ 2 ∷ 2 ∷ 8 ∷ 2 ∷ 0 ∷ 2 ∷ 5 ∷ 7 ∷ 0 ∷ []) gives text (bytes "REFUSED 12 at 0\n"))
+    ∷ ("the lost ticks missing" asks lineOf 3 (1 ∷ 2 ∷ []) gives text (bytes "REFUSED 9 at 2\n"))
+    ∷ ("the rule in too many bytes" asks lineOf 3 (1 ∷ 130 ∷ 0 ∷ 1 ∷ 8 ∷ []) gives text (bytes "REFUSED 9 at 1\n"))
+    ∷ ("a byte left over after the settings and a plan" asks lineOf 3 (1 ∷ 2 ∷ 0 ∷ 8 ∷ 1 ∷ 0 ∷ 2 ∷ 0 ∷ 7 ∷ []) gives text (bytes "REFUSED 9 at 8\n"))
+    ∷ ("4 as soon as it is read, before 13" asks lineOf 3 (1 ∷ 3 ∷ 0 ∷ 8 ∷ 1 ∷ 0 ∷ 2 ∷ 33 ∷ []) gives text (bytes "REFUSED 4 at 0\n"))
+    ∷ ("a plan written with its settings first" asks writtenPlan (record { settings = 1 ∷ 2 ∷ 300 ∷ []; frame = 8; windows = 0 ∷ 2 ∷ []; tasks = [] }) (replicate 10 9)
+    gives bytesIn (given 9) (1 ∷ 2 ∷ 172 ∷ 2 ∷ 8 ∷ 1 ∷ 0 ∷ 2 ∷ 0 ∷ 9 ∷ []))
     -- of the four errors, W5 and W9 show two: here supply counted from tick 0 passes the first, and starts at window ends miss the second's least start
     ∷ ("supply from tick 0" asks verdictOf 8 X (2 ∷ 8 ∷ 3 ∷ []) gives aVerdict (given (miss 3 2 2 0)))
     ∷ ("starts at window ends" asks verdictOf 8 X (2 ∷ 4 ∷ 4 ∷ []) gives aVerdict (given (miss 4 1 2 1)))
@@ -598,7 +686,7 @@ Hold (e ∷ rows) = (reply (e .question) ≡ e .expected) × Hold rows
 pub examples : Hold table
 unfolding everything reply table
 examples =
-    (refl, (refl, (refl, (refl, (refl, (refl, (refl, (refl, (refl, (refl, (refl, (refl, (refl, (refl, (refl, (refl, (refl, (refl, (refl, (refl, (refl, (refl, (refl, (refl, (refl, (refl, (refl, (refl, (refl, (refl, (refl, (refl, (refl, (refl, (refl, (refl, (refl, (refl, (refl, (refl, (refl, (refl, (refl, (refl, (refl, (refl, (refl, (refl, (refl, (refl, (refl, (refl, (refl, (refl, (refl, (refl, (refl, (refl, (refl, (refl, (refl, (refl, (refl, (refl, (refl, (refl, (refl, (refl, (refl, (refl, (refl, (refl, (refl, (refl, (refl, (refl, (refl, (refl, (refl, (refl, (refl, (refl, (refl, (refl, (refl, (refl, (refl, (refl, (refl, (refl, (refl, (refl, (refl, (refl, (refl, (refl, (refl, (refl, (refl, (refl, (refl, (refl, (refl, (refl, (refl, (refl, (refl, (refl, (refl, (refl, (refl, (refl, (refl, (refl, (refl, (refl, (refl, (refl, (refl, (refl, (refl, (refl, (refl, (refl, (refl, (refl, (refl, (refl, (refl, (refl, (refl, (refl, (refl, (refl, (refl, (refl, (refl, (refl, (refl, (refl, (refl, (refl, (refl, (refl, (refl, (refl, (refl, (refl, (refl, (refl, (refl, (refl, (refl, (refl, (refl, (refl, (refl, (refl, (refl, (refl, (refl, (refl, (refl, (refl, (refl, (refl, (refl, (refl, (refl, (refl, (refl, (refl, (refl, (refl, (refl, (refl, (refl, (refl, (refl, (refl, (refl, (refl, (refl, (refl, (refl, (refl, (refl, (refl, (refl, (refl, (refl, (refl, (refl, (refl, (refl, (refl, (refl, (refl, (refl, (refl, (refl, (refl, (refl, (refl, (refl, (refl, (refl, (refl, (refl, (refl, (refl, (refl, (refl, (refl, (refl, (refl, (refl, (refl, (refl, (refl, (refl, (refl, (refl, (refl, (refl, (refl, (refl, (refl, (refl, (refl, (refl, (refl, (refl, (refl, (refl, (refl, (refl, (refl, (refl, (refl, (refl, (refl, (refl, (refl, (refl, (refl, (refl, (refl, (refl, (refl, (refl, (refl, (refl, (refl, (refl, tt)))))))))))))))))))))))))))))))))))))))))))))))))))))))))))))))))))))))))))))))))))))))))))))))))))))))))))))))))))))))))))))))))))))))))))))))))))))))))))))))))))))))))))))))))))))))))))))))))))))))))))))))))))))))))))))))))))))))))))))))))))))))))))))))
+    (refl, (refl, (refl, (refl, (refl, (refl, (refl, (refl, (refl, (refl, (refl, (refl, (refl, (refl, (refl, (refl, (refl, (refl, (refl, (refl, (refl, (refl, (refl, (refl, (refl, (refl, (refl, (refl, (refl, (refl, (refl, (refl, (refl, (refl, (refl, (refl, (refl, (refl, (refl, (refl, (refl, (refl, (refl, (refl, (refl, (refl, (refl, (refl, (refl, (refl, (refl, (refl, (refl, (refl, (refl, (refl, (refl, (refl, (refl, (refl, (refl, (refl, (refl, (refl, (refl, (refl, (refl, (refl, (refl, (refl, (refl, (refl, (refl, (refl, (refl, (refl, (refl, (refl, (refl, (refl, (refl, (refl, (refl, (refl, (refl, (refl, (refl, (refl, (refl, (refl, (refl, (refl, (refl, (refl, (refl, (refl, (refl, (refl, (refl, (refl, (refl, (refl, (refl, (refl, (refl, (refl, (refl, (refl, (refl, (refl, (refl, (refl, (refl, (refl, (refl, (refl, (refl, (refl, (refl, (refl, (refl, (refl, (refl, (refl, (refl, (refl, (refl, (refl, (refl, (refl, (refl, (refl, (refl, (refl, (refl, (refl, (refl, (refl, (refl, (refl, (refl, (refl, (refl, (refl, (refl, (refl, (refl, (refl, (refl, (refl, (refl, (refl, (refl, (refl, (refl, (refl, (refl, (refl, (refl, (refl, (refl, (refl, (refl, (refl, (refl, (refl, (refl, (refl, (refl, (refl, (refl, (refl, (refl, (refl, (refl, (refl, (refl, (refl, (refl, (refl, (refl, (refl, (refl, (refl, (refl, (refl, (refl, (refl, (refl, (refl, (refl, (refl, (refl, (refl, (refl, (refl, (refl, (refl, (refl, (refl, (refl, (refl, (refl, (refl, (refl, (refl, (refl, (refl, (refl, (refl, (refl, (refl, (refl, (refl, (refl, (refl, (refl, (refl, (refl, (refl, (refl, (refl, (refl, (refl, (refl, (refl, (refl, (refl, (refl, (refl, (refl, (refl, (refl, (refl, (refl, (refl, (refl, (refl, (refl, (refl, (refl, (refl, (refl, (refl, (refl, (refl, (refl, (refl, (refl, (refl, (refl, (refl, (refl, (refl, (refl, (refl, (refl, (refl, (refl, (refl, (refl, (refl, (refl, (refl, (refl, (refl, (refl, (refl, (refl, (refl, (refl, (refl, (refl, (refl, (refl, (refl, (refl, (refl, (refl, (refl, (refl, (refl, (refl, (refl, (refl, (refl, (refl, (refl, (refl, (refl, (refl, (refl, (refl, (refl, (refl, (refl, (refl, (refl, (refl, (refl, (refl, (refl, (refl, (refl, (refl, (refl, (refl, (refl, (refl, (refl, (refl, (refl, (refl, (refl, (refl, (refl, tt))))))))))))))))))))))))))))))))))))))))))))))))))))))))))))))))))))))))))))))))))))))))))))))))))))))))))))))))))))))))))))))))))))))))))))))))))))))))))))))))))))))))))))))))))))))))))))))))))))))))))))))))))))))))))))))))))))))))))))))))))))))))))))))))))))))))))))))))))))))))))))))))))))))))))))))))))))))))))))
 
 -- ---- a row by its name
 

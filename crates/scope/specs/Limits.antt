@@ -17,9 +17,13 @@ teams = 2
 abbrev pub mostShortest : ℕ
 mostShortest = 65536
 
--- settings that a plan file may have before P: the shortest window
+-- the ticks that a board loses of every window: 0 to 65,535
+abbrev pub mostLost : ℕ
+mostLost = 65535
+
+-- settings that a plan file may have before P: the shortest window, the rule and the lost ticks
 abbrev pub mostSettings : ℕ
-mostSettings = 1
+mostSettings = 3
 
 -- tasks of a group: 0 to 32
 abbrev pub mostTasks : ℕ

@@ -57,7 +57,7 @@ readNumbers bytes (suc n) at =
 
 -- ---- the file
 
--- the settings are what stands before P: nothing, or from request 5 on the shortest window
+-- the settings are what stands before P: nothing, from request 5 on the shortest window, from request 7 on that, the rule and the lost ticks
 pub record Plan : Type 0 where
   pub settings : List ℕ
   pub frame : ℕ

@@ -1,6 +1,6 @@
--- Document 02, requests 4 and 5: a window table that teams share, in threes of start, end and owner, none shorter than the board allows; and what each entry
--- answers the owner that is asked for.
-use Prim.Native.Nat.{ℕ, _-_}
+-- Document 02, requests 4, 5 and 7: a window table that teams share, in threes of start, end and owner, none shorter than the board allows, of which the board
+-- may lose the first ticks; and what each entry answers the owner that is asked for.
+use Prim.Native.Nat.{ℕ, _+_, _-_}
 use mathlib.Core.Bool.{Bool, not, cond, _&&_, _||_}
 use mathlib.Core.Option.{Option}
 use mathlib.Core.List.{List, [], _∷_}
@@ -9,11 +9,11 @@ use lib.IntN.{ℤ}
 use lib.ListN.{length, getD}
 use Rattle.scope.specs.Numbers.{first, pieces, written}
 use Rattle.scope.specs.Limits.{teams}
-use Rattle.scope.specs.Windows.{Board, Window, window, windowFits}
+use Rattle.scope.specs.Windows.{Board, Window, window, windowsOf, windowFits}
 use Rattle.scope.specs.Verdict.{Verdict}
 use Rattle.scope.specs.Bound.{Bound}
 use Rattle.scope.specs.Run.{Ran}
-use Rattle.scope.specs.Answers.{Fault, Fault.fine, Fault.fault, Answer, Answer.refused, faultIf, faultAt, _orElse_, unless, unlessKept, listFault, frameFault, shortestFault, roomFault}
+use Rattle.scope.specs.Answers.{Fault, Fault.fine, Fault.fault, Answer, Answer.refused, faultIf, faultAt, _orElse_, unless, unlessKept, listFault, frameFault, shortestFault, ruleFault, roomFault}
 use Rattle.scope.specs.Answers.{Delay}
 use Rattle.scope.specs.Answers.{suppliedAnswer, leastSupplyAnswer, criticalAnswer, criticalOut, delayAnswer, outageAnswer}
 use Rattle.scope.specs.Answers.{marginAnswer, verdictAnswer, boundAnswer, runAnswer, runOut}
@@ -45,6 +45,15 @@ windowsFor o (w ∷ ws) = cond (eqb (w .owner) o) (w .window .start ∷ w .windo
 -- those of the owner that is asked for
 abbrev pub own : Board → List ℕ → List ℕ
 own b numbers = windowsFor (b .owner) (ownedOf numbers)
+
+-- what the board leaves of windows, as a list of numbers in pairs: each start moved by the lost ticks, and windows no longer than these left out
+unfoldable pub leftOf : Board → List Window → List ℕ
+leftOf b [] = []
+leftOf b (w ∷ ws) = cond (ltb (b .lost) (w .end - w .start)) ((b .lost + w .start) ∷ w .end ∷ leftOf b ws) (leftOf b ws)
+
+-- of the windows of the owner that is asked for
+abbrev pub ownLeft : Board → List ℕ → List ℕ
+ownLeft b numbers = leftOf b (windowsOf (own b numbers))
 
 -- a list of pairs, all read as owner o's
 unfoldable pub asOwned : ℕ → List ℕ → List ℕ
@@ -100,19 +109,24 @@ firstSliver b ws = first (λ i. sliver b (ownedAt ws i)) (length ws)
 unfoldable pub sliverFault : Board → List ℕ → Fault
 sliverFault b ws = shortestFault b orElse faultAt 12 (firstSliver b (ownedOf ws))
 
-unfoldable pub sharedFault : ℕ → Board → List ℕ → Fault
-sharedFault owners b ws = wholeFault owners b ws orElse absentOwnerFault b ws orElse sliverFault b ws
+-- 13, by the board and one owner's windows, in pairs: a rule or lost ticks that a board cannot have, then no tick is left
+unfoldable pub lostFault : Board → List ℕ → Fault
+lostFault b mine = ruleFault b orElse faultIf (eqb (length (leftOf b (windowsOf mine))) 0) 13 0
 
--- ---- the owner's windows by themselves, in lent memory: how many numbers, and the memory afterwards
+-- what an entry refuses of a table
+unfoldable pub sharedFault : ℕ → Board → List ℕ → Fault
+sharedFault owners b ws = wholeFault owners b ws orElse absentOwnerFault b ws orElse sliverFault b ws orElse lostFault b (own b ws)
+
+-- ---- what is left of the owner's windows by itself, in lent memory: how many numbers, and the memory afterwards
 
 unfoldable pub ownFault : ℕ → Board → List ℕ → ℕ → Fault
-ownFault owners b ws room = sharedFault owners b ws orElse roomFault (length (own b ws)) room
+ownFault owners b ws room = sharedFault owners b ws orElse roomFault (length (ownLeft b ws)) room
 
 unfoldable pub ownAnswer : ℕ → Board → List ℕ → ℕ → Answer ℕ
-ownAnswer owners b ws room = unless (ownFault owners b ws room) (length (own b ws))
+ownAnswer owners b ws room = unless (ownFault owners b ws room) (length (ownLeft b ws))
 
 unfoldable pub ownOut : ℕ → Board → List ℕ → List ℕ → List ℕ
-ownOut owners b ws out = unlessKept (ownFault owners b ws (length out)) (written (own b ws) out) out
+ownOut owners b ws out = unlessKept (ownFault owners b ws (length out)) (written (ownLeft b ws) out) out
 
 -- the same of pairs that are read as one owner's
 
@@ -179,10 +193,16 @@ replayFor b ws ts bytes = orNine (traceOf bytes) (λ rs end. recordsFor b ws ts 
 
 -- ---- plan files
 
--- the windows are pairs, and owner 0's; a file without the setting allows windows of one tick
+-- the windows are pairs, and owner 0's; a file without the settings allows windows of one tick, and is rule 1
 abbrev pub planBoard : Plan → Board
-planBoard p = record { frame = p .frame; owner = 0; shortest = getD (p .settings) 0 1 }
+planBoard p = record {
+  frame = p .frame;
+  owner = 0;
+  shortest = getD (p .settings) 0 1;
+  rule = getD (p .settings) 1 1;
+  lost = getD (p .settings) 2 0;
+}
 
--- the verdict of a plan file of k settings
+-- the verdict of a plan file of k settings: none, the first, or all three
 unfoldable pub planAnswer : ℕ → List ℕ → Answer Verdict
 planAnswer k bytes = andThen (planOf k bytes) (λ p. verdictFor (planBoard p) (asOwned 0 (p .windows)) (p .tasks))

@@ -1,5 +1,5 @@
 -- Document 01, "Tables and sizes": window tables, and which ticks they supply.
-use Prim.Native.Nat.{ℕ, _-_, _%_}
+use Prim.Native.Nat.{ℕ, _+_, _-_, _%_}
 use mathlib.Core.Bool.{Bool, false, not, _&&_, _||_}
 use mathlib.Core.Option.{Option}
 use mathlib.Core.List.{List, [], _∷_}
@@ -7,12 +7,18 @@ use lib.Dec.{leb, ltb, eqb}
 use lib.ListN.{length, getD}
 use Rattle.scope.specs.Numbers.{first, pieces}
 
--- what a table is judged by beside its windows: the frame, and of a table that teams share (Shared) the owner that is asked for and the shortest window
--- that the board allows
+-- what a table is judged by beside its windows: the frame, and of a table that teams share (Shared) the owner that is asked for, the shortest window
+-- that the board allows, the rule by which it gives windows, and the ticks that it loses of each
 pub record Board : Type 0 where
   pub frame : ℕ
   pub owner : ℕ
   pub shortest : ℕ
+  pub rule : ℕ
+  pub lost : ℕ
+
+-- the same board under rule 1, which gives the whole window
+abbrev pub plain : Board → Board
+plain b = record { frame = b .frame; owner = b .owner; shortest = b .shortest; rule = 1; lost = 0 }
 
 -- the ticks `start` up to but not including `end`
 pub record Window : Type 0 where
@@ -29,9 +35,9 @@ windowsOf = pieces 2 window
 abbrev pub windowAt : List Window → ℕ → Window
 windowAt ws i = getD ws i (window 0 0)
 
--- window w gives tick k of a frame
+-- window w gives tick k of a frame: the first ticks of every window, as many as the board loses, are not given. Under rule 1 none are lost
 unfoldable pub gives : Board → Window → ℕ → Bool
-gives b w k = leb (w .start) k && ltb k (w .end)
+gives b w k = leb (b .lost + w .start) k && ltb k (w .end)
 
 -- one of the windows gives tick k of a frame
 unfoldable pub covers : Board → List Window → ℕ → Bool
