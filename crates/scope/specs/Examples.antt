@@ -10,7 +10,7 @@ use mathlib.Core.List.{List, [], _∷_, map}
 use lib.Dec.{eqb}
 use lib.IntN.{ℤ, ℤ.negsuc, pos}
 use lib.ListN.{length, replicate}
-use Rattle.scope.specs.Windows.{Board, Window, window}
+use Rattle.scope.specs.Windows.{Board, framed, Window, window}
 use Rattle.scope.specs.Tasks.{Task, task, tasksOf}
 use Rattle.scope.specs.Verdict.{Verdict, Verdict.meets, Verdict.miss}
 use Rattle.scope.specs.Bound.{Bound, Bound.bound}
@@ -118,7 +118,7 @@ onFor P o = onAtLeast P o 1
 
 -- and asks for owner 0
 abbrev pub on : ℕ → Board
-on P = onFor P 0
+on = framed
 
 unfoldable pub reply : Question → Reply
 reply (leastSupplies P ws ts) = amounts (map (leastSupplyAnswer (on P) ws) ts)

@@ -16,9 +16,9 @@ pub record Board : Type 0 where
   pub rule : ℕ
   pub lost : ℕ
 
--- the same board under rule 1, which gives the whole window
-abbrev pub plain : Board → Board
-plain b = record { frame = b .frame; owner = b .owner; shortest = b .shortest; rule = 1; lost = 0 }
+-- the board of which only the frame is told: it asks for owner 0, allows every window, and is rule 1, which gives the whole window
+abbrev pub framed : ℕ → Board
+framed P = record { frame = P; owner = 0; shortest = 1; rule = 1; lost = 0 }
 
 -- the ticks `start` up to but not including `end`
 pub record Window : Type 0 where

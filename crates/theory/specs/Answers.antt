@@ -69,7 +69,9 @@ room-fault needed room h = rw (lt-ltb room needed h)
 
 -- ---- tables, groups and lengths that pass their checks
 
+-- a table as it stands: of no window a tick is lost
 pub record LegalTable (b : Board) (ws : List ℕ) : Type 0 where
+  pub whole : b .lost ≡ 0
   pub frame : 1 ≤ b .frame
   pub frame-most : b .frame ≤ mostFrame
   pub even : length ws % 2 ≡ 0
@@ -107,13 +109,21 @@ table-checks b ws e =
 pub table-framed : (b : Board) (ws : List ℕ) → tableFault b ws ≡ fine → frameFault b ≡ fine
 table-framed b ws e = table-checks b ws e .1
 
-pub table-legal : (b : Board) (ws : List ℕ) → tableFault b ws ≡ fine → LegalTable b ws
+pub table-list : (b : Board) (ws : List ℕ) → tableFault b ws ≡ fine → (length ws % 2 ≡ 0) × (0 < length ws) × (length ws ≤ 2 * mostWindows)
+table-list b ws e = window-list-legal ws (table-checks b ws e .0)
+
+-- whatever is lost, the frame has a tick
+pub table-frame : (b : Board) (ws : List ℕ) → tableFault b ws ≡ fine → 1 ≤ b .frame
+table-frame b ws e = frame-legal b (table-framed b ws e) .0
+
+pub table-legal : (b : Board) (ws : List ℕ) → tableFault b ws ≡ fine → b .lost ≡ 0 → LegalTable b ws
 unfolding windowFault
-table-legal b ws e =
+table-legal b ws e whole =
     let c = table-checks b ws e in
     let l = window-list-legal ws (c .0) in
     let f = frame-legal b (c .1) in
     record {
+      whole = whole;
       frame = f .0;
       frame-most = f .1;
       even = l .0;
@@ -154,8 +164,11 @@ group-legal ts e =
       within = r .1;
     }
 
-pub checked-legal : (b : Board) (ws ts : List ℕ) → (tableFault b ws orElse groupFault ts) ≡ fine → LegalTable b ws × LegalGroup ts
-checked-legal b ws ts e = let p = orElse-fine (tableFault b ws) (groupFault ts) e in (table-legal b ws (p .0), group-legal ts (p .1))
+pub checked-legal : (b : Board) (ws ts : List ℕ) → (tableFault b ws orElse groupFault ts) ≡ fine → (0 < b .frame) × (b .frame ≤ mostFrame) × LegalGroup ts
+checked-legal b ws ts e =
+    let p = orElse-fine (tableFault b ws) (groupFault ts) e in
+    let f = frame-legal b (table-framed b ws (p .0)) in
+    (f .0, f .1, group-legal ts (p .1))
 
 pub length-legal : (t : ℕ) → lengthFault t ≡ fine → t ≤ mostLength
 unfolding lengthFault
@@ -178,7 +191,7 @@ job-list-legal n js e =
 -- ---- entries that answer
 
 pub record Judged (b : Board) (ws ts : List ℕ) (v : Verdict) : Type 0 where
-  pub table : LegalTable b ws
+  pub table : tableFault b ws ≡ fine
   pub group : LegalGroup ts
   pub cycle-most : cycle (b .frame) (tasksOf ts) ≤ mostCycle
   pub is : verdict (suppliedBy b ws) (b .frame) (tasksOf ts) (cycle (b .frame) (tasksOf ts)) ≡ v
@@ -190,14 +203,14 @@ judged b ws ts v e =
     let p = orElse-fine (tableFault b ws) (groupFault ts orElse cycleFault b (tasksOf ts)) (u .0) in
     let q = orElse-fine (groupFault ts) (cycleFault b (tasksOf ts)) (p .1) in
     record {
-      table = table-legal b ws (p .0);
+      table = p .0;
       group = group-legal ts (q .0);
       cycle-most = ltb-false mostCycle (cycle (b .frame) (tasksOf ts)) (faultIf-fine _ 6 0 (q .1));
       is = u .1;
     }
 
 pub record Bounded (b : Board) (ws ts : List ℕ) (i : ℕ) (r : Bound) : Type 0 where
-  pub table : LegalTable b ws
+  pub table : tableFault b ws ≡ fine
   pub group : LegalGroup ts
   pub present : i < length (tasksOf ts)
   pub is : response (suppliedBy b ws) (b .frame) (tasksOf ts) i ≡ r
@@ -209,14 +222,14 @@ bounded b ws ts i r e =
     let p = orElse-fine (tableFault b ws) (groupFault ts orElse absentFault (tasksOf ts) i) (u .0) in
     let q = orElse-fine (groupFault ts) (absentFault (tasksOf ts) i) (p .1) in
     record {
-      table = table-legal b ws (p .0);
+      table = p .0;
       group = group-legal ts (q .0);
       present = leb-false (length (tasksOf ts)) i (faultIf-fine _ 7 0 (q .1));
       is = u .1;
     }
 
 pub record RunGiven (b : Board) (ws ts : List ℕ) (n : ℕ) (js : List ℕ) (room : ℕ) (r : Ran) : Type 0 where
-  pub table : LegalTable b ws
+  pub table : tableFault b ws ≡ fine
   pub group : LegalGroup ts
   pub threes : length js % 3 ≡ 0
   pub few : length js ≤ 3 * mostJobs
@@ -237,7 +250,7 @@ run-given b ws ts n js room r e =
     let p₄ = orElse-fine job output (p₃ .1) in
     let l = job-list-legal n js (p₃ .0) in
     record {
-      table = table-legal b ws (p₁ .0);
+      table = p₁ .0;
       group = group-legal ts (p₂ .0);
       threes = l .0;
       few = l .1;

@@ -51,7 +51,7 @@ use Rattle.theory.specs.Traces.{shift-answer}
 use Rattle.theory.specs.Replays.{replay-given, same-completions, FirstPair, machineEnded, replayed-differs, meets-no-miss}
 use Rattle.theory.specs.Recorded.{recorded-same, recorded-met, recorded-missed}
 use Rattle.theory.specs.Shared.{one-owner-a-tick, no-such-owner}
-use Rattle.theory.specs.Alone.{verdict-entry, run-out-entry, make-out-entry, margins-out-entry, teamsFault, alone, WholeRefusal, whole-refusal, Told, told-apart, own-alone, one-owner, replay-alone, replay-one-owner}
+use Rattle.theory.specs.Alone.{Alike, itself, verdict-entry, run-out-entry, make-out-entry, margins-out-entry, teamsFault, alone, WholeRefusal, whole-refusal, Told, told-apart, own-alone, one-owner, replay-alone, replay-one-owner}
 use Rattle.theory.specs.Shortest.{verdict-known, least-from-known, Twelve, exactly-twelve, one-answer, never-twelve, smaller-same, replay-smaller, TraceTwelve, replay-twelve, PlanTwelve, plan-twelve}
 use Rattle.theory.specs.Shortest.{own-twelve, own-smaller, smaller-plan, old-form, old-refused}
 use Rattle.theory.specs.Buffers.{begins-written}
@@ -124,7 +124,7 @@ x-four =
     cc
 
 x-ends : 1 ≡ least (λ i. supply (suppliedBy (on 8) X) (endOf X i) 4) 2
-x-ends = ends-answer (on 8) X 4 1 x-four
+x-ends = ends-answer (on 8) X 4 1 refl x-four
 
 -- ---- the outage that runs over midnight: the lab's table is silent for 6 ticks from tick 5 on, X for 3
 
@@ -140,30 +140,38 @@ full-outage : outageAnswer (on 8) (0 ∷ 8 ∷ []) ≡ given 0
 unfolding reply table
 full-outage = let e : amounts (outageAnswer (on 8) (0 ∷ 8 ∷ []) ∷ []) ≡ amounts (given 0 ∷ []) = row table examples "no outage" in cc
 
+lab-on : suppliedBy (on 8) lab 3 ≡ true
+unfolding everything
+lab-on = refl
+
+x-on : suppliedBy (on 8) X 0 ≡ true
+unfolding everything
+x-on = refl
+
 -- 6 silent ticks in a row; 7, from tick 8,005 on say, are nowhere
 lab-run : (s : ℕ) × (s < 8) × Silent (suppliedBy (on 8) lab) s 6
 lab-run = outage-run (on 8) lab 6 lab-outage
 
 lab-no-seven : Silent (suppliedBy (on 8) lab) 8005 7 → ⊥
-lab-no-seven h = omega (arith, outage-no-longer (on 8) lab 6 lab-outage 8005 7 h)
+lab-no-seven h = omega (arith, outage-no-longer (on 8) lab 6 lab-outage 3 lab-on 8005 7 h)
 
 lab-least : (leastSupplyAnswer (on 8) lab 6 ≡ given 0) × (p : ℕ) × (leastSupplyAnswer (on 8) lab 7 ≡ given p) × (0 < p)
-lab-least = outage-supply (on 8) lab 6 lab-outage
+lab-least = outage-supply (on 8) lab 6 lab-outage 3 lab-on
 
 full-supplied : (k : ℕ) → suppliedBy (on 8) (0 ∷ 8 ∷ []) k ≡ true
 full-supplied = outage-zero (on 8) (0 ∷ 8 ∷ []) 0 full-outage .0 refl
 
 lab-greatest : (t : ℕ) → leastSupply (suppliedBy (on 8) lab) 8 t ≡ 0 → t ≤ 6
-lab-greatest = outage-greatest-length (on 8) lab 6 lab-outage
+lab-greatest = outage-greatest-length (on 8) lab 6 lab-outage 3 lab-on
 
 -- W2's first critical window starts at 3
 x-critical : (rest : List ℕ) × (criticalOf (on 8) X ≡ 3 ∷ rest)
-x-critical = outage-critical (on 8) X 3 x-outage
+x-critical = outage-critical (on 8) X 3 x-outage 0 x-on
 
 -- asked as one tick of work each frame, due in 6
 lab-asked : (s : ℕ) × (verdictAnswer (on 8) lab (1 ∷ 8 ∷ 6 ∷ []) ≡ given (miss 6 s 1 0)) × Silent (suppliedBy (on 8) lab) s 6
     × ((r : ℕ) → r < s → Silent (suppliedBy (on 8) lab) r 6 → ⊥)
-lab-asked = outage-asked (on 8) lab 6 lab-outage (omega arith)
+lab-asked = outage-asked (on 8) lab 6 lab-outage 3 lab-on (omega arith)
 
 -- ---- demand 3
 
@@ -478,11 +486,11 @@ early-same = recorded-same (on 8) X late-tasks refl refl full-jobs 10 refl (omeg
 -- W6's group is answered on X with owner 1's windows beside it as on X read as one owner's, which is as on X alone
 x-alone : verdictFor (on 8) XShared w6 ≡ verdictFor (on 8) (asOwned 0 X) w6
 unfolding everything teamsFault
-x-alone = alone (verdict-entry w6) teams (on 8) (on 8) XShared (asOwned 0 X) refl refl refl refl
+x-alone = alone (verdict-entry w6) teams (on 8) (on 8) XShared (asOwned 0 X) refl refl (itself (on 8)) refl
 
 x-one-owner : verdictFor (on 8) (asOwned 0 X) w6 ≡ verdictAnswer (on 8) X w6
 unfolding verdictFor
-x-one-owner = one-owner teams (on 8) (omega arith) X refl (verdict-entry w6)
+x-one-owner = one-owner teams (on 8) (omega arith) X refl refl refl (verdict-entry w6)
 
 w6-shared : verdictFor (on 8) XShared w6 ≡ given (miss 6 2 3 2)
 w6-shared = x-alone ∙ x-one-owner ∙ w6-misses
@@ -490,17 +498,17 @@ w6-shared = x-alone ∙ x-one-owner ∙ w6-misses
 -- as owner 1's they get the same
 x-second : verdictFor (onFor 8 1) (asOwned 1 X) w6 ≡ verdictAnswer (onFor 8 1) X w6
 unfolding verdictFor
-x-second = one-owner teams (onFor 8 1) (omega arith) X refl (verdict-entry w6)
+x-second = one-owner teams (onFor 8 1) (omega arith) X refl refl refl (verdict-entry w6)
 
 -- W13's counts, and W7's trace
 w13-alone : runOutFor (on 8) XShared w7 10 w13 (9 ∷ 9 ∷ 9 ∷ []) ≡ runOutFor (on 8) (asOwned 0 X) w7 10 w13 (9 ∷ 9 ∷ 9 ∷ [])
 unfolding everything teamsFault
-w13-alone = alone (run-out-entry w7 10 w13 (9 ∷ 9 ∷ 9 ∷ [])) teams (on 8) (on 8) XShared (asOwned 0 X) refl refl refl refl
+w13-alone = alone (run-out-entry w7 10 w13 (9 ∷ 9 ∷ 9 ∷ [])) teams (on 8) (on 8) XShared (asOwned 0 X) refl refl (itself (on 8)) refl
 
 trace-alone : replayFor (on 8) XShared w7 trace ≡ given same
 unfolding everything teamsFault
 trace-alone =
-    replay-alone (on 8) (on 8) XShared (asOwned 0 X) w7 trace refl refl refl refl ∙ replay-one-owner (on 8) (omega arith) refl X w7 trace ∙ trace-same
+    replay-alone (on 8) (on 8) XShared (asOwned 0 X) w7 trace refl refl (itself (on 8)) refl ∙ replay-one-owner (on 8) (omega arith) refl refl refl X w7 trace ∙ trace-same
 
 -- tick 2 is owner 1's, so it is not owner 0's
 tick-of-one : suppliedBy (on 8) (own (on 8) XShared) 2 ≡ true → ⊥
@@ -517,7 +525,7 @@ other-empty : Told teams (on 8) (0 ∷ 2 ∷ 0 ∷ []) (verdictFor (on 8) (0 ∷
     ⊎ Told teams (on 8) (0 ∷ 2 ∷ 0 ∷ 4 ∷ 4 ∷ 1 ∷ []) (verdictFor (on 8) (0 ∷ 2 ∷ 0 ∷ 4 ∷ 4 ∷ 1 ∷ []) []) refused
 unfolding everything
 other-empty =
-    told-apart (verdict-entry []) teams (on 8) (on 8) (0 ∷ 2 ∷ 0 ∷ []) (0 ∷ 2 ∷ 0 ∷ 4 ∷ 4 ∷ 1 ∷ []) refl refl
+    told-apart (verdict-entry []) teams (on 8) (on 8) (0 ∷ 2 ∷ 0 ∷ []) (0 ∷ 2 ∷ 0 ∷ 4 ∷ 4 ∷ 1 ∷ []) (itself (on 8)) refl
     (λ e. let z : _≡_ {A = ℕ} 0 1 = cc in omega arith)
 
 at-its-window : WholeRefusal 2 3 1
@@ -527,7 +535,7 @@ at-its-window = whole-refusal teams (on 8) (0 ∷ 2 ∷ 0 ∷ 4 ∷ 4 ∷ 1 ∷ 
 -- owner 0's windows by themselves are X's, too
 x-own-alone : ownAnswer teams (on 8) XShared 4 ≡ ownAnswer teams (on 8) (asOwned 0 X) 4
 unfolding everything teamsFault
-x-own-alone = own-alone teams (on 8) (on 8) XShared (asOwned 0 X) refl refl refl 4 [] .0
+x-own-alone = own-alone teams (on 8) (on 8) XShared (asOwned 0 X) refl refl (itself (on 8)) refl 4 [] .0
 
 -- ---- the shortest window
 
@@ -548,29 +556,32 @@ other-sliver : Told teams (onAtLeast 8 0 2) (0 ∷ 2 ∷ 0 ∷ []) (verdictFor (
     ⊎ Told teams (onAtLeast 8 0 2) (0 ∷ 2 ∷ 0 ∷ 4 ∷ 5 ∷ 1 ∷ []) (verdictFor (onAtLeast 8 0 2) (0 ∷ 2 ∷ 0 ∷ 4 ∷ 5 ∷ 1 ∷ []) []) refused
 unfolding everything
 other-sliver =
-    told-apart (verdict-entry []) teams (onAtLeast 8 0 2) (onAtLeast 8 0 2) (0 ∷ 2 ∷ 0 ∷ []) (0 ∷ 2 ∷ 0 ∷ 4 ∷ 5 ∷ 1 ∷ []) refl refl
+    told-apart (verdict-entry []) teams (onAtLeast 8 0 2) (onAtLeast 8 0 2) (0 ∷ 2 ∷ 0 ∷ []) (0 ∷ 2 ∷ 0 ∷ 4 ∷ 5 ∷ 1 ∷ []) (itself (onAtLeast 8 0 2)) refl
     (λ e. let z : _≡_ {A = ℕ} 0 1 = cc in omega arith)
 
 at-its-sliver : WholeRefusal 2 12 1
 unfolding everything teamsFault
 at-its-sliver = whole-refusal teams (onAtLeast 8 0 2) (0 ∷ 2 ∷ 0 ∷ 4 ∷ 5 ∷ 1 ∷ []) 12 1 refl
 
+at-least : (m : ℕ) → Alike (onAtLeast 8 0 m) (on 8)
+at-least m = record { frame = refl; rule = refl; lost = refl }
+
 -- windows of two ticks and more are answered as on a board that allows every window, and there 12 never comes
 x-smaller : verdictFor (onAtLeast 8 0 2) (asOwned 0 X) w6 ≡ verdictFor (on 8) (asOwned 0 X) w6
 unfolding everything
 x-smaller =
-    smaller-same teams (onAtLeast 8 0 2) (on 8) (asOwned 0 X) refl refl (omega arith) (omega arith) (verdict-entry w6) (λ p e. fault-not-fine (sym e))
+    smaller-same teams (onAtLeast 8 0 2) (on 8) (asOwned 0 X) (at-least 2) refl (omega arith) (omega arith) (verdict-entry w6) (λ p e. fault-not-fine (sym e))
 
 -- W13's counts too, and the windows by themselves
 w13-smaller : runOutFor (onAtLeast 8 0 2) (asOwned 0 X) w7 10 w13 (9 ∷ 9 ∷ 9 ∷ []) ≡ runOutFor (on 8) (asOwned 0 X) w7 10 w13 (9 ∷ 9 ∷ 9 ∷ [])
 unfolding everything
 w13-smaller =
-    smaller-same teams (onAtLeast 8 0 2) (on 8) (asOwned 0 X) refl refl (omega arith) (omega arith) (run-out-entry w7 10 w13 (9 ∷ 9 ∷ 9 ∷ []))
+    smaller-same teams (onAtLeast 8 0 2) (on 8) (asOwned 0 X) (at-least 2) refl (omega arith) (omega arith) (run-out-entry w7 10 w13 (9 ∷ 9 ∷ 9 ∷ []))
     (λ p e. fault-not-fine (sym e))
 
 x-own-smaller : ownAnswer teams (onAtLeast 8 0 2) (asOwned 0 X) 4 ≡ ownAnswer teams (on 8) (asOwned 0 X) 4
 unfolding everything
-x-own-smaller = own-smaller teams (onAtLeast 8 0 2) (on 8) (asOwned 0 X) refl refl (omega arith) (omega arith) (λ p e. fault-not-fine (sym e)) 4 [] .0
+x-own-smaller = own-smaller teams (onAtLeast 8 0 2) (on 8) (asOwned 0 X) (at-least 2) refl (omega arith) (omega arith) (λ p e. fault-not-fine (sym e)) 4 [] .0
 
 x-own-sliver : Twelve teams (onAtLeast 8 0 2) XShared 3
 unfolding everything
@@ -586,7 +597,7 @@ x-at-one = one-answer teams (onFor 8 1) XShared refl refused (λ l. verdictAnswe
 
 trace-smaller : replayFor (onAtLeast 8 0 2) (asOwned 0 X) w7 trace ≡ replayFor (on 8) (asOwned 0 X) w7 trace
 unfolding everything
-trace-smaller = replay-smaller (onAtLeast 8 0 2) (on 8) (asOwned 0 X) w7 trace refl refl (omega arith) (omega arith) (λ p e. fault-not-fine (sym e))
+trace-smaller = replay-smaller (onAtLeast 8 0 2) (on 8) (asOwned 0 X) w7 trace (at-least 2) refl (omega arith) (omega arith) (λ p e. fault-not-fine (sym e))
 
 trace-sliver : TraceTwelve (onAtLeast 8 0 3) (asOwned 0 X) trace 0
 unfolding everything
@@ -727,13 +738,13 @@ hers-again =
 -- X's summary is made of X alone, and margins from it depend on nothing of owner 1
 x-made-alone : makeOutFor (on 8) XShared (replicate 9 9) ≡ makeOutFor (on 8) (asOwned 0 X) (replicate 9 9)
 unfolding everything teamsFault
-x-made-alone = alone (make-out-entry (replicate 9 9)) teams (on 8) (on 8) XShared (asOwned 0 X) refl refl refl refl
+x-made-alone = alone (make-out-entry (replicate 9 9)) teams (on 8) (on 8) XShared (asOwned 0 X) refl refl (itself (on 8)) refl
 
 w6-margins-alone : marginsOutFor (on 8) XShared XSummary w6 (6 ∷ []) nines ≡ marginsOut (on 8) X XSummary w6 (6 ∷ []) nines
 unfolding everything teamsFault
 w6-margins-alone =
-    alone (margins-out-entry XSummary w6 (6 ∷ []) nines) teams (on 8) (on 8) XShared (asOwned 0 X) refl refl refl refl
-    ∙ one-owner teams (on 8) (omega arith) X refl (margins-out-entry XSummary w6 (6 ∷ []) nines)
+    alone (margins-out-entry XSummary w6 (6 ∷ []) nines) teams (on 8) (on 8) XShared (asOwned 0 X) refl refl (itself (on 8)) refl
+    ∙ one-owner teams (on 8) (omega arith) X refl refl refl (margins-out-entry XSummary w6 (6 ∷ []) nines)
 
 -- 12 comes before 14
 summary-twelve : Twelve teams (onAtLeast 8 0 2) XShared 3
@@ -855,13 +866,13 @@ pair-moved : summary-after (move 0 0 1) ≡ editSummary teams (on 8) 2 pair-memo
 unfolding everything
 pair-moved =
     edit-own teams (on 8) (on 8) 4 2 edit-memory pair-memory edit-summary (move 0 0 1) (move 0 0 1)
-    (record { windows = 4; numbers = 7 }) (record { windows = 2; numbers = 7 }) refl refl refl refl .1
+    (record { windows = 4; numbers = 7 }) (record { windows = 2; numbers = 7 }) refl refl (itself (on 8)) refl .1
 
 -- on X it can grow by the tick that owner 1's begins with: the two are told apart, by 3 at owner 1's window
 pair-grown : EditTold teams (on 8) 4 edit-memory edit-summary (move 0 0 3) ⊎ EditTold teams (on 8) 2 pair-memory edit-summary (move 0 0 3)
 unfolding everything
 pair-grown =
-    edit-told-apart teams (on 8) (on 8) 4 2 edit-memory pair-memory edit-summary (move 0 0 3) (move 0 0 3) refl refl (omega arith) refl (omega arith) refl refl
+    edit-told-apart teams (on 8) (on 8) 4 2 edit-memory pair-memory edit-summary (move 0 0 3) (move 0 0 3) (itself (on 8)) refl (omega arith) refl (omega arith) refl refl
     (λ same. let e = same .0 in let z : _≡_ {A = ℕ} 0 1 = cc in omega arith)
 
 -- a summary that does not belong: its A is wrong
@@ -876,4 +887,4 @@ x-stale = exactly-fourteen teams (on 8) 4 edit-memory stale-summary (remove 0) 0
 pair-stale : editAnswer teams (on 8) 2 pair-memory stale-summary (move 9 0 1) ≡ refused 14 0
 unfolding everything
 pair-stale =
-    fourteen-own teams (on 8) (on 8) 4 2 edit-memory pair-memory stale-summary (remove 0) (move 9 0 1) (omega arith) refl (omega arith) refl refl refl .0 refl
+    fourteen-own teams (on 8) (on 8) 4 2 edit-memory pair-memory stale-summary (remove 0) (move 9 0 1) (omega arith) refl (omega arith) refl (itself (on 8)) refl .0 refl

@@ -18,7 +18,7 @@ use Rattle.theory.specs.Numbers.{sum-eq}
 use Rattle.theory.specs.Ticks.{least-up}
 use Rattle.theory.specs.Tasks.{TaskRule, TaskRules, jobsIn, jobsIn-short, jobsIn-due, le-jobsIn, demand-jobs, demand-sum, demand-none}
 use Rattle.theory.specs.Windows.{supplied-periodic}
-use Rattle.theory.specs.Answers.{judged}
+use Rattle.theory.specs.Answers.{judged, table-frame}
 use Rattle.theory.specs.Exact.{exact-miss}
 
 -- the next deadline after length t of the jobs that are released at tick 0 and each period after
@@ -169,7 +169,7 @@ miss-at-deadline b ws ts t s d p e =
     let facts = judged b ws ts (miss t s d p) e in
     let ok = facts .group .rules in
     let m = exact-miss b ws ts (miss t s d p) e t s d p .0 refl in
-    let per = supplied-periodic b (windowsOf ws) (facts .table .frame) in
+    let per = supplied-periodic b (windowsOf ws) (table-frame b ws (facts .table)) in
     let over : leastSupply (suppliedBy b ws) (b .frame) t < demand (tasksOf ts) t = omega (arith, m .demanded, m .supplied, m .above) in
     let some-length : 0 < t =
     elim (decLt 0 t) [

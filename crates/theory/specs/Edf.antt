@@ -23,7 +23,7 @@ use Rattle.theory.specs.Numbers.{fits, fits-true, true-fits, and-both, s
 use Rattle.theory.specs.Ticks.{least-over-all-starts}
 use Rattle.theory.specs.Windows.{supplied-periodic}
 use Rattle.theory.specs.Tasks.{task-rules}
-use Rattle.theory.specs.Answers.{judged}
+use Rattle.theory.specs.Answers.{judged, table-frame}
 use Rattle.theory.specs.Exact.{exact-meets}
 use Rattle.theory.specs.Reached.{due-within}
 use Rattle.theory.specs.Jobs.{job-rules}
@@ -37,7 +37,7 @@ met-supply : (b : Board) (ws ts : List ℕ) (H : ℕ) → verdictAnswer b ws ts 
 met-supply b ws ts H answered s t =
     let f = judged b ws ts (meets H) answered in
     le-trans (exact-meets b ws ts (meets H) answered H .0 refl .1 t)
-    (least-over-all-starts (suppliedBy b ws) (b .frame) (supplied-periodic b (windowsOf ws) (f .table .frame)) s t)
+    (least-over-all-starts (suppliedBy b ws) (b .frame) (supplied-periodic b (windowsOf ws) (table-frame b ws (f .table))) s t)
 
 -- ---- every run under earliest deadline first
 

@@ -14,9 +14,9 @@ use borrow.Author.Tests.{eqb-true, eqb-false, ltb-true, ltb-false, leb-false, lt
 use Rattle.scope.specs.Numbers.{first, piecesFrom, pieces, written}
 use Rattle.scope.specs.Limits.{mostWindows, teams}
 use Rattle.scope.specs.Windows.{Board}
-use Rattle.scope.specs.Answers.{Fault, Fault.fine, Fault.fault, Answer, Answer.given, Answer.refused, faultIf, faultAt, _orElse_, unless, tableFault, frameFault, shortestFault, roomFault}
+use Rattle.scope.specs.Answers.{Fault, Fault.fine, Fault.fault, Answer, Answer.given, Answer.refused, faultIf, faultAt, _orElse_, unless, tableFault, frameFault, shortestFault, ruleFault, roomFault}
 use Rattle.scope.specs.Shared.{Owned, owned, ownedOf, ownedAt, windowsFor, own, ownedLegal, badOwned, ownedListFault, ownedFault, wholeFault, absentOwnerFault}
-use Rattle.scope.specs.Shared.{sliver, firstSliver, sliverFault, sharedFault, kept}
+use Rattle.scope.specs.Shared.{ownLeft, sliver, firstSliver, sliverFault, lostFault, sharedFault, kept}
 use Rattle.scope.specs.Summary.{summaryOf, makeFault, makeAnswer, makeOut, makeFor, makeOutFor, begins, summaryFault, Edit, Edit.move, Edit.add, Edit.remove, spliced, edited, indexFault, tableIn, countFault}
 use Rattle.scope.specs.Summary.{editedList, editedSummary, editFault, Edited, editAnswer, editWindows, editSummary}
 use Rattle.theory.specs.Numbers.{first-some}
@@ -26,7 +26,8 @@ use Rattle.theory.specs.Refused.{edit-kept}
 use Rattle.theory.specs.Summaries.{fine-begins, begins-fine}
 use Rattle.theory.specs.Buffers.{length-written, take-written, written-begins, begins-length, begins-written}
 use Rattle.theory.specs.Shared.{shared-parts, whole, own-fine, asked-fine}
-use Rattle.theory.specs.Alone.{supplied-same, teamsFault, WholeRefusal, WholeRefusal.by-count, WholeRefusal.by-frame, WholeRefusal.by-window, WholeRefusal.by-range, WholeRefusal.by-sliver, whole-refusal}
+use Rattle.theory.specs.Losses.{Cause, Cause.none-left, lost-thirteen, lost-exactly}
+use Rattle.theory.specs.Alone.{supplied-same, Alike, own-same, teamsFault, WholeRefusal, WholeRefusal.by-count, WholeRefusal.by-frame, WholeRefusal.by-window, WholeRefusal.by-range, WholeRefusal.by-sliver, whole-refusal}
 
 -- ---- what an edit that is made has checked
 
@@ -438,29 +439,31 @@ other-owner owners b count memory summary edit x e u =
 
 -- ---- what of an edit may depend on the other team
 
--- a summary depends on the frame and the owner's windows
-pub summary-same : (b c : Board) (ws vs : List ℕ) → b .frame ≡ c .frame → ws ≡ vs → summaryOf b ws ≡ summaryOf c vs
+-- a summary depends on the frame, the owner's windows and the lost ticks
+pub summary-same : (b c : Board) (ws vs : List ℕ) → Alike b c → ws ≡ vs → summaryOf b ws ≡ summaryOf c vs
 unfolding summaryOf
-summary-same b c ws vs framed same = rw (same, supplied-same b c vs framed, framed)
+summary-same b c ws vs alike same = rw (same, supplied-same b c vs (alike .frame) (alike .lost), alike .frame)
 
 -- not the summary, nor how many numbers it has: two edits that are made, whatever else they find, leave the same where the owner has the same windows after them
 pub edit-own : (owners : ℕ) (b c : Board) (count n : ℕ) (memory m summary : List ℕ) (edit change : Edit) (x y : Edited) →
     editAnswer owners b count memory summary edit ≡ given x → editAnswer owners c n m summary change ≡ given y →
-    b .frame ≡ c .frame → own b (editedList count memory edit) ≡ own c (editedList n m change) →
+    Alike b c → own b (editedList count memory edit) ≡ own c (editedList n m change) →
     (x .numbers ≡ y .numbers) × (editSummary owners b count memory summary edit ≡ editSummary owners c n m summary change)
-edit-own owners b c count n memory m summary edit change x y e f framed same =
+edit-own owners b c count n memory m summary edit change x y e f alike same =
     let g = edit-given owners b count memory summary edit x e in
     let h = edit-given owners c n m summary change y f in
-    let z = summary-same b c (own b (editedList count memory edit)) (own c (editedList n m change)) framed same in
+    let z = summary-same b c (own b (editedList count memory edit)) (own c (editedList n m change)) alike same in
     (g .numbers ∙ ap length z ∙ sym (h .numbers), g .summary-memory ∙ ap (λ (l : List ℕ). written l summary) z ∙ sym (h .summary-memory))
 
--- every refusal of the table that an edit would leave: by its number of windows, at one of them, for an owner that has none left, at a sliver
+-- every refusal of the table that an edit would leave: by its number of windows, at one of them, for an owner that has none left, at a sliver, for an owner
+-- that is left no tick
 pub data NewRefusal (b : Board) (ws : List ℕ) (windows : ℕ) : ℕ → ℕ → Type 0 where
   too-few : windows ≡ 0 → NewRefusal b ws windows 1 0
   too-many : mostWindows < windows → NewRefusal b ws windows 1 0
   new-window : (i : ℕ) → i < windows → NewRefusal b ws windows 3 i
   new-absent : own b ws ≡ [] → NewRefusal b ws windows 1 0
   new-sliver : (i : ℕ) → i < windows → NewRefusal b ws windows 12 i
+  new-loss : own b ws ≢ [] → ownLeft b ws ≡ [] → NewRefusal b ws windows 13 0
 
 -- the table as it is has no fault, and the summary is not what a fresh making writes
 pub record Fourteen (owners : ℕ) (b : Board) (count : ℕ) (memory summary : List ℕ) : Type 0 where
@@ -475,6 +478,7 @@ module _ (owners : ℕ) (b : Board) (count : ℕ) (memory summary : List ℕ) (e
     short-memory : length memory < 3 * count → EditRefusal 1 0
     old-table : {n p : ℕ} → 3 * count ≤ length memory → sharedFault owners b (tableIn count memory) ≡ fault n p → WholeRefusal count n p → EditRefusal n p
     old-absent : 3 * count ≤ length memory → sharedFault owners b (tableIn count memory) ≡ fault 1 0 → own b (tableIn count memory) ≡ [] → EditRefusal 1 0
+    old-loss : 3 * count ≤ length memory → sharedFault owners b (tableIn count memory) ≡ fault 13 0 → Cause b (own b (tableIn count memory)) → EditRefusal 13 0
     not-its-summary : Fourteen owners b count memory summary → EditRefusal 14 0
     absent-index : Ready owners b count memory summary → (Allowed edit count → ⊥) → EditRefusal 7 0
     new-table : {n p : ℕ} → Ready owners b count memory summary → Allowed edit count → sharedFault owners b (editedList count memory edit) ≡ fault n p →
@@ -487,26 +491,39 @@ no-numbers : (l : List ℕ) → length l ≡ 0 → l ≡ []
 no-numbers [] e = refl
 no-numbers (a ∷ l) e = absurd (omega arith)
 
--- the refusal of a list for an owner: one that may depend on every team, or that the owner has no window there
-shared-refusal : (owners : ℕ) (b : Board) (ws : List ℕ) (n p : ℕ) → sharedFault owners b ws ≡ fault n p →
-    WholeRefusal (length (ownedOf ws)) n p ⊎ ((own b ws ≡ []) × (fault 1 0 ≡ fault n p))
+-- the refusal of a list for an owner: one that may depend on every team, that the owner has no window there, or that it is left no tick by such a board
+data SharedRefusal (b : Board) (ws : List ℕ) (n p : ℕ) : Type 0 where
+  by-teams : WholeRefusal (length (ownedOf ws)) n p → SharedRefusal b ws n p
+  by-absence : own b ws ≡ [] → fault 1 0 ≡ fault n p → SharedRefusal b ws n p
+  by-loss : Cause b (own b ws) → fault 13 0 ≡ fault n p → SharedRefusal b ws n p
+
+shared-refusal : (owners : ℕ) (b : Board) (ws : List ℕ) (n p : ℕ) → sharedFault owners b ws ≡ fault n p → SharedRefusal b ws n p
 unfolding sharedFault teamsFault absentOwnerFault
 shared-refusal owners b ws n p = go (wholeFault owners b ws) refl
   where
-    absent : wholeFault owners b ws ≡ fine → (t : Bool) → eqb (length (own b ws)) 0 ≡ t → (faultIf t 1 0 orElse sliverFault b ws) ≡ fault n p →
-        WholeRefusal (length (ownedOf ws)) n p ⊎ ((own b ws ≡ []) × (fault 1 0 ≡ fault n p))
-    absent e true z f = inr (no-numbers (own b ws) (eqb-true (length (own b ws)) 0 z), f)
-    absent e false z f = inl (whole-refusal owners b ws n p (rw e f))
+    slivers : wholeFault owners b ws ≡ fine → (g : Fault) → sliverFault b ws ≡ g → (g orElse lostFault b (own b ws)) ≡ fault n p → SharedRefusal b ws n p
+    slivers e (fault m q) s f = by-teams (whole-refusal owners b ws n p (rw (e, s) f))
+    slivers e fine s f = let z = lost-thirteen b (own b ws) n p f in by-loss (lost-exactly b (own b ws) .0 (f ∙ sym z)) z
 
-    go : (g : Fault) → wholeFault owners b ws ≡ g → (g orElse faultIf (eqb (length (own b ws)) 0) 1 0 orElse sliverFault b ws) ≡ fault n p →
-        WholeRefusal (length (ownedOf ws)) n p ⊎ ((own b ws ≡ []) × (fault 1 0 ≡ fault n p))
-    go (fault m q) e f = inl (whole-refusal owners b ws n p (rw e f))
+    absent : wholeFault owners b ws ≡ fine → (t : Bool) → eqb (length (own b ws)) 0 ≡ t → (faultIf t 1 0 orElse sliverFault b ws orElse lostFault b (own b ws)) ≡ fault n p →
+        SharedRefusal b ws n p
+    absent e true z f = by-absence (no-numbers (own b ws) (eqb-true (length (own b ws)) 0 z)) f
+    absent e false z f = slivers e (sliverFault b ws) refl f
+
+    go : (g : Fault) → wholeFault owners b ws ≡ g → (g orElse faultIf (eqb (length (own b ws)) 0) 1 0 orElse sliverFault b ws orElse lostFault b (own b ws)) ≡ fault n p →
+        SharedRefusal b ws n p
+    go (fault m q) e f = by-teams (whole-refusal owners b ws n p (rw e f))
     go fine e f = absent e (eqb (length (own b ws)) 0) refl f
 
 -- the shortest window of a board whose list has no sliver is in its range
 sliver-ranged : (b : Board) (ws : List ℕ) → sliverFault b ws ≡ fine → shortestFault b ≡ fine
 unfolding sliverFault
 sliver-ranged b ws f = orElse-fine (shortestFault b) (faultAt 12 (firstSliver b (ownedOf ws))) f .0
+
+-- and so are its rule and its lost ticks, where the owner is left a tick
+lost-ruled : (b : Board) (mine : List ℕ) → lostFault b mine ≡ fine → ruleFault b ≡ fine
+unfolding lostFault
+lost-ruled b mine f = orElse-fine (ruleFault b) _ f .0
 
 index-refused : (edit : Edit) (count n p : ℕ) → indexFault edit count ≡ fault n p → (fault 7 0 ≡ fault n p) × (Allowed edit count → ⊥)
 unfolding indexFault
@@ -530,15 +547,15 @@ absent-fault edit count u = go (indexFault edit count) refl
 
 -- of a board without a fault, and a list of so many windows in threes, no other refusal is left
 module _ (owners : ℕ) (b : Board) (ws : List ℕ) (windows : ℕ)
-    (framed : frameFault b ≡ fine) (ranged : shortestFault b ≡ fine) (long : length ws ≡ 3 * windows) where
+    (framed : frameFault b ≡ fine) (ranged : shortestFault b ≡ fine) (by-rule-fine : ruleFault b ≡ fine) (long : length ws ≡ 3 * windows) where
   count-read : length (ownedOf ws) ≡ windows
   count-read = pieces-length Owned 3 owned ws ∙ omega (arith, long)
 
   new-refusal : (n p : ℕ) → sharedFault owners b ws ≡ fault n p → NewRefusal b ws windows n p
-  unfolding sharedFault wholeFault ownedListFault ownedFault badOwned absentOwnerFault sliverFault firstSliver
+  unfolding sharedFault wholeFault ownedListFault ownedFault badOwned absentOwnerFault sliverFault firstSliver lostFault
   new-refusal n p f =
       let threes : length ws % 3 ≡ 0 = omega (arith, long) in
-      counted (ltb mostWindows (length ws / 3)) refl (eqb (length ws) 0) refl (rw (whole-count 3 mostWindows ws threes, framed, ranged) at f)
+      counted (ltb mostWindows (length ws / 3)) refl (eqb (length ws) 0) refl (rw (whole-count 3 mostWindows ws threes, framed, ranged, by-rule-fine) at f)
     where
       is : {m q : ℕ} → NewRefusal b ws windows m q → fault m q ≡ fault n p → NewRefusal b ws windows n p
       is {m} {q} r e = let x : m ≡ n = cc in let y : q ≡ p = cc in rw (← x, ← y) r
@@ -546,20 +563,27 @@ module _ (owners : ℕ) (b : Board) (ws : List ℕ) (windows : ℕ)
       short : Option ℕ
       short = first (λ i. sliver b (ownedAt (ownedOf ws) i)) (length (ownedOf ws))
 
-      slivered : (o : Option ℕ) → short ≡ o → faultAt 12 o ≡ fault n p → NewRefusal b ws windows n p
-      slivered none z e = absurd (fault-not-fine (sym e))
-      slivered (some i) z e =
+      none-left : Bool
+      none-left = eqb (length (ownLeft b ws)) 0
+
+      loss : own b ws ≢ [] → (t : Bool) → none-left ≡ t → faultIf t 13 0 ≡ fault n p → NewRefusal b ws windows n p
+      loss u true z e = is (new-loss u (no-numbers (ownLeft b ws) (eqb-true (length (ownLeft b ws)) 0 z))) e
+      loss u false z e = absurd (fault-not-fine (sym e))
+
+      slivered : own b ws ≢ [] → (o : Option ℕ) → short ≡ o → (faultAt 12 o orElse faultIf none-left 13 0) ≡ fault n p → NewRefusal b ws windows n p
+      slivered u none z e = loss u none-left refl e
+      slivered u (some i) z e =
           let s = first-some (λ j. sliver b (ownedAt (ownedOf ws) j)) (length (ownedOf ws)) i z in
           is (new-sliver i (omega (arith, s .0, count-read))) e
 
-      absent : (t : Bool) → eqb (length (own b ws)) 0 ≡ t → (faultIf t 1 0 orElse faultAt 12 short) ≡ fault n p → NewRefusal b ws windows n p
+      absent : (t : Bool) → eqb (length (own b ws)) 0 ≡ t → (faultIf t 1 0 orElse faultAt 12 short orElse faultIf none-left 13 0) ≡ fault n p → NewRefusal b ws windows n p
       absent true z e = is (new-absent (no-numbers (own b ws) (eqb-true (length (own b ws)) 0 z))) e
-      absent false z e = slivered short refl e
+      absent false z e = slivered (λ w. eqb-false (length (own b ws)) 0 z (ap length w)) short refl e
 
       bad : Option ℕ
       bad = first (λ i. not (ownedLegal owners b (ownedOf ws) i)) (length (ownedOf ws))
 
-      ruled : (o : Option ℕ) → bad ≡ o → (faultAt 3 o orElse faultIf (eqb (length (own b ws)) 0) 1 0 orElse faultAt 12 short) ≡ fault n p →
+      ruled : (o : Option ℕ) → bad ≡ o → (faultAt 3 o orElse faultIf (eqb (length (own b ws)) 0) 1 0 orElse faultAt 12 short orElse faultIf none-left 13 0) ≡ fault n p →
           NewRefusal b ws windows n p
       ruled none z e = absent (eqb (length (own b ws)) 0) refl e
       ruled (some i) z e =
@@ -567,7 +591,7 @@ module _ (owners : ℕ) (b : Board) (ws : List ℕ) (windows : ℕ)
           is (new-window i (omega (arith, s .0, count-read))) e
 
       counted : (t : Bool) → ltb mostWindows (length ws / 3) ≡ t → (u : Bool) → eqb (length ws) 0 ≡ u →
-          ((faultIf (t || u) 1 0 orElse faultAt 3 bad) orElse faultIf (eqb (length (own b ws)) 0) 1 0 orElse faultAt 12 short) ≡ fault n p →
+          ((faultIf (t || u) 1 0 orElse faultAt 3 bad) orElse faultIf (eqb (length (own b ws)) 0) 1 0 orElse faultAt 12 short orElse faultIf none-left 13 0) ≡ fault n p →
           NewRefusal b ws windows n p
       counted true z u w e = is (too-many (omega (arith, ltb-true mostWindows (length ws / 3) z, long))) e
       counted false z true w e = is (too-few (omega (arith, eqb-true (length ws) 0 w, long))) e
@@ -580,7 +604,7 @@ module _ (owners : ℕ) (b : Board) (count : ℕ) (memory : List ℕ) (edit : Ed
   after-refusal counted before allowed n p f =
       let old : List ℕ = tableIn count memory in
       let parts = shared-parts owners b old before in
-      new-refusal owners b (editedList count memory edit) (countAfter edit count) (whole owners b old (parts .0) .framed) (sliver-ranged b old (parts .2))
+      new-refusal owners b (editedList count memory edit) (countAfter edit count) (whole owners b old (parts .0) .framed) (sliver-ranged b old (parts .2)) (lost-ruled b (own b old) (parts .3))
       (left-long edit count memory counted allowed) n p f
 
 module _ (owners : ℕ) (b : Board) (count : ℕ) (memory summary : List ℕ) (edit : Edit) (n p : ℕ) where
@@ -653,8 +677,9 @@ module _ (owners : ℕ) (b : Board) (count : ℕ) (memory summary : List ℕ) (e
       before c (fault m q) z e =
           let many : length (ownedOf old) ≡ count = pieces-length Owned 3 owned old ∙ omega (arith, length-take-le (3 * count) memory c) in
           elim (shared-refusal owners b old n p (z ∙ e)) [
-            | inl r ↦ old-table c (z ∙ e) (rw many at r)
-            | inr r ↦ is (old-absent c (z ∙ e ∙ sym (r .1)) (r .0)) (r .1)
+            | by-teams r ↦ old-table c (z ∙ e) (rw many at r)
+            | by-absence r s ↦ is (old-absent c (z ∙ e ∙ sym s) r) s
+            | by-loss r s ↦ is (old-loss c (z ∙ e ∙ sym s) r) s
           ]
 
       counted : (t : Bool) → ltb (length memory) (3 * count) ≡ t → (faultIf t 1 0 orElse sharedFault owners b old orElse later) ≡ fault n p → R
@@ -680,6 +705,7 @@ module _ (owners : ℕ) (b : Board) (count : ℕ) (memory summary : List ℕ) (e
   refusal-edit n p (short-memory h) = rw (lt-ltb (length memory) (3 * count) h)
   refusal-edit n p (old-table c f r) = old-refused n p c f
   refusal-edit n p (old-absent c f z) = old-refused 1 0 c f
+  refusal-edit n p (old-loss c f z) = old-refused 13 0 c f
   refusal-edit n p (not-its-summary f) = rw (le-ltb (length memory) (3 * count) (f .counted), f .before, f .stale)
   refusal-edit n p (absent-index r u) = rw (ready-fault owners b count memory summary edit r, absent-fault edit count u)
   refusal-edit n p (new-table r a f x) = new-refused owners b count memory summary edit r a n p f
@@ -707,6 +733,7 @@ new-number n p (too-many h) = (λ z. omega arith, λ z. omega arith)
 new-number n p (new-window i h) = (λ z. omega arith, λ z. omega arith)
 new-number n p (new-absent h) = (λ z. omega arith, λ z. omega arith)
 new-number n p (new-sliver i h) = (λ z. omega arith, λ z. omega arith)
+new-number n p (new-loss u h) = (λ z. omega arith, λ z. omega arith)
 
 module _ (owners : ℕ) (b : Board) (count : ℕ) (memory summary : List ℕ) (edit : Edit) where
   -- the table as it is has no fault, the summary is its own, and the index is not there
@@ -718,6 +745,7 @@ module _ (owners : ℕ) (b : Board) (count : ℕ) (memory summary : List ℕ) (e
   only-fourteen n p (short-memory h) z = absurd (omega arith)
   only-fourteen n p (old-table c f r) z = absurd (whole-number n p r .0 z)
   only-fourteen n p (old-absent c f h) z = absurd (omega arith)
+  only-fourteen n p (old-loss c f h) z = absurd (omega arith)
   only-fourteen n p (not-its-summary h) z = (h, refl)
   only-fourteen n p (absent-index r h) z = absurd (omega arith)
   only-fourteen n p (new-table r a f x) z = absurd (new-number n p x .0 z)
@@ -728,6 +756,7 @@ module _ (owners : ℕ) (b : Board) (count : ℕ) (memory summary : List ℕ) (e
   only-seven n p (short-memory h) z = absurd (omega arith)
   only-seven n p (old-table c f r) z = absurd (whole-number n p r .1 z)
   only-seven n p (old-absent c f h) z = absurd (omega arith)
+  only-seven n p (old-loss c f h) z = absurd (omega arith)
   only-seven n p (not-its-summary h) z = absurd (omega arith)
   only-seven n p (absent-index r h) z = ((r, h), refl)
   only-seven n p (new-table r a f x) z = absurd (new-number n p x .1 z)
@@ -751,10 +780,10 @@ module _ (owners : ℕ) (b : Board) (count : ℕ) (memory summary : List ℕ) (e
 -- so, once the tables as they are have no fault, whether it is given depends on the frame, the owner's windows and the summary, and on nothing else
 pub fourteen-own : (owners : ℕ) (b c : Board) (count n : ℕ) (memory m summary : List ℕ) (edit change : Edit) →
     3 * count ≤ length memory → sharedFault owners b (tableIn count memory) ≡ fine → 3 * n ≤ length m → sharedFault owners c (tableIn n m) ≡ fine →
-    b .frame ≡ c .frame → own b (tableIn count memory) ≡ own c (tableIn n m) →
+    Alike b c → own b (tableIn count memory) ≡ own c (tableIn n m) →
     (editAnswer owners b count memory summary edit ≡ refused 14 0) ↔ (editAnswer owners c n m summary change ≡ refused 14 0)
-fourteen-own owners b c count n memory m summary edit change k e j f framed same =
-    let z = summary-same b c (own b (tableIn count memory)) (own c (tableIn n m)) framed same in
+fourteen-own owners b c count n memory m summary edit change k e j f alike same =
+    let z = summary-same b c (own b (tableIn count memory)) (own c (tableIn n m)) alike same in
     let to = exactly-fourteen owners b count memory summary edit 0 in
     let fro = exactly-fourteen owners c n m summary change 0 in (
       λ a. fro .1 (record { counted = j; before = f; stale = rw (← z) (to .0 a .0 .stale) }, refl),
@@ -777,15 +806,25 @@ pub record EditTold (owners : ℕ) (b : Board) (count : ℕ) (memory summary : L
   pub answered : editAnswer owners b count memory summary edit ≡ refused number place
 
 -- a list without a fault has a window of the owner
-never-absent : (owners : ℕ) (b : Board) (ws : List ℕ) → sharedFault owners b ws ≡ fine → own b ws ≡ [] → ⊥
+-- what is refused for an owner by its own windows and the board: 1 and 13
+abbrev ownedFaults : Board → List ℕ → Fault
+ownedFaults b ws = absentOwnerFault b ws orElse lostFault b (own b ws)
+
+absent-own : (b : Board) (ws : List ℕ) → own b ws ≡ [] → ownedFaults b ws ≡ fault 1 0
 unfolding absentOwnerFault
-never-absent owners b ws f z =
-    eqb-false (length (own b ws)) 0 (faultIf-fine _ 1 0 (shared-parts owners b ws f .1)) (ap length z)
+absent-own b ws h = rw h
+
+present-own : (b : Board) (ws : List ℕ) → own b ws ≢ [] → ownedFaults b ws ≡ lostFault b (own b ws)
+unfolding absentOwnerFault
+present-own b ws u = rw (ne-eqb (length (own b ws)) 0 (λ z. u (no-numbers (own b ws) z)))
+
+never-own : (owners : ℕ) (b : Board) (ws : List ℕ) → sharedFault owners b ws ≡ fine → ownedFaults b ws ≡ fine
+never-own owners b ws f = let p = shared-parts owners b ws f in rw (p .1, p .3)
 
 module _ (owners : ℕ) (b : Board) (count : ℕ) (memory summary : List ℕ) (edit : Edit) where
-  -- an edit that none of these refuses: the owner has no window left, or only room for the summary is asked
+  -- an edit that none of these refuses: the owner has no window left, or no tick, or only room for the summary is asked
   pub data Untold : Type 0 where
-    left-absent : own b (editedList count memory edit) ≡ [] → editAnswer owners b count memory summary edit ≡ refused 1 0 → Untold
+    left-own : (n p : ℕ) → ownedFaults b (editedList count memory edit) ≡ fault n p → editAnswer owners b count memory summary edit ≡ refused n p → Untold
     left-legal : sharedFault owners b (editedList count memory edit) ≡ fine →
         editFault owners b count memory summary edit ≡ roomFault (length (editedSummary b count memory edit)) (length summary) → Untold
 
@@ -815,8 +854,9 @@ module _ (owners : ℕ) (b : Board) (count : ℕ) (memory summary : List ℕ) (e
       new-told n p (too-few h) e = inl (so by-number e)
       new-told n p (too-many h) e = inl (so by-number e)
       new-told n p (new-window i h) e = inl (so (by-rule i h) e)
-      new-told n p (new-absent h) e = inr (left-absent h (rw (behind ∙ e)))
+      new-told n p (new-absent h) e = inr (left-own 1 0 (absent-own b new h) (rw (behind ∙ e)))
       new-told n p (new-sliver i h) e = inl (so (by-short i h) e)
+      new-told n p (new-loss u h) e = inr (left-own 13 0 (present-own b new u ∙ lost-exactly b (own b new) .1 (none-left h)) (rw (behind ∙ e)))
 
       roomy : indexFault edit count ≡ fine → sharedFault owners b new ≡ fine → (t : Bool) → ltb (length memory) (length new) ≡ t → T
       roomy i a true z =
@@ -843,7 +883,7 @@ numbers-unless : (f : Fault) (x : Edited) → numbersIn (unless f x) ≡ unless 
 numbers-unless fine x = refl
 numbers-unless (fault n p) x = refl
 
--- nothing else does: of two edits in equal frames and with one summary, whose owners have the same windows before and the same after, and that are answered
+-- nothing else does: of two edits on boards that are alike and with one summary, whose owners have the same windows before and the same after, and that are answered
 -- differently or leave different summaries, one is refused so
 module _ (owners : ℕ) (b c : Board) (count k : ℕ) (memory m summary : List ℕ) (edit change : Edit) where
   abbrev pub Same : Type 0
@@ -856,18 +896,25 @@ module _ (owners : ℕ) (b c : Board) (count k : ℕ) (memory m summary : List �
     edit-kept n p owners b count memory summary edit e .1 ∙ sym (edit-kept n p owners c k m summary change f .1),
   )
 
-  module _ (framed : b .frame ≡ c .frame) (after : own b (editedList count memory edit) ≡ own c (editedList k m change)) where
+  module _ (alike : Alike b c) (after : own b (editedList count memory edit) ≡ own c (editedList k m change)) where
+    faults : ownedFaults b (editedList count memory edit) ≡ ownedFaults c (editedList k m change)
+    faults = own-same b c (editedList count memory edit) (editedList k m change) alike after
+
     both-legal : editFault owners b count memory summary edit ≡ roomFault (length (editedSummary b count memory edit)) (length summary) →
         editFault owners c k m summary change ≡ roomFault (length (editedSummary c k m change)) (length summary) → Same
     unfolding editAnswer editSummary
     both-legal e f =
-        let z = summary-same b c (own b (editedList count memory edit)) (own c (editedList k m change)) framed after in
+        let z = summary-same b c (own b (editedList count memory edit)) (own c (editedList k m change)) alike after in
         (rw (e, f, numbers-unless, numbers-unless, z), rw (e, f, z))
 
     untold-same : Untold owners b count memory summary edit → Untold owners c k m summary change → Same
-    untold-same (left-absent a e) (left-absent d f) = refused-same 1 0 e f
-    untold-same (left-absent a e) (left-legal l f) = absurd (never-absent owners c (editedList k m change) l (sym after ∙ a))
-    untold-same (left-legal l e) (left-absent d f) = absurd (never-absent owners b (editedList count memory edit) l (after ∙ d))
+    untold-same (left-own n p a e) (left-own o q d f) =
+        let z : fault n p ≡ fault o q = sym a ∙ faults ∙ d in
+        let x : o ≡ n = cc in
+        let y : q ≡ p = cc in
+        refused-same n p e (rw (← x, ← y) f)
+    untold-same (left-own n p a e) (left-legal l f) = absurd (fault-not-fine (sym a ∙ faults ∙ never-own owners c (editedList k m change) l))
+    untold-same (left-legal l e) (left-own o q d f) = absurd (fault-not-fine (sym d ∙ sym faults ∙ never-own owners b (editedList count memory edit) l))
     untold-same (left-legal l e) (left-legal g f) = both-legal e f
 
     pub edit-told-apart : 3 * count ≤ length memory → sharedFault owners b (tableIn count memory) ≡ fine →
@@ -876,7 +923,7 @@ module _ (owners : ℕ) (b c : Board) (count k : ℕ) (memory m summary : List �
     edit-told-apart i e j f before differ = go (begins (summaryIn b count memory) summary) refl
       where
         stale : begins (summaryIn b count memory) summary ≡ begins (summaryIn c k m) summary
-        stale = ap (λ (l : List ℕ). begins l summary) (summary-same b c (own b (tableIn count memory)) (own c (tableIn k m)) framed before)
+        stale = ap (λ (l : List ℕ). begins l summary) (summary-same b c (own b (tableIn count memory)) (own c (tableIn k m)) alike before)
 
         both : EditTold owners b count memory summary edit ⊎ Untold owners b count memory summary edit →
             EditTold owners c k m summary change ⊎ Untold owners c k m summary change →

@@ -21,7 +21,7 @@ use Rattle.theory.specs.Ticks.{least-start, least-start-unique}
 use Rattle.theory.specs.Windows.{supplied-periodic}
 use Rattle.theory.specs.Cycle.{cycle-pos, cycle-frame, cycle-periods}
 use Rattle.theory.specs.Horizon.{horizon}
-use Rattle.theory.specs.Answers.{Judged, judged}
+use Rattle.theory.specs.Answers.{Judged, judged, table-frame}
 
 -- ---- over any pattern σ that repeats with P, and any cycle H for which the horizon holds
 
@@ -104,7 +104,7 @@ module _ (b : Board) (ws ts : List ℕ) (v : Verdict) (answered : verdictAnswer 
   facts = judged b ws ts v answered
 
   per : Periodic σ (b .frame)
-  per = supplied-periodic b (windowsOf ws) (facts .table .frame)
+  per = supplied-periodic b (windowsOf ws) (table-frame b ws (facts .table))
 
   abbrev H : ℕ
   H = cycle (b .frame) (tasksOf ts)
@@ -114,7 +114,7 @@ module _ (b : Board) (ws ts : List ℕ) (v : Verdict) (answered : verdictAnswer 
       (a : ℕ) × (1 ≤ a) × (a ≤ H) × (leastSupply σ (b .frame) a < demand (tasksOf ts) a)
   within-cycle =
       let g = facts .group in
-      horizon σ (b .frame) per (tasksOf ts) (g .rules) H (cycle-pos (b .frame) (tasksOf ts) (facts .table .frame) (g .rules))
+      horizon σ (b .frame) per (tasksOf ts) (g .rules) H (cycle-pos (b .frame) (tasksOf ts) (table-frame b ws (facts .table)) (g .rules))
       (cycle-frame (b .frame) (tasksOf ts)) (cycle-periods (b .frame) (tasksOf ts)) (g .within)
 
   -- "meets" with H exactly when H is the cycle and, for every length without limit, the demand is at most the least supply

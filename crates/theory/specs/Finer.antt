@@ -132,7 +132,9 @@ module _ (q : ℕ) (pos : 1 ≤ q) where
   -- a finer window gives the parts of the ticks that the window gives
   finer-gives : (b : Board) (w : Window) (y : ℕ) → gives (finerBoard q b) (window (q * w .start) (q * w .end)) y ≡ gives b w (y / q)
   unfolding gives
-  finer-gives b w y = rw (finer-start (w .start) y, finer-end y (w .end))
+  finer-gives b w y =
+      let e : q * b .lost + q * w .start ≡ q * (b .lost + w .start) = omega arith in
+      rw (e, finer-start (b .lost + w .start) y, finer-end y (w .end))
 
   finer-covers : (b : Board) (ws : List Window) (y : ℕ) → covers (finerBoard q b) (finerWindows q ws) y ≡ covers b ws (y / q)
   unfolding covers

@@ -2,6 +2,7 @@
 use mathlib.Core.Path.{_≡_, refl, sym, ap, _∙_}
 use mathlib.Core.Bool.{Bool, true, false, not, and-false, or-true}
 use mathlib.Core.Option.{none}
+use mathlib.Core.Logic.{inl, inr}
 use mathlib.Core.List.{List, [], _∷_}
 use Prim.Native.Nat.{ℕ, zero, suc, _+_, _-_, _≤_, _<_}
 use native.Mathlib.Omega.{arith}
@@ -12,37 +13,8 @@ use lib.ListN.{length, List·getD-eq-default}
 use borrow.Author.Tests.{ltb-true, leb-true, lt-ltb, le-ltb, le-leb, lt-leb, ne-eqb, not-false}
 use Rattle.scope.specs.Ticks.{Periodic}
 use Rattle.scope.specs.Windows.{Board, Window, window, windowAt, windowFits, gives, covers, supplied, windowLegal, badWindow}
-use Rattle.theory.specs.Numbers.{and-both, both-and, first-none}
-use Rattle.theory.specs.Windows.{supplied-periodic}
-
--- ---- one window
-
-module _ (b : Board) (w : Window) (k : ℕ) where
-  gives-in : w .start ≤ k → k < w .end → gives b w k ≡ true
-  unfolding gives
-  gives-in h l = both-and (le-leb _ _ h) (lt-ltb _ _ l)
-
-  gives-before : k < w .start → gives b w k ≡ false
-  unfolding gives
-  gives-before h = rw (lt-leb _ _ h)
-
-  gives-after : w .end ≤ k → gives b w k ≡ false
-  unfolding gives
-  gives-after h = rw (le-ltb _ _ h) (and-false (leb (w .start) k))
-
--- ---- windows by their index
-
-module _ (b : Board) (k : ℕ) where
-  covers-at : (ws : List Window) (i : ℕ) → i < length ws → gives b (windowAt ws i) k ≡ true → covers b ws k ≡ true
-  unfolding covers
-  covers-at [] i h e = absurd (omega arith)
-  covers-at (w ∷ ws) zero h e = rw e
-  covers-at (w ∷ ws) (suc i) h e = rw (covers-at ws i (omega arith) e) (or-true (gives b w k))
-
-  covers-no : (ws : List Window) → ((i : ℕ) → i < length ws → gives b (windowAt ws i) k ≡ false) → covers b ws k ≡ false
-  unfolding covers
-  covers-no [] h = refl
-  covers-no (w ∷ ws) h = rw (h 0 (omega arith), covers-no ws (λ i u. h (suc i) (omega arith)))
+use Rattle.theory.specs.Numbers.{and-both, bool-cases, first-none}
+use Rattle.theory.specs.Windows.{gives-in, gives-before, gives-after, covers-at, covers-no, supplied-periodic}
 
 -- ---- a legal table
 
@@ -92,14 +64,14 @@ module _ (b : Board) (ws : List Window) (legal : badWindow b ws ≡ none) where
   none-from : (i k : ℕ) → i < length ws → k < startOf i → (j : ℕ) → i ≤ j → j < length ws → gives b (windowAt ws j) k ≡ false
   none-from i k h l j m u =
       gives-before b (windowAt ws j) k
-      (elim (ℕ-discrete i j) [ yes e ↦ rw (← e) l | no v ↦ omega (arith, before i j (omega arith) u, fits i h .0) ])
+      (elim (ℕ-discrete i j) [ yes e ↦ rw (← e) (omega (arith, l)) | no v ↦ omega (arith, before i j (omega arith) u, fits i h .0) ])
 
   here : (k : ℕ) → k < b .frame → σ k ≡ covers b ws k
   unfolding supplied
   here k h = ap (covers b ws) (mod-eq-of-lt h)
 
   -- the ticks of a window are supplied
-  pub on-window : (i k : ℕ) → i < length ws → startOf i ≤ k → k < endOf i → σ k ≡ true
+  pub on-window : (i k : ℕ) → i < length ws → b .lost + startOf i ≤ k → k < endOf i → σ k ≡ true
   on-window i k h l m =
       here k (omega (arith, fits i h .1)) ∙ covers-at b k ws i h (gives-in b (windowAt ws i) k l m)
 
@@ -116,13 +88,9 @@ module _ (b : Board) (ws : List Window) (legal : badWindow b ws ≡ none) where
   pub covers-by : (i k : ℕ) → i ≤ length ws → (0 < i → endOf (i - 1) ≤ k) → (i < length ws → k < endOf i) → covers b ws k ≡ gives b (windowAt ws i) k
   covers-by i k h past ahead =
       elim (decLt i (length ws)) [
-        | yes l ↦ elim (decLt k (startOf i)) [
-          | yes m ↦
-              let none-here : gives b (windowAt ws i) k ≡ false = gives-before b (windowAt ws i) k m in
-              covers-no b k ws (λ j u. elim (decLt j i) [ yes v ↦ before-it j v | no v ↦ none-from i k l m j (omega arith) u ]) ∙ sym none-here
-          | no m ↦
-              let here-it : gives b (windowAt ws i) k ≡ true = gives-in b (windowAt ws i) k (omega arith) (ahead l) in
-              covers-at b k ws i l here-it ∙ sym here-it
+        | yes l ↦ elim (bool-cases (gives b (windowAt ws i) k)) [
+          | inl e ↦ covers-at b k ws i l e ∙ sym e
+          | inr e ↦ covers-no b k ws (λ j u. elim (ℕ-discrete j i) [ yes z ↦ rw z e | no z ↦ other j u z ]) ∙ sym e
         ]
         | no l ↦
             let past-it : windowAt ws i ≡ window 0 0 = List·getD-eq-default ws (window 0 0) (omega arith) in
@@ -131,6 +99,13 @@ module _ (b : Board) (ws : List Window) (legal : badWindow b ws ≡ none) where
     where
       before-it : (j : ℕ) → j < i → gives b (windowAt ws j) k ≡ false
       before-it j v = none-up-to (i - 1) k (omega arith) (past (omega arith)) j (omega arith)
+
+      other : (j : ℕ) → j < length ws → (j ≡ i → ⊥) → gives b (windowAt ws j) k ≡ false
+      other j u z =
+          elim (decLt j i) [
+            | yes v ↦ before-it j v
+            | no v ↦ gives-before b (windowAt ws j) k (omega (arith, before i j (omega arith) u, ahead (omega arith)))
+          ]
 
   off-tail : (k : ℕ) → endOf (length ws - 1) ≤ k → k < b .frame → σ k ≡ false
   off-tail k l m = here k m ∙ covers-no b k ws (λ j u. none-up-to (length ws - 1) k (omega arith) l j (omega arith))
@@ -149,6 +124,6 @@ module _ (b : Board) (ws : List Window) (legal : badWindow b ws ≡ none) where
               ap σ (sym e) ∙ table-periodic .same (k - b .frame) ∙ off-head (k - b .frame) some (omega arith)
         ]
 
-    -- and the first one's start is
-    pub on-first : σ (startOf 0) ≡ true
-    on-first = on-window 0 (startOf 0) some (omega arith) (fits 0 some .0)
+    -- and the first one's start is, where no tick is lost
+    pub on-first : b .lost ≡ 0 → σ (startOf 0) ≡ true
+    on-first whole = on-window 0 (startOf 0) some (omega (arith, whole)) (fits 0 some .0)

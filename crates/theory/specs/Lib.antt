@@ -41,7 +41,11 @@ pub mod Replays
 pub mod Recorded
 pub mod Shared
 pub mod Slivers
+pub mod Left
+pub mod Losses
 pub mod Alone
+pub mod Lost
+pub mod Lent
 pub mod Forms
 pub mod Shortest
 pub mod Summaries

@@ -204,6 +204,26 @@ pub record Rising (l : List ℕ) (n : ℕ) : Type 0 where
   pub below : (i : ℕ) → i < length l → getD l i 0 < n
   pub up : (i j : ℕ) → i < j → j < length l → getD l i 0 < getD l j 0
 
+-- what is left after the first number still rises, and is above it
+pub rising-rest : (a : ℕ) (l : List ℕ) (n : ℕ) → Rising (a ∷ l) n → Rising l n
+rising-rest a l n r = record { below = λ i h. r .below (suc i) (omega arith); up = λ i j h k. r .up (suc i) (suc j) (omega arith) (omega arith) }
+
+pub rising-above : (a : ℕ) (l : List ℕ) (n : ℕ) → Rising (a ∷ l) n → (i : ℕ) → i < length l → a < getD l i 0
+rising-above a l n r i h = r .up 0 (suc i) (omega arith) (omega arith)
+
+-- and so do numbers with a lesser one before them
+pub rising-cons : (a : ℕ) (l : List ℕ) (n : ℕ) → a < n → ((k : ℕ) → k < length l → a < getD l k 0) → Rising l n → Rising (a ∷ l) n
+rising-cons a l n h up r = record { below = below; up = rising }
+  where
+    below : (i : ℕ) → i < length (a ∷ l) → getD (a ∷ l) i 0 < n
+    below zero u = h
+    below (suc i) u = r .below i (omega arith)
+
+    rising : (i j : ℕ) → i < j → j < length (a ∷ l) → getD (a ∷ l) i 0 < getD (a ∷ l) j 0
+    rising i zero u v = absurd (omega arith)
+    rising zero (suc j) u v = up j (omega arith)
+    rising (suc i) (suc j) u v = r .up i j (omega arith) (omega arith)
+
 rising-none : Rising [] 0
 rising-none = record { below = λ i h. absurd (omega arith); up = λ i j l h. absurd (omega arith) }
 

@@ -85,7 +85,7 @@ pub record Passed (b : Board) (ws : List Window) (a i z n : ℕ) : Type 0 where
   pub end : z ≡ (windowAt ws (i - 1)) .end
   pub longest : Longest (supplied b ws) a z n
 
-module _ (b : Board) (ws : List Window) (legal : badWindow b ws ≡ none) where
+module _ (b : Board) (ws : List Window) (whole : b .lost ≡ 0) (legal : badWindow b ws ≡ none) where
   abbrev σ : ℕ → Bool
   σ = supplied b ws
 
@@ -98,7 +98,7 @@ module _ (b : Board) (ws : List Window) (legal : badWindow b ws ≡ none) where
         few = omega arith;
         end = ends;
         longest = longest-on σ (w .start) (w .start) 0 (longest-none σ (w .start)) (w .end)
-            (λ k h l. on-window b ws legal 0 k some (omega arith) (omega arith));
+            (λ k h l. on-window b ws legal 0 k some (omega (arith, whole)) (omega arith));
       }
 
   module _ (a i z n : ℕ) (so : Passed b ws a i z n) where
@@ -110,13 +110,13 @@ module _ (b : Board) (ws : List Window) (legal : badWindow b ws ≡ none) where
         let after : z < w .start = omega (arith, so .end, next b ws legal i (so .some) l) in
         let g : ℕ = w .start - z in
         let gap = longest-gap σ a z n (so .longest) g (λ k h. off-gap b ws legal i (z + k) l (omega (arith, so .end)) (omega arith))
-        (on-window b ws legal i (z + g) l (omega arith) (omega (arith, fits b ws legal i l))) in (
+        (on-window b ws legal i (z + g) l (omega (arith, whole)) (omega (arith, fits b ws legal i l))) in (
           omega arith,
           record {
             some = omega arith;
             few = omega arith;
             end = let back : i + 1 - 1 ≡ i = omega arith in ends ∙ ap (λ (j : ℕ). (windowAt ws j) .end) (sym back);
-            longest = longest-on σ a (z + g) (max n g) gap (w .end) (λ k h m. on-window b ws legal i k l (omega arith) (omega arith));
+            longest = longest-on σ a (z + g) (max n g) gap (w .end) (λ k h m. on-window b ws legal i k l (omega (arith, whole)) (omega arith));
           },
         )
 
@@ -133,5 +133,5 @@ module _ (b : Board) (ws : List Window) (legal : badWindow b ws ≡ none) where
         let g : ℕ = P - z + a in
         let round : z + g ≡ a + P = omega arith in
         let gap = longest-gap σ a z n (so .longest) g (λ k h. off-round b ws legal some (z + k) (omega arith) (omega arith))
-        (ap σ round ∙ per .same a ∙ ap σ e ∙ on-first b ws legal some) in
+        (ap σ round ∙ per .same a ∙ ap σ e ∙ on-first b ws legal some whole) in
         (in-frame, omega arith, longest-round σ P a (max n g) per first (rw round at gap))

@@ -10,11 +10,12 @@ use native.Mathlib.Numerals.{add-one}
 use native.Mathlib.Decide.{ℕ-discrete, decLt}
 use lib.Dec.{ltb, eqb}
 use lib.ListN.{length, getD, length-append}
-use borrow.Author.Tests.{lt-ltb, le-ltb, le-leb, lt-leb, eq-eqb}
+use borrow.Author.Tests.{lt-ltb, le-ltb, le-leb, eq-eqb}
 use Rattle.scope.specs.Numbers.{keep, piecesFrom, pieces}
-use Rattle.scope.specs.Windows.{Board, Window, window, windowsOf, windowAt, gives, covers, windowLegal, badWindow}
+use Rattle.scope.specs.Windows.{Board, framed, Window, window, windowsOf, windowAt, gives, covers, windowLegal, badWindow}
 use Rattle.scope.specs.Partition.{within, edge, maximalRuns}
 use Rattle.theory.specs.Numbers.{both-and, bool-cases, below-suc, none-first}
+use Rattle.theory.specs.Windows.{gives-in, gives-before, gives-after}
 use Rattle.theory.specs.Lists.{pieces-length, two-at, pieces-append, keep-hit, keep-miss, keep-first, Rising, keep-rising}
 
 -- ---- rising numbers, none above the frame, read two at a time are legal windows
@@ -102,17 +103,17 @@ covers-more b l s e k h =
     ap (λ (ws : List Window). covers b ws k) (pieces-append Window 2 window (omega arith) (length l / 2) l (s ∷ e ∷ []) (omega arith))
     ∙ covers-last b (windowsOf l) (window s e) k
 
--- a window over the ticks s to n − 1, at all of which p holds
-within-window : (b : Board) (p : ℕ → Bool) (s n : ℕ) → s < n → ((x : ℕ) → s ≤ x → x < n → p x ≡ true) → (k : ℕ) →
-    (within p s k || gives b (window s n) k) ≡ within p n k
-unfolding within gives
-within-window b p s n h run k =
+-- a window over the ticks s to n − 1, at all of which p holds, on a board that loses none
+within-window : (P : ℕ) (p : ℕ → Bool) (s n : ℕ) → s < n → ((x : ℕ) → s ≤ x → x < n → p x ≡ true) → (k : ℕ) →
+    (within p s k || gives (framed P) (window s n) k) ≡ within p n k
+unfolding within
+within-window P p s n h run k =
     elim (decLt k s) [
-      | yes a ↦ rw (lt-ltb k s a, lt-leb s k a, lt-ltb k n (omega arith)) (or-false (p k))
-      | no a ↦ rw (le-ltb k s (omega arith), le-leb s k (omega arith)) (elim (decLt k n) [
-        | yes c ↦ rw (lt-ltb k n c) (sym (run k (omega arith) c))
-        | no c ↦ rw (le-ltb k n (omega arith))
-      ])
+      | yes a ↦ rw (gives-before (framed P) (window s n) k (omega (arith, a)), lt-ltb k s a, lt-ltb k n (omega arith)) (or-false (p k))
+      | no a ↦ elim (decLt k n) [
+        | yes c ↦ rw (gives-in (framed P) (window s n) k (omega arith) c, le-ltb k s (omega arith), lt-ltb k n c) (sym (run k (omega arith) c))
+        | no c ↦ rw (gives-after (framed P) (window s n) k (omega arith), le-ltb k s (omega arith), le-ltb k n (omega arith))
+      ]
     ]
 
 -- ---- the edges of q below n: whole windows, or whole windows and the start of a run that is still open
@@ -137,11 +138,11 @@ module _ (q : ℕ → Bool) where
   unfolding edge
   edge-is n a b e f = rw (e, f)
 
-module _ (board : Board) (q : ℕ → Bool) where
+module _ (P : ℕ) (q : ℕ → Bool) where
   -- the list l is of whole windows, which cover the ticks below n at which q holds
   record Closed (l : List ℕ) (n : ℕ) : Type 0 where
     even : length l % 2 ≡ 0
-    cover : (k : ℕ) → covers board (windowsOf l) k ≡ within q n k
+    cover : (k : ℕ) → covers (framed P) (windowsOf l) k ≡ within q n k
 
   -- after the whole windows l a run starts at s, and q has held since
   record Open (l : List ℕ) (s n : ℕ) : Type 0 where
@@ -163,8 +164,8 @@ module _ (board : Board) (q : ℕ → Bool) where
       record {
         even = omega (arith, length-append l (s ∷ n ∷ []), o .shut .even);
         cover = λ k.
-            covers-more board l s n k (o .shut .even) ∙ ap (λ (t : Bool). t || gives board (window s n) k) (o .shut .cover k)
-            ∙ within-window board q s n (o .start) (o .run) k;
+            covers-more (framed P) l s n k (o .shut .even) ∙ ap (λ (t : Bool). t || gives (framed P) (window s n) k) (o .shut .cover k)
+            ∙ within-window P q s n (o .start) (o .run) k;
       }
 
   step : (n : ℕ) → (q n ≡ true) ⊎ (q n ≡ false) → State n → State (suc n)
@@ -200,15 +201,12 @@ module _ (board : Board) (q : ℕ → Bool) where
 -- ---- the runs of p below n, as windows of a frame of n ticks
 
 module _ (p : ℕ → Bool) (n : ℕ) where
-  abbrev framed : Board
-  framed = record { frame = n; owner = 0; shortest = 1 }
-
   -- no run is open past n, where the pattern is false
-  maximal-closed : Closed framed (within p n) (maximalRuns p n) (suc n)
+  maximal-closed : Closed n (within p n) (maximalRuns p n) (suc n)
   unfolding maximalRuns
-  maximal-closed = rw add-one (go (state framed (within p n) (suc n)))
+  maximal-closed = rw add-one (go (state n (within p n) (suc n)))
     where
-      go : State framed (within p n) (suc n) → Closed framed (within p n) (edges (within p n) (suc n)) (suc n)
+      go : State n (within p n) (suc n) → Closed n (within p n) (edges (within p n) (suc n)) (suc n)
       go (closed b c) = c
       go (opened b l s o) =
           absurd (true≢false (sym (sym (before-suc (within p n) n) ∙ b) ∙ within-out p n n (omega arith)))
@@ -217,7 +215,7 @@ module _ (p : ℕ → Bool) (n : ℕ) where
   maximal-even = maximal-closed .even
 
   -- the windows cover exactly the ticks below n at which p holds
-  pub maximal-cover : (k : ℕ) → covers framed (windowsOf (maximalRuns p n)) k ≡ within p n k
+  pub maximal-cover : (k : ℕ) → covers (framed n) (windowsOf (maximalRuns p n)) k ≡ within p n k
   maximal-cover k =
       maximal-closed .cover k ∙ elim (decLt k (suc n)) [
         | yes h ↦ within-in (within p n) (suc n) k h
@@ -225,9 +223,9 @@ module _ (p : ℕ → Bool) (n : ℕ) where
       ]
 
   -- each run starts before it ends, ends at n or before, and starts strictly after the previous one's end
-  pub maximal-rule : badWindow framed (windowsOf (maximalRuns p n)) ≡ none
+  pub maximal-rule : badWindow (framed n) (windowsOf (maximalRuns p n)) ≡ none
   unfolding maximalRuns
-  maximal-rule = rising-rule framed (maximalRuns p n) (keep-rising (edge (within p n)) (n + 1))
+  maximal-rule = rising-rule (framed n) (maximalRuns p n) (keep-rising (edge (within p n)) (n + 1))
 
   -- the first run starts where p first holds
   pub maximal-first : (c : ℕ) → c < n → p c ≡ true → ((j : ℕ) → j < c → p j ≡ false) → (rest : List ℕ) × (maximalRuns p n ≡ c ∷ rest)

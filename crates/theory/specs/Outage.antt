@@ -12,9 +12,9 @@ use native.Mathlib.Decide.{decLt}
 use lib.ListN.{length}
 use borrow.Author.Tests.{lt-ltb, le-ltb, le-leb}
 use Rattle.scope.specs.Numbers.{bit, firstBy, piecesFrom, pieces, badCount}
-use Rattle.scope.specs.Limits.{mostOfTask, mostCycle, mostLength}
+use Rattle.scope.specs.Limits.{mostFrame, mostOfTask, mostCycle, mostLength}
 use Rattle.scope.specs.Ticks.{Periodic, supply, leastSupply, leastStart}
-use Rattle.scope.specs.Windows.{Board, Window, window, windowsOf, windowAt, suppliedBy}
+use Rattle.scope.specs.Windows.{Board, windowsOf, suppliedBy}
 use Rattle.scope.specs.Partition.{rises, critical, outageFrom, outage}
 use Rattle.scope.specs.Tasks.{Task, task, taskLegal, badTask, taskDemand, demand}
 use Rattle.scope.specs.Cycle.{lcm, cycle}
@@ -24,13 +24,11 @@ use Rattle.scope.specs.Answers.{leastSupplyAnswer, criticalOf, outageAnswer, ve
 use Rattle.scope.specs.Demands.{Silent}
 use Rattle.theory.specs.Numbers.{bool-cases, greatest-ge, greatest-met}
 use Rattle.theory.specs.Ticks.{supply-first, supply-up, supply-mod, supply-frame, least-over-all-starts, least-is-met, least-up, least-start}
-use Rattle.theory.specs.Lists.{pieces-length}
 use Rattle.theory.specs.MaximalRuns.{maximal-first}
 use Rattle.theory.specs.Cycle.{lcm-least}
-use Rattle.theory.specs.Answers.{LegalTable, table-legal, unless-given}
+use Rattle.theory.specs.Answers.{frame-legal, table-framed, unless-given}
 use Rattle.theory.specs.Exact.{exact-miss}
 use Rattle.theory.specs.Windows.{supplied-periodic}
-use Rattle.theory.specs.Gaps.{on-first}
 
 -- ---- unsupplied ticks, and the supply of that length
 
@@ -180,111 +178,105 @@ module _ (b : Board) (ws : List ℕ) (n : ℕ) (answered : outageAnswer b ws ≡
   unfolding outageAnswer
   is = unless-given (tableFault b ws) (outage τ P) n answered .1
 
-  table : LegalTable b ws
-  table = table-legal b ws fine-table
-
-  some : 0 < length (windowsOf ws)
-  some = omega (arith, pieces-length Window 2 window ws, table .even, table .some)
+  frame : (0 < P) × (P ≤ mostFrame)
+  frame = frame-legal b (table-framed b ws fine-table)
 
   per : Periodic τ P
-  per = supplied-periodic b (windowsOf ws) (table .frame)
-
-  abbrev first : ℕ
-  first = (windowAt (windowsOf ws) 0) .start
-
-  on : τ first ≡ true
-  on = on-first b (windowsOf ws) (table .windows) some
+  per = supplied-periodic b (windowsOf ws) (frame .0)
 
   -- the least supply of a length of at most a frame is answered
   least-given : (t : ℕ) → t ≤ P → leastSupplyAnswer b ws t ≡ given (leastSupply τ P t)
   unfolding leastSupplyAnswer lengthFault
-  least-given t h = rw (fine-table, le-ltb mostLength t (omega (arith, table .frame-most)))
+  least-given t h = rw (fine-table, le-ltb mostLength t (omega (arith, frame .1)))
 
-  -- (i) so many unsupplied ticks in a row there are, and no run anywhere, in any frame, has more
+  -- so many unsupplied ticks in a row there are
   pub outage-run : (s : ℕ) × (s < P) × Silent τ s n
   outage-run = rw (← is) (outage-there τ P per)
 
-  pub outage-no-longer : (s m : ℕ) → Silent τ s m → m ≤ n
-  outage-no-longer s m h = omega (arith, is, outage-longest τ P per first on s m h)
-
-  -- (ii) its least supply is 0 and that of one tick more is not; and no greater length, however long, has least supply 0
-  pub outage-supply : (leastSupplyAnswer b ws n ≡ given 0) × (p : ℕ) × (leastSupplyAnswer b ws (n + 1) ≡ given p) × (0 < p)
-  outage-supply =
-      let below = outage-below τ P per first on in (
-        least-given n (omega (arith, is)) ∙ ap given (rw is at (outage-least τ P per)),
-        leastSupply τ P (n + 1),
-        least-given (n + 1) (omega (arith, is)),
-        rw is at (outage-more τ P per first on),
-      )
-
-  pub outage-greatest-length : (t : ℕ) → leastSupply τ P t ≡ 0 → t ≤ n
-  outage-greatest-length t e = omega (arith, is, outage-greatest τ P per first on t e)
-
-  -- (iii) it is 0 exactly if every tick is supplied
+  -- it is 0 exactly if every tick is supplied
   pub outage-zero : (n ≡ 0) ↔ ((k : ℕ) → τ k ≡ true)
   outage-zero = let z = outage-none τ P per in (λ e. z .0 (is ∙ e), λ h. sym is ∙ z .1 h)
 
-  -- (iv) it is the start of the first critical window
-  pub outage-critical : (rest : List ℕ) × (criticalOf b ws ≡ n ∷ rest)
-  outage-critical = let c = outage-first τ P per first on in (c .0, rw is at (c .1))
+  -- where any tick is supplied
+  module _ (first : ℕ) (on : τ first ≡ true) where
+    -- (i) no run anywhere, in any frame, has more
+    pub outage-no-longer : (s m : ℕ) → Silent τ s m → m ≤ n
+    outage-no-longer s m h = omega (arith, is, outage-longest τ P per first on s m h)
 
-  -- ---- where it starts is found by asking for one tick of work each frame, due in n
-
-  abbrev one : Task
-  one = task 1 P n
-
-  module _ (pos : 0 < n) where
-    short : n < P
-    short = omega (arith, is, outage-below τ P per first on)
-
-    one-legal : taskLegal one ≡ true
-    unfolding taskLegal
-    one-legal =
-        let f = table .frame-most in
-        let l = short in
-        rw (le-leb 1 P (omega arith), le-leb P mostOfTask (omega arith), le-leb 1 n pos, le-leb n mostOfTask (omega arith), le-leb n P (omega arith))
-
-    one-group : groupFault (1 ∷ P ∷ n ∷ []) ≡ fine
-    unfolding groupFault taskListFault badCount taskFault badTask firstBy piecesFrom pieces
-    one-group = rw one-legal
-
-    one-cycle : cycleFault b (one ∷ []) ≡ fine
-    unfolding cycleFault cycle
-    one-cycle =
-        let l : lcm P P ≤ P = le-of-dvd (table .frame) (lcm-least P P P (table .frame) (dvd-refl P) (dvd-refl P)) in
-        rw (le-ltb mostCycle (lcm P P) (omega (arith, table .frame-most)))
-
-    one-demand : (t : ℕ) → t < n → demand (one ∷ []) t ≡ 0
-    unfolding demand taskDemand
-    one-demand t l = rw (lt-ltb t n l)
-
-    one-due : demand (one ∷ []) n ≡ 1
-    unfolding demand taskDemand
-    one-due =
-        let z : n - n ≡ 0 = omega arith in
-        rw (le-ltb n n (omega arith), z, zero-div P) (omega arith)
-
-    -- the miss shows the least of all starts of n unsupplied ticks
-    pub outage-asked : (s : ℕ) × (verdictAnswer b ws (1 ∷ P ∷ n ∷ []) ≡ given (miss n s 1 0)) × Silent τ s n × ((r : ℕ) → r < s → Silent τ r n → ⊥)
-    unfolding verdictAnswer piecesFrom pieces
-    outage-asked =
-        let H : ℕ = cycle P (one ∷ []) in
-        let s = least-start τ P per n in
-        let nothing : leastSupply τ P n ≡ 0 = rw is at (outage-least τ P per) in
-        let v = exact-miss b ws (1 ∷ P ∷ n ∷ []) (verdict τ P (one ∷ []) H) asked n (leastStart τ P n) 1 0 .1
-        (record {
-          demanded = sym one-due;
-          supplied = sym nothing;
-          above = omega arith;
-          leastLength = λ u l. omega (arith, one-demand u l);
-          holds = s .1 ∙ nothing;
-          leastStart = λ r l. omega (arith, s .2 r l, nothing);
-        }) in (
-          leastStart τ P n,
-          asked ∙ ap given v,
-          supply-silent τ (leastStart τ P n) n (s .1 ∙ nothing),
-          λ r l h. omega (arith, s .2 r l, silent-supply τ r n h),
+    -- (ii) its least supply is 0 and that of one tick more is not; and no greater length, however long, has least supply 0
+    pub outage-supply : (leastSupplyAnswer b ws n ≡ given 0) × (p : ℕ) × (leastSupplyAnswer b ws (n + 1) ≡ given p) × (0 < p)
+    outage-supply =
+        let below = outage-below τ P per first on in (
+          least-given n (omega (arith, is)) ∙ ap given (rw is at (outage-least τ P per)),
+          leastSupply τ P (n + 1),
+          least-given (n + 1) (omega (arith, is)),
+          rw is at (outage-more τ P per first on),
         )
-      where
-        asked : verdictAnswer b ws (1 ∷ P ∷ n ∷ []) ≡ given (verdict τ P (one ∷ []) (cycle P (one ∷ [])))
-        asked = rw (fine-table, one-group, one-cycle)
+
+    pub outage-greatest-length : (t : ℕ) → leastSupply τ P t ≡ 0 → t ≤ n
+    outage-greatest-length t e = omega (arith, is, outage-greatest τ P per first on t e)
+
+    -- (iii) it is the start of the first critical window
+    pub outage-critical : (rest : List ℕ) × (criticalOf b ws ≡ n ∷ rest)
+    outage-critical = let c = outage-first τ P per first on in (c .0, rw is at (c .1))
+
+    -- ---- where it starts is found by asking for one tick of work each frame, due in n
+
+    abbrev one : Task
+    one = task 1 P n
+
+    module _ (pos : 0 < n) where
+      short : n < P
+      short = omega (arith, is, outage-below τ P per first on)
+
+      one-legal : taskLegal one ≡ true
+      unfolding taskLegal
+      one-legal =
+          let f = frame .1 in
+          let l = short in
+          rw (le-leb 1 P (omega arith), le-leb P mostOfTask (omega arith), le-leb 1 n pos, le-leb n mostOfTask (omega arith), le-leb n P (omega arith))
+
+      one-group : groupFault (1 ∷ P ∷ n ∷ []) ≡ fine
+      unfolding groupFault taskListFault badCount taskFault badTask firstBy piecesFrom pieces
+      one-group = rw one-legal
+
+      one-cycle : cycleFault b (one ∷ []) ≡ fine
+      unfolding cycleFault cycle
+      one-cycle =
+          let l : lcm P P ≤ P = le-of-dvd (frame .0) (lcm-least P P P (frame .0) (dvd-refl P) (dvd-refl P)) in
+          rw (le-ltb mostCycle (lcm P P) (omega (arith, frame .1)))
+
+      one-demand : (t : ℕ) → t < n → demand (one ∷ []) t ≡ 0
+      unfolding demand taskDemand
+      one-demand t l = rw (lt-ltb t n l)
+
+      one-due : demand (one ∷ []) n ≡ 1
+      unfolding demand taskDemand
+      one-due =
+          let z : n - n ≡ 0 = omega arith in
+          rw (le-ltb n n (omega arith), z, zero-div P) (omega arith)
+
+      -- the miss shows the least of all starts of n unsupplied ticks
+      pub outage-asked : (s : ℕ) × (verdictAnswer b ws (1 ∷ P ∷ n ∷ []) ≡ given (miss n s 1 0)) × Silent τ s n × ((r : ℕ) → r < s → Silent τ r n → ⊥)
+      unfolding verdictAnswer piecesFrom pieces
+      outage-asked =
+          let H : ℕ = cycle P (one ∷ []) in
+          let s = least-start τ P per n in
+          let nothing : leastSupply τ P n ≡ 0 = rw is at (outage-least τ P per) in
+          let v = exact-miss b ws (1 ∷ P ∷ n ∷ []) (verdict τ P (one ∷ []) H) asked n (leastStart τ P n) 1 0 .1
+          (record {
+            demanded = sym one-due;
+            supplied = sym nothing;
+            above = omega arith;
+            leastLength = λ u l. omega (arith, one-demand u l);
+            holds = s .1 ∙ nothing;
+            leastStart = λ r l. omega (arith, s .2 r l, nothing);
+          }) in (
+            leastStart τ P n,
+            asked ∙ ap given v,
+            supply-silent τ (leastStart τ P n) n (s .1 ∙ nothing),
+            λ r l h. omega (arith, s .2 r l, silent-supply τ r n h),
+          )
+        where
+          asked : verdictAnswer b ws (1 ∷ P ∷ n ∷ []) ≡ given (verdict τ P (one ∷ []) (cycle P (one ∷ [])))
+          asked = rw (fine-table, one-group, one-cycle)

@@ -12,7 +12,7 @@ use lib.ListN.{length}
 use borrow.Author.Tests.{lt-ltb, le-ltb}
 use Rattle.scope.specs.Numbers.{bit}
 use Rattle.scope.specs.Ticks.{Periodic, supply, perFrame, leastSupply}
-use Rattle.scope.specs.Windows.{windowsOf, supplied, suppliedBy, badWindow}
+use Rattle.scope.specs.Windows.{framed, windowsOf, supplied, suppliedBy, badWindow}
 use Rattle.scope.specs.Partition.{rises, critical}
 use Rattle.theory.specs.Ticks.{supply-split, same-mod, least-unique, least-none, least-next-frame, least-up, least-up-one, least-superadditive}
 use Rattle.theory.specs.MaximalRuns.{within-in, maximal-even, maximal-cover, maximal-rule}
@@ -73,7 +73,7 @@ module _ (σ : ℕ → Bool) (P : ℕ) (per : Periodic σ P) where
 
 module _ (σ : ℕ → Bool) (P : ℕ) where
   -- its windows keep the rule of window tables
-  pub critical-rule : badWindow (record { frame = P; owner = 0; shortest = 1 }) (windowsOf (critical σ P)) ≡ none
+  pub critical-rule : badWindow (framed P) (windowsOf (critical σ P)) ≡ none
   unfolding critical
   critical-rule = maximal-rule (rises σ P) P
 
@@ -83,15 +83,15 @@ module _ (σ : ℕ → Bool) (P : ℕ) where
 
 module _ (σ : ℕ → Bool) (P : ℕ) (per : Periodic σ P) where
   -- it supplies the ticks at which the least supply rises
-  pub critical-supplied : suppliedBy (record { frame = P; owner = 0; shortest = 1 }) (critical σ P) ≡ rises σ P
+  pub critical-supplied : suppliedBy (framed P) (critical σ P) ≡ rises σ P
   unfolding supplied critical
   critical-supplied =
       fun-ext (λ k.
       maximal-cover (rises σ P) P (k % P) ∙ within-in (rises σ P) P (k % P) (mod-lt k (per .some))
       ∙ same-mod (rises σ P) P (rises-periodic σ P per) k)
 
-  pub critical-supply : (t : ℕ) → supply (suppliedBy (record { frame = P; owner = 0; shortest = 1 }) (critical σ P)) 0 t ≡ leastSupply σ P t
+  pub critical-supply : (t : ℕ) → supply (suppliedBy (framed P) (critical σ P)) 0 t ≡ leastSupply σ P t
   critical-supply t = ap (λ (κ : ℕ → Bool). supply κ 0 t) critical-supplied ∙ rises-supply σ P per t
 
-  pub critical-least : (t : ℕ) → leastSupply (suppliedBy (record { frame = P; owner = 0; shortest = 1 }) (critical σ P)) P t ≡ leastSupply σ P t
+  pub critical-least : (t : ℕ) → leastSupply (suppliedBy (framed P) (critical σ P)) P t ≡ leastSupply σ P t
   critical-least t = ap (λ (κ : ℕ → Bool). leastSupply κ P t) critical-supplied ∙ rises-least σ P per t

@@ -25,7 +25,7 @@ use Rattle.scope.specs.Trace.{releasesBefore, recordLegal, badRecord}
 use Rattle.scope.specs.Replay.{endedFrom, Difference, firstDifference, lesser, Replayed, Replayed.same, Replayed.differs, Replayed.missed, named, replayed}
 use Rattle.scope.specs.Replay.{extentFault, recordFault, replayFault, recordsAnswer, replayAnswer}
 use Rattle.theory.specs.Numbers.{and-both, or-neither, first-none, none-first}
-use Rattle.theory.specs.Answers.{faultIf-fine, faultAt-fine, orElse-fine, unless-given, LegalTable, table-legal, LegalGroup, group-legal}
+use Rattle.theory.specs.Answers.{faultIf-fine, faultAt-fine, orElse-fine, unless-given, LegalGroup, group-legal}
 use Rattle.theory.specs.Run.{met-before}
 use Rattle.theory.specs.Edf.{edf-meets}
 use Rattle.theory.specs.Plan.{orNine-given}
@@ -36,7 +36,7 @@ pub record Replaying (b : Board) (ws ts bytes : List ℕ) (v : Replayed) : Type 
   pub stamped : List Stamped
   pub end : ℕ
   pub reads : traceOf bytes ≡ read stamped end
-  pub table : LegalTable b ws
+  pub table : tableFault b ws ≡ fine
   pub group : LegalGroup ts
   pub ticks : ticksOf (timed stamped) ≤ mostTicks
   pub few : length (releases (timed stamped)) ≤ mostJobs
@@ -59,7 +59,7 @@ replay-given b ws ts bytes v e =
       stamped = stamped;
       end = end;
       reads = reads;
-      table = table-legal b ws (p₁ .0);
+      table = p₁ .0;
       group = group-legal ts (p₂ .0);
       ticks = ltb-false mostTicks (ticksOf rs) (n .0);
       few = ltb-false mostJobs (length (releases rs)) (n .1);

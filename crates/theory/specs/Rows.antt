@@ -257,17 +257,17 @@ module _ (b : Board) (ws : List ℕ) (ok : LegalTable b ws) where
         inside = λ i h. fits b all (ok .windows) i (within i h) .1;
         apart = λ i h. omega (arith, after i h);
         rise = λ i h. omega (arith, after i h, fits b all (ok .windows) (i + 1) (within (i + 1) h));
-        on = λ i k h. on-window b all (ok .windows) i k (within i h);
+        on = λ i k h l. on-window b all (ok .windows) i k (within i h) (omega (arith, l, ok .whole));
         gap = λ i k h l m. let e : i + 1 - 1 ≡ i = omega arith in off-gap b all (ok .windows) (i + 1) k (within (i + 1) h) (rw e l) m;
         round = λ k l m. off-round b all (ok .windows) one k (rw count l) m;
       }
 
 -- ---- the entry: the least supply is the least over the starts where a window ends
 
-pub ends-answer : (b : Board) (ws : List ℕ) (t v : ℕ) → leastSupplyAnswer b ws t ≡ given v →
+pub ends-answer : (b : Board) (ws : List ℕ) (t v : ℕ) → b .lost ≡ 0 → leastSupplyAnswer b ws t ≡ given v →
     v ≡ least (λ i. supply (suppliedBy b ws) (endOf ws i) t) (length ws / 2)
 unfolding leastSupplyAnswer
-ends-answer b ws t v e =
+ends-answer b ws t v whole e =
     let g = unless-given (tableFault b ws orElse lengthFault t) (leastSupply (suppliedBy b ws) (b .frame) t) v e in
-    let ok = table-legal b ws (orElse-fine (tableFault b ws) (lengthFault t) (g .0) .0) in
+    let ok = table-legal b ws (orElse-fine (tableFault b ws) (lengthFault t) (g .0) .0) whole in
     sym (g .1) ∙ sym (ends-suffice (suppliedBy b ws) (b .frame) (length ws / 2) (startOf ws) (endOf ws) (table-row b ws ok) t)

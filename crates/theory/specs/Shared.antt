@@ -18,9 +18,10 @@ use Rattle.scope.specs.Windows.{Board, Window, window, windowsOf, windowAt, win
 use Rattle.scope.specs.Answers.{Fault, Fault.fine, Fault.fault, Answer, Answer.given, Answer.refused, faultIf, faultAt, _orElse_, unless}
 use Rattle.scope.specs.Answers.{windowListFault, frameFault, windowFault, tableFault, roomFault}
 use Rattle.scope.specs.Shared.{Owned, owned, ownedOf, ownedAt, windowsFor, own, asOwned, follows, ownedLegal, badOwned, ownedListFault, ownedFault}
-use Rattle.scope.specs.Shared.{wholeFault, absentOwnerFault, sliverFault, sharedFault, ownFault, ownAnswer, ownOut, unlessRefused, askedFor}
+use Rattle.scope.specs.Shared.{wholeFault, absentOwnerFault, sliverFault, lostFault, sharedFault, unlessRefused, askedFor}
 use Rattle.theory.specs.Numbers.{and-both, both-and, bool-cases, or-neither, first-none}
-use Rattle.theory.specs.Lists.{pieces-length, count-fine, Rising}
+use Rattle.theory.specs.Lists.{pieces-length, count-fine, Rising, rising-cons}
+use Rattle.theory.specs.Windows.{gives-in, gives-when}
 use Rattle.theory.specs.MaximalRuns.{rising-rule}
 use Rattle.theory.specs.Answers.{fault-not-fine, faultIf-fine, faultAt-fine, orElse-fine, unless-given, unless-refused, LegalTable, table-legal, window-list-fine}
 
@@ -138,18 +139,6 @@ module _ (o : ℕ) where
   for-none [] h = refl
   for-none (w ∷ ws) h = miss w ws (h 0 (omega arith)) ∙ for-none ws (λ i l. h (suc i) (omega arith))
 
-rising-cons : (a : ℕ) (l : List ℕ) (n : ℕ) → a < n → ((k : ℕ) → k < length l → a < getD l k 0) → Rising l n → Rising (a ∷ l) n
-rising-cons a l n h up r = record { below = below; up = rising }
-  where
-    below : (i : ℕ) → i < length (a ∷ l) → getD (a ∷ l) i 0 < n
-    below zero u = h
-    below (suc i) u = r .below i (omega arith)
-
-    rising : (i j : ℕ) → i < j → j < length (a ∷ l) → getD (a ∷ l) i 0 < getD (a ∷ l) j 0
-    rising i zero u v = absurd (omega arith)
-    rising zero (suc j) u v = up j (omega arith)
-    rising (suc i) (suc j) u v = r .up i j (omega arith) (omega arith)
-
 module _ (owners : ℕ) (b : Board) (o : ℕ) where
   -- numbers of an owner's windows are above what its windows start after
   above : (m : ℕ) (ws : List Owned) → Ruled owners b ws → ((i : ℕ) → i < length ws → ownerAt ws i ≡ o → m < startAt ws i) →
@@ -196,12 +185,12 @@ module _ (owners : ℕ) (b : Board) (o : ℕ) where
     pub index : ℕ
     pub there : index < length ws
     pub owner : ownerAt ws index ≡ o
-    pub since : startAt ws index ≤ k
+    pub since : b .lost + startAt ws index ≤ k
     pub until : k < endAt ws index
 
   -- an owner's tick is a tick of one of its windows, and the other way round
   pub covers-given : (ws : List Owned) (k : ℕ) → covers b (windowsOf (windowsFor o ws)) k ≡ true → Gives ws k
-  unfolding windowsFor covers pieces piecesFrom gives
+  unfolding windowsFor covers pieces piecesFrom
   covers-given [] k e = absurd (false≢true e)
   covers-given (w ∷ ws) k e =
       elim (ℕ-discrete (w .owner) o) [
@@ -214,13 +203,11 @@ module _ (owners : ℕ) (b : Board) (o : ℕ) where
 
       go : w .owner ≡ o → (gives b (w .window) k || covers b (windowsOf (windowsFor o ws)) k) ≡ true → (gives b (w .window) k ≡ true) ⊎ (gives b (w .window) k ≡ false) →
           (covers b (windowsOf (windowsFor o ws)) k ≡ true → Gives ws k) → Gives (w ∷ ws) k
-      go z e (inl t) g =
-          let m = and-both (leb (w .window .start) k) (ltb k (w .window .end)) t in
-          record { index = 0; there = omega arith; owner = z; since = leb-true _ _ (m .0); until = ltb-true _ _ (m .1) }
+      go z e (inl t) g = let m = gives-when b (w .window) k t in record { index = 0; there = omega arith; owner = z; since = m .0; until = m .1 }
       go z e (inr f) g = later (g (rw f at e))
 
   pub given-covers : (ws : List Owned) (k : ℕ) → Gives ws k → covers b (windowsOf (windowsFor o ws)) k ≡ true
-  unfolding windowsFor covers pieces piecesFrom gives
+  unfolding windowsFor covers pieces piecesFrom
   given-covers [] k g = absurd (omega (arith, g .there))
   given-covers (w ∷ ws) k g =
       elim (ℕ-discrete (w .owner) o) [
@@ -239,7 +226,7 @@ module _ (owners : ℕ) (b : Board) (o : ℕ) where
 
       go : (i : ℕ) (g : Gives (w ∷ ws) k) → g .index ≡ i → (Gives ws k → covers b (windowsOf (windowsFor o ws)) k ≡ true) →
           (gives b (w .window) k || covers b (windowsOf (windowsFor o ws)) k) ≡ true
-      go zero g e h = rw (both-and (le-leb (w .window .start) k (rw e at (g .since))) (lt-ltb k (w .window .end) (rw e at (g .until))))
+      go zero g e h = rw (gives-in b (w .window) k (rw e at (g .since)) (rw e at (g .until)))
       go (suc i) g e h = rw (h (rest i g e)) (or-true (gives b (w .window) k))
 
       later : w .owner ≢ o → (i : ℕ) (g : Gives (w ∷ ws) k) → g .index ≡ i → Gives ws k
@@ -270,12 +257,14 @@ module _ (owners : ℕ) (b : Board) (ws : List ℕ) where
         ruled = ruled owners b (ownedOf ws) (faultAt-fine 3 (badOwned owners b (ownedOf ws)) (q .1));
       }
 
-  pub shared-parts : sharedFault owners b ws ≡ fine → (wholeFault owners b ws ≡ fine) × (absentOwnerFault b ws ≡ fine) × (sliverFault b ws ≡ fine)
+  pub shared-parts : sharedFault owners b ws ≡ fine →
+      (wholeFault owners b ws ≡ fine) × (absentOwnerFault b ws ≡ fine) × (sliverFault b ws ≡ fine) × (lostFault b (own b ws) ≡ fine)
   unfolding sharedFault
   shared-parts e =
-      let p = orElse-fine (wholeFault owners b ws) (absentOwnerFault b ws orElse sliverFault b ws) e in
-      let q = orElse-fine (absentOwnerFault b ws) (sliverFault b ws) (p .1) in
-      (p .0, q .0, q .1)
+      let p = orElse-fine (wholeFault owners b ws) (absentOwnerFault b ws orElse sliverFault b ws orElse lostFault b (own b ws)) e in
+      let q = orElse-fine (absentOwnerFault b ws) (sliverFault b ws orElse lostFault b (own b ws)) (p .1) in
+      let r = orElse-fine (sliverFault b ws) (lostFault b (own b ws)) (q .1) in
+      (p .0, q .0, r .0, r .1)
 
   pub own-few : wholeFault owners b ws ≡ fine → length (own b ws) ≤ 2 * mostWindows
   own-few e = omega (arith, for-few (b .owner) (ownedOf ws), whole e .few)
@@ -292,9 +281,6 @@ module _ (owners : ℕ) (b : Board) (ws : List ℕ) where
         w .framed,
         rising-rule b (own b ws) (for-rising owners b (b .owner) (ownedOf ws) (w .ruled)),
       )
-
-  pub own-legal : sharedFault owners b ws ≡ fine → LegalTable b (own b ws)
-  own-legal e = table-legal b (own b ws) (own-fine e)
 
   -- no such owner has a window in a list that keeps rule 3, so whoever asks for it is refused as an owner with no window is
   pub no-such-owner : wholeFault owners b ws ≡ fine → owners ≤ b .owner → sharedFault owners b ws ≡ fault 1 0
@@ -357,48 +343,3 @@ asked-unless owners b ws rest value = go (sharedFault owners b ws) refl
         unlessRefused f refused (unless (tableFault b (own b ws) orElse rest) (value (own b ws))) ≡ unless (f orElse rest) (value (own b ws))
     go fine e = rw (own-fine owners b ws e)
     go (fault n p) e = refl
-
--- ---- lent memory that the owner's windows are asked into
-
-module _ (owners : ℕ) (b : Board) (ws : List ℕ) where
-  -- n numbers of it are the owner's windows, which are a legal list
-  pub record Taken (n : ℕ) (out : List ℕ) : Type 0 where
-    pub shared : sharedFault owners b ws ≡ fine
-    pub few : n ≤ 2 * mostWindows
-    pub front : take n out ≡ own b ws
-    pub fine-front : tableFault b (take n out) ≡ fine
-
-  pub taken : (before after : List ℕ) (n : ℕ) → ownAnswer owners b ws (length before) ≡ given n → after ≡ ownOut owners b ws before → Taken n after
-  unfolding ownAnswer ownOut ownFault written
-  taken before after n e is =
-      let u = unless-given (sharedFault owners b ws orElse roomFault (length (own b ws)) (length before)) _ n e in
-      let f = orElse-fine (sharedFault owners b ws) _ (u .0) .0 in
-      let front : take n after ≡ own b ws = rw (is, u .0, ← (u .1)) (take-append-seam (own b ws) (drop (length (own b ws)) before)) in
-      record {
-        shared = f;
-        few = omega (arith, own-few owners b ws (shared-parts owners b ws f .0), u .1);
-        front = front;
-        fine-front = ap (tableFault b) front ∙ own-fine owners b ws f;
-      }
-
-  -- where there is room for as many windows as a table may have, only the list is refused
-  not-taken : (room n p : ℕ) → 2 * mostWindows ≤ room → ownAnswer owners b ws room ≡ refused n p → sharedFault owners b ws ≡ fault n p
-  unfolding ownAnswer ownFault roomFault
-  not-taken room n p h e =
-      go (sharedFault owners b ws) refl
-      (unless-refused (sharedFault owners b ws orElse roomFault (length (own b ws)) room) _ n p e)
-    where
-      go : (f : Fault) → sharedFault owners b ws ≡ f → (f orElse faultIf (ltb room (length (own b ws))) 8 (length (own b ws))) ≡ fault n p → f ≡ fault n p
-      go (fault m q) s z = z
-      go fine s z =
-          let few = own-few owners b ws (shared-parts owners b ws s .0) in
-          let roomy : ltb room (length (own b ws)) ≡ false = le-ltb room (length (own b ws)) (omega arith) in
-          absurd (fault-not-fine (sym (rw roomy at z)))
-
-  module _ {R : Type 0} (refusal : ℕ → ℕ → R) (entry : List ℕ → R) where
-    -- what is asked for an owner, by what was asked into the memory
-    pub asked-taken : {n : ℕ} {out : List ℕ} → Taken n out → entry (take n out) ≡ askedFor owners b ws refusal entry
-    asked-taken t = ap entry (t .front) ∙ sym (asked-fine owners b ws refusal entry (t .shared))
-
-    pub asked-not : (room n p : ℕ) → 2 * mostWindows ≤ room → ownAnswer owners b ws room ≡ refused n p → refusal n p ≡ askedFor owners b ws refusal entry
-    asked-not room n p h e = sym (asked-refused owners b ws refusal entry (not-taken room n p h e))

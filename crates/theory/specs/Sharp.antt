@@ -45,7 +45,7 @@ pub not-start-at-an-end : ((b : Board) (ws : List ℕ) → LegalTable b ws → (
 unfolding everything
 not-start-at-an-end claim =
     let start : leastStart (suppliedBy (on 8) X) 8 4 ≡ 1 = refl in
-    let c = claim (on 8) X (table-legal (on 8) X refl) 4 in
+    let c = claim (on 8) X (table-legal (on 8) X refl refl) 4 in
     go (c .0) (c .1) (omega (arith, c .2))
   where
     go : (i : ℕ) → i < 2 → endOf X i ≡ 1 → ⊥

@@ -11,7 +11,7 @@ use lib.Dec.{leb, ltb, eqb}
 use lib.ListN.{length}
 use Rattle.scope.specs.Numbers.{badCount, greatest}
 use Rattle.scope.specs.Limits.{teams, mostFrame, mostWindows, mostTasks, mostCycle, mostLength, mostTicks, mostJobs, mostNumber}
-use Rattle.scope.specs.Windows.{Board, windowsOf, badWindow}
+use Rattle.scope.specs.Windows.{Board, framed, windowsOf, badWindow}
 use Rattle.scope.specs.Tasks.{Task, tasksOf, badTask}
 use Rattle.scope.specs.Cycle.{cycle}
 use Rattle.scope.specs.Jobs.{Job, jobsOf, badJob}
@@ -23,13 +23,14 @@ use Rattle.scope.specs.Plan.{Read, Read.read, Read.bad, readNumber, readNumbers
 use Rattle.scope.specs.Plan.{numbersBytes, planBytes}
 use Rattle.scope.specs.Trace.{Stamped, Record, timed, traceOf, ticksOf, releases, badRecord}
 use Rattle.scope.specs.Replay.{extentFault, recordFault, replayFault, recordsAnswer}
-use Rattle.scope.specs.Shared.{ownedOf, windowsFor, own, ownedListFault, ownedFault, badOwned, ownedLegal, wholeFault, absentOwnerFault, sliverFault, sharedFault}
+use Rattle.scope.specs.Shared.{ownedOf, windowsFor, own, ownLeft, ownedListFault, ownedFault, badOwned, ownedLegal, wholeFault, absentOwnerFault, sliverFault, lostFault, sharedFault}
 use Rattle.scope.specs.Shared.{ownFault, ownAnswer, ownOut, asOwned, unlessRefused, askedFor, verdictFor, recordsFor, replayFor, planBoard, planAnswer}
 use Rattle.scope.specs.Summary.{summaryOf, makeFault, makeAnswer, begins, summaryFault, leastFromAnswer, lengthsFault, marginsFault, marginsAnswer}
 use Rattle.theory.specs.Answers.{fault-not-fine, unless-refused}
 use Rattle.theory.specs.Shared.{asked-refused}
+use Rattle.theory.specs.Losses.{lost-thirteen}
 use Rattle.theory.specs.Slivers.{Sliver, sliver-exactly, sliver-twelve, one-tick, smaller-fine}
-use Rattle.theory.specs.Alone.{Entry, absent-same, records-entry, verdict-entry, or-nine}
+use Rattle.theory.specs.Alone.{Entry, Alike, on-alike, left-same, lost-same, absent-same, records-entry, verdict-entry, or-nine}
 use Rattle.theory.specs.Seven.{UpTo, up-to-greatest}
 use Rattle.theory.specs.Forms.{withSettings, refused-behind, judged-behind}
 use Rattle.theory.specs.PlanBytes.{Writable, round-trip, read-settings}
@@ -126,26 +127,26 @@ pub base-never : (m : ℕ) (f : Fault) → 11 < m → Base f → Never m f
 base-never m f h base p e = omega (arith, base m p e)
 
 -- a summary that does not belong to the table is refused by 14
-summary-never : (b : Board) (ws summary : List ℕ) → Never 12 (summaryFault b ws summary)
+summary-never : (b : Board) (ws summary : List ℕ) (m : ℕ) → m ≤ 13 → Never m (summaryFault b ws summary)
 unfolding summaryFault
-summary-never b ws summary p = go (begins (summaryOf b ws) summary)
+summary-never b ws summary m h p = go (begins (summaryOf b ws) summary)
   where
-    go : (t : Bool) → faultIf (not t) 14 0 ≡ fault 12 p → ⊥
+    go : (t : Bool) → faultIf (not t) 14 0 ≡ fault m p → ⊥
     go true e = fault-not-fine (sym e)
-    go false e = let z : _≡_ {A = ℕ} 14 12 = cc in omega arith
+    go false e = let z : 14 ≡ m = cc in omega arith
 
 pub lengths-base : (lengths : List ℕ) → Base (lengthsFault lengths)
 unfolding lengthsFault
 lengths-base [] = λ n p e. absurd (fault-not-fine (sym e))
 lengths-base (t ∷ lengths) = base-else (lengthFault t) (lengthsFault lengths) (length-base t) (lengths-base lengths)
 
--- an entry that does not refuse by 12 itself
+-- an entry that does not refuse by 12 or 13 itself
 abbrev pub Known : {A : Type 0} → (List ℕ → Answer A) → Type 0
-Known entry = (l : List ℕ) (p : ℕ) → entry l ≡ refused 12 p → ⊥
+Known entry = (m : ℕ) → 12 ≤ m → m ≤ 13 → (l : List ℕ) (p : ℕ) → entry l ≡ refused m p → ⊥
 
 -- such are those that refuse by document 01's numbers only
 below : {A : Type 0} (entry : List ℕ → Answer A) → ((l : List ℕ) (n p : ℕ) → entry l ≡ refused n p → n ≤ 11) → Known entry
-below entry h l p e = omega (arith, h l 12 p e)
+below entry h m low high l p e = omega (arith, h l m p e)
 
 module _ (b : Board) where
   pub supplied-known : (k : ℕ) → Known (λ l. suppliedAnswer b l k)
@@ -213,21 +214,21 @@ module _ (b : Board) where
 
   pub least-from-known : (summary : List ℕ) (t : ℕ) → Known (λ l. leastFromAnswer b l summary t)
   unfolding leastFromAnswer
-  least-from-known summary t l p e =
-      never-else 12 (tableFault b l) (summaryFault b l summary orElse lengthFault t) (base-never 12 (tableFault b l) (omega arith) (table-base b l))
-      (never-else 12 (summaryFault b l summary) (lengthFault t) (summary-never b l summary) (base-never 12 (lengthFault t) (omega arith) (length-base t))) p
-      (unless-refused (tableFault b l orElse summaryFault b l summary orElse lengthFault t) _ 12 p e)
+  least-from-known summary t m low high l p e =
+      never-else m (tableFault b l) (summaryFault b l summary orElse lengthFault t) (base-never m (tableFault b l) (omega arith) (table-base b l))
+      (never-else m (summaryFault b l summary) (lengthFault t) (summary-never b l summary m high) (base-never m (lengthFault t) (omega arith) (length-base t))) p
+      (unless-refused (tableFault b l orElse summaryFault b l summary orElse lengthFault t) _ m p e)
 
   pub margins-known : (summary ts lengths : List ℕ) (room : ℕ) → Known (λ l. marginsAnswer b l summary ts lengths room)
   unfolding marginsAnswer marginsFault
-  margins-known summary ts lengths room l p e =
+  margins-known summary ts lengths room m low high l p e =
       let output = roomFault (length lengths) room in
       let asked = lengthsFault lengths orElse output in
-      never-else 12 (tableFault b l) (groupFault ts orElse summaryFault b l summary orElse asked) (base-never 12 (tableFault b l) (omega arith) (table-base b l))
-      (never-else 12 (groupFault ts) (summaryFault b l summary orElse asked) (base-never 12 (groupFault ts) (omega arith) (group-base ts))
-      (never-else 12 (summaryFault b l summary) asked (summary-never b l summary)
-      (base-never 12 asked (omega arith) (base-else (lengthsFault lengths) output (lengths-base lengths) (room-base (length lengths) room))))) p
-      (unless-refused (marginsFault b l summary ts lengths room) _ 12 p e)
+      never-else m (tableFault b l) (groupFault ts orElse summaryFault b l summary orElse asked) (base-never m (tableFault b l) (omega arith) (table-base b l))
+      (never-else m (groupFault ts) (summaryFault b l summary orElse asked) (base-never m (groupFault ts) (omega arith) (group-base ts))
+      (never-else m (summaryFault b l summary) asked (summary-never b l summary m high)
+      (base-never m asked (omega arith) (base-else (lengthsFault lengths) output (lengths-base lengths) (room-base (length lengths) room))))) p
+      (unless-refused (marginsFault b l summary ts lengths room) _ m p e)
 
   pub records-known : (ts : List ℕ) (rs : List Record) → Known (λ l. recordsAnswer b l ts rs)
   unfolding recordsAnswer replayFault
@@ -248,15 +249,19 @@ whole-base owners b ws =
     (base-else (frameFault b) (ownedFault owners b (ownedOf ws)) (frame-base b ws) (base-at 3 (badOwned owners b (ownedOf ws)) (omega arith))))
     (base-if (eqb (length (own b ws)) 0) 1 0 (omega arith))
 
--- 12 is the greatest number that a list of windows is refused by
-pub shared-most : (owners : ℕ) (b : Board) (ws : List ℕ) (n p : ℕ) → sharedFault owners b ws ≡ fault n p → n ≤ 12
+-- 13 is the greatest number that a list of windows is refused by
+pub shared-most : (owners : ℕ) (b : Board) (ws : List ℕ) (n p : ℕ) → sharedFault owners b ws ≡ fault n p → n ≤ 13
 unfolding sharedFault
 shared-most owners b ws n p = go (wholeFault owners b ws) (absentOwnerFault b ws) (whole-base owners b ws n p)
   where
-    go : (f g : Fault) → ((f orElse g) ≡ fault n p → n ≤ 11) → (f orElse g orElse sliverFault b ws) ≡ fault n p → n ≤ 12
+    last : (f : Fault) → sliverFault b ws ≡ f → (f orElse lostFault b (own b ws)) ≡ fault n p → n ≤ 13
+    last (fault m q) s e = omega (arith, sliver-twelve b ws n p (s ∙ e))
+    last fine s e = let z = lost-thirteen b (own b ws) n p e in let x : 13 ≡ n = cc in omega arith
+
+    go : (f g : Fault) → ((f orElse g) ≡ fault n p → n ≤ 11) → (f orElse g orElse sliverFault b ws orElse lostFault b (own b ws)) ≡ fault n p → n ≤ 13
     go (fault m q) g base e = omega (arith, base e)
     go fine (fault m q) base e = omega (arith, base e)
-    go fine fine base e = omega (arith, sliver-twelve b ws n p e)
+    go fine fine base e = last (sliverFault b ws) refl e
 
 module _ (owners : ℕ) (b : Board) (ws : List ℕ) where
   pub record Twelve (p : ℕ) : Type 0 where
@@ -268,39 +273,44 @@ module _ (owners : ℕ) (b : Board) (ws : List ℕ) where
   unfolding sharedFault
   shared-twelve p = go (wholeFault owners b ws) (absentOwnerFault b ws) refl refl (whole-base owners b ws)
     where
+      at : (f : Fault) → sliverFault b ws ≡ f → (f orElse lostFault b (own b ws)) ≡ fault 12 p → Sliver b ws p
+      at (fault n q) s e = sliver-exactly b ws p .0 (s ∙ e)
+      at fine s e = let z = lost-thirteen b (own b ws) 12 p e in let x : _≡_ {A = ℕ} 13 12 = cc in absurd (omega arith)
+
       go : (f g : Fault) → wholeFault owners b ws ≡ f → absentOwnerFault b ws ≡ g → Base (wholeFault owners b ws orElse absentOwnerFault b ws) →
-          (f orElse g orElse sliverFault b ws) ≡ fault 12 p → Twelve p
+          (f orElse g orElse sliverFault b ws orElse lostFault b (own b ws)) ≡ fault 12 p → Twelve p
       go (fault n q) g e a base s = absurd (omega (arith, base 12 p (rw e s)))
       go fine (fault n q) e a base s = absurd (omega (arith, base 12 p (rw (e, a) s)))
-      go fine fine e a base s = record { whole = e; present = a; at = sliver-exactly b ws p .0 s }
+      go fine fine e a base s = record { whole = e; present = a; at = at (sliverFault b ws) refl s }
 
   twelve-shared : (p : ℕ) → Twelve p → sharedFault owners b ws ≡ fault 12 p
   unfolding sharedFault
-  twelve-shared p t = rw (t .whole, t .present) (sliver-exactly b ws p .1 (t .at))
+  twelve-shared p t = rw (t .whole, t .present, sliver-exactly b ws p .1 (t .at))
 
   pub exactly-twelve : {A : Type 0} (entry : List ℕ → Answer A) → Known entry → (p : ℕ) → (askedFor owners b ws refused entry ≡ refused 12 p) ↔ Twelve p
   unfolding askedFor
   exactly-twelve entry is p = (go (sharedFault owners b ws) refl, λ t. asked-refused owners b ws refused entry (twelve-shared p t))
     where
       go : (f : Fault) → sharedFault owners b ws ≡ f → unlessRefused f refused (entry (own b ws)) ≡ refused 12 p → Twelve p
-      go fine s e = absurd (is (own b ws) p e)
+      go fine s e = absurd (is 12 (omega arith) (omega arith) (own b ws) p e)
       go (fault n q) s e = let x : n ≡ 12 = cc in let y : q ≡ p = cc in shared-twelve p (rw (← x, ← y) s)
 
-  -- ---- m = 1 refuses nothing: only what request 4 refuses is refused
+  -- ---- m = 1 refuses nothing: only what request 4 refuses is refused, and 13
 
   module _ (one : b .shortest ≡ 1) where
-    pub one-fault : sharedFault owners b ws ≡ (wholeFault owners b ws orElse absentOwnerFault b ws)
+    pub one-fault : sharedFault owners b ws ≡ (wholeFault owners b ws orElse absentOwnerFault b ws orElse lostFault b (own b ws))
     unfolding sharedFault
     one-fault = go (wholeFault owners b ws) (absentOwnerFault b ws) refl
       where
-        go : (f g : Fault) → wholeFault owners b ws ≡ f → (f orElse g orElse sliverFault b ws) ≡ (f orElse g)
+        go : (f g : Fault) → wholeFault owners b ws ≡ f →
+            (f orElse g orElse sliverFault b ws orElse lostFault b (own b ws)) ≡ (f orElse g orElse lostFault b (own b ws))
         go (fault n p) g e = refl
         go fine (fault n p) e = refl
-        go fine fine e = one-tick owners b ws one e
+        go fine fine e = rw (one-tick owners b ws one e)
 
     -- answers are as before
     pub one-answer : {R : Type 0} (refusal : ℕ → ℕ → R) (entry : List ℕ → R) →
-        askedFor owners b ws refusal entry ≡ unlessRefused (wholeFault owners b ws orElse absentOwnerFault b ws) refusal (entry (own b ws))
+        askedFor owners b ws refusal entry ≡ unlessRefused (wholeFault owners b ws orElse absentOwnerFault b ws orElse lostFault b (own b ws)) refusal (entry (own b ws))
     unfolding askedFor
     one-answer refusal entry = ap (λ (f : Fault). unlessRefused f refusal (entry (own b ws))) one-fault
 
@@ -313,25 +323,26 @@ module _ (owners : ℕ) (b : Board) (ws : List ℕ) where
 
 -- ---- what is not refused by 12 at m is answered the same at every smaller m from 1 on
 
-module _ (owners : ℕ) (b c : Board) (ws : List ℕ) (framed : b .frame ≡ c .frame) (owner : b .owner ≡ c .owner)
+module _ (owners : ℕ) (b c : Board) (ws : List ℕ) (alike : Alike b c) (owner : b .owner ≡ c .owner)
     (least : 1 ≤ c .shortest) (less : c .shortest ≤ b .shortest) where
   whole-same : wholeFault owners b ws ≡ wholeFault owners c ws
   unfolding wholeFault frameFault ownedFault badOwned ownedLegal
-  whole-same = ap (λ (P : ℕ). wholeFault owners (record { frame = P; owner = 0; shortest = 1 }) ws) framed
+  whole-same = ap (λ (P : ℕ). wholeFault owners (framed P) ws) (alike .frame)
 
   smaller-fault : ((p : ℕ) → sharedFault owners b ws ≡ fault 12 p → ⊥) → sharedFault owners b ws ≡ sharedFault owners c ws
   unfolding sharedFault
   smaller-fault spared =
       let mine : own b ws ≡ own c ws = ap (λ (o : ℕ). windowsFor o (ownedOf ws)) owner in
-      rw (← whole-same, ← absent-same b c ws ws mine) (go (wholeFault owners b ws) (absentOwnerFault b ws) (sliverFault b ws) refl refl refl)
+      rw (← whole-same, ← absent-same b c ws ws mine, ← mine, ← lost-same b c (own b ws) (alike .rule) (alike .lost))
+      (go (wholeFault owners b ws) (absentOwnerFault b ws) (sliverFault b ws) refl refl refl)
     where
       go : (f g h : Fault) → wholeFault owners b ws ≡ f → absentOwnerFault b ws ≡ g → sliverFault b ws ≡ h →
-          (f orElse g orElse h) ≡ (f orElse g orElse sliverFault c ws)
+          (f orElse g orElse h orElse lostFault b (own b ws)) ≡ (f orElse g orElse sliverFault c ws orElse lostFault b (own b ws))
       go (fault n p) g h e a s = refl
       go fine (fault n p) h e a s = refl
       go fine fine (fault n p) e a s =
-          let z = sliver-twelve b ws n p s in absurd (spared p (rw (e, a) (rw z at s)))
-      go fine fine fine e a s = sym (smaller-fine b c ws least less s)
+          let z = sliver-twelve b ws n p s in absurd (spared p (rw (e, a, s) (rw z)))
+      go fine fine fine e a s = rw (smaller-fine b c ws least less s)
 
   pub smaller-same : {R : Type 0} {refusal : ℕ → ℕ → R} {entry : Board → List ℕ → R} → Entry refusal entry →
       ((p : ℕ) → sharedFault owners b ws ≡ fault 12 p → ⊥) →
@@ -339,7 +350,7 @@ module _ (owners : ℕ) (b c : Board) (ws : List ℕ) (framed : b .frame ≡ c .
   unfolding askedFor
   smaller-same {R} {refusal} {entry} is spared =
       let mine : own b ws ≡ own c ws = ap (λ (o : ℕ). windowsFor o (ownedOf ws)) owner in
-      rw (smaller-fault spared) (ap (unlessRefused (sharedFault owners c ws) refusal) (ap (entry b) mine ∙ is .by-frame b c (own c ws) framed))
+      rw (smaller-fault spared) (ap (unlessRefused (sharedFault owners c ws) refusal) (ap (entry b) mine ∙ on-alike is b c (own c ws) alike))
 
   -- of a refusal in the answer
   pub smaller-answer : {A : Type 0} {entry : Board → List ℕ → Answer A} → Entry refused entry →
@@ -353,34 +364,35 @@ pub own-twelve : (owners : ℕ) (b : Board) (ws : List ℕ) (room p : ℕ) → (
 unfolding ownAnswer ownFault roomFault
 own-twelve owners b ws room p = (only, λ t. rw (twelve-shared owners b ws p t))
   where
-    short : (t : Bool) → unless (faultIf t 8 (length (own b ws))) (length (own b ws)) ≡ refused 12 p → ⊥
+    short : (t : Bool) → unless (faultIf t 8 (length (ownLeft b ws))) (length (ownLeft b ws)) ≡ refused 12 p → ⊥
     short true e = let z : _≡_ {A = ℕ} 8 12 = cc in omega arith
     short false e = let z : _≡_ {A = ℕ} 0 1 = cc in omega arith
 
-    go : (f : Fault) → sharedFault owners b ws ≡ f → unless (f orElse faultIf (ltb room (length (own b ws))) 8 (length (own b ws))) (length (own b ws)) ≡ refused 12 p →
+    go : (f : Fault) → sharedFault owners b ws ≡ f → unless (f orElse faultIf (ltb room (length (ownLeft b ws))) 8 (length (ownLeft b ws))) (length (ownLeft b ws)) ≡ refused 12 p →
         Twelve owners b ws p
-    go fine s e = absurd (short (ltb room (length (own b ws))) e)
+    go fine s e = absurd (short (ltb room (length (ownLeft b ws))) e)
     go (fault n q) s e = let x : n ≡ 12 = cc in let y : q ≡ p = cc in shared-twelve owners b ws p (rw (← x, ← y) s)
 
     only : ownAnswer owners b ws room ≡ refused 12 p → Twelve owners b ws p
     only e = go (sharedFault owners b ws) refl e
 
-pub own-smaller : (owners : ℕ) (b c : Board) (ws : List ℕ) → b .frame ≡ c .frame → b .owner ≡ c .owner → 1 ≤ c .shortest → c .shortest ≤ b .shortest →
+pub own-smaller : (owners : ℕ) (b c : Board) (ws : List ℕ) → Alike b c → b .owner ≡ c .owner → 1 ≤ c .shortest → c .shortest ≤ b .shortest →
     ((p : ℕ) → sharedFault owners b ws ≡ fault 12 p → ⊥) →
     (room : ℕ) (out : List ℕ) → (ownAnswer owners b ws room ≡ ownAnswer owners c ws room) × (ownOut owners b ws out ≡ ownOut owners c ws out)
 unfolding ownAnswer ownOut ownFault
-own-smaller owners b c ws framed owner least less spared room out =
+own-smaller owners b c ws alike owner least less spared room out =
     let mine : own b ws ≡ own c ws = ap (λ (o : ℕ). windowsFor o (ownedOf ws)) owner in
-    let same = smaller-fault owners b c ws framed owner least less spared in
-    (rw (same, mine), rw (same, mine))
+    let same = smaller-fault owners b c ws alike owner least less spared in
+    let left : ownLeft b ws ≡ ownLeft c ws = rw mine (left-same b c (alike .lost) (windowsOf (own c ws))) in
+    (rw (same, left), rw (same, left))
 
 -- ---- traces, whose bytes are refused by 9 before any table
 
-pub replay-smaller : (b c : Board) (ws ts bytes : List ℕ) → b .frame ≡ c .frame → b .owner ≡ c .owner → 1 ≤ c .shortest → c .shortest ≤ b .shortest →
+pub replay-smaller : (b c : Board) (ws ts bytes : List ℕ) → Alike b c → b .owner ≡ c .owner → 1 ≤ c .shortest → c .shortest ≤ b .shortest →
     ((p : ℕ) → sharedFault teams b ws ≡ fault 12 p → ⊥) → replayFor b ws ts bytes ≡ replayFor c ws ts bytes
 unfolding replayFor recordsFor
-replay-smaller b c ws ts bytes framed owner least less spared =
-    or-nine (traceOf bytes) _ _ (λ rs next. smaller-same teams b c ws framed owner least less (records-entry ts (timed rs)) spared)
+replay-smaller b c ws ts bytes alike owner least less spared =
+    or-nine (traceOf bytes) _ _ (λ rs next. smaller-same teams b c ws alike owner least less (records-entry ts (timed rs)) spared)
 
 -- a trace is refused by 12 exactly when its bytes read to records and the list of windows is
 pub record TraceTwelve (b : Board) (ws bytes : List ℕ) (p : ℕ) : Type 0 where
@@ -464,7 +476,7 @@ module _ (p : Plan) (w : Writable p) where
   unfolding planAnswer verdictFor
   smaller-plan m n u v least less spared =
       rw (round-trip (withSettings (m ∷ []) p) (writable-with (m ∷ []) u), round-trip (withSettings (n ∷ []) p) (writable-with (n ∷ []) v))
-      (smaller-answer teams (planBoard (withSettings (m ∷ []) p)) (planBoard (withSettings (n ∷ []) p)) (asOwned 0 (p .windows)) refl refl least less
+      (smaller-answer teams (planBoard (withSettings (m ∷ []) p)) (planBoard (withSettings (n ∷ []) p)) (asOwned 0 (p .windows)) (record { frame = refl; rule = refl; lost = refl }) refl least less
       (verdict-entry (p .tasks)) (λ q e. spared q (rw (round-trip (withSettings (m ∷ []) p) (writable-with (m ∷ []) u)) e)))
 
 -- an old file is answered as the same bytes with m = 1 before them, and what is no plan of the old form is refused as there, 9 one byte later

@@ -15,7 +15,7 @@ use borrow.Author.Tests.{ltb-true, lt-ltb, le-ltb, le-leb, lt-leb, not-false}
 use Rattle.scope.specs.Numbers.{bit, piecesFrom, pieces, written}
 use Rattle.scope.specs.Limits.{teams}
 use Rattle.scope.specs.Ticks.{Periodic, supply, perFrame, leastSupply}
-use Rattle.scope.specs.Windows.{Board, Window, window, windowsOf, gives, covers, supplied, suppliedBy}
+use Rattle.scope.specs.Windows.{Board, framed, Window, window, windowsOf, gives, covers, supplied, suppliedBy}
 use Rattle.scope.specs.Partition.{critical, maximalRuns, rises, edge, within}
 use Rattle.scope.specs.Tasks.{Task, tasksOf, demand, margin}
 use Rattle.scope.specs.Answers.{Fault, Fault.fine, Fault.fault, Answer, Answer.given, Answer.refused, faultIf, _orElse_, unless, tableFault, groupFault, lengthFault}
@@ -24,23 +24,16 @@ use Rattle.scope.specs.Shared.{own, sharedFault, unlessRefused, askedFor, kept,
 use Rattle.scope.specs.Summary.{summaryOf, makeFault, makeAnswer, makeOut, begins, summaryFault, windowsIn, ticksBefore, leastFrom, leastFromAnswer, marginFrom}
 use Rattle.scope.specs.Summary.{lengthsFault, marginsFault, marginsAnswer, marginsOut, makeFor, makeOutFor, leastFromFor, marginsFor, marginsOutFor}
 use Rattle.theory.specs.Numbers.{and-both}
-use Rattle.theory.specs.Lists.{Rising, keep-rising, keep-most}
+use Rattle.theory.specs.Lists.{Rising, keep-rising, keep-most, rising-rest, rising-above}
 use Rattle.theory.specs.Buffers.{begins-front, begins-at, written-begins}
 use Rattle.theory.specs.Ticks.{least-frames}
-use Rattle.theory.specs.Windows.{supplied-periodic}
+use Rattle.theory.specs.Windows.{gives-in, gives-when, gives-before, gives-after, supplied-periodic}
 use Rattle.theory.specs.Partition.{critical-even, critical-supply}
-use Rattle.theory.specs.Answers.{fault-not-fine, faultIf-fine, orElse-fine, unless-given, unless-refused, lengths-each, fine-room, table-legal}
+use Rattle.theory.specs.Answers.{fault-not-fine, faultIf-fine, orElse-fine, unless-given, unless-refused, lengths-each, fine-room, table-frame}
 use Rattle.theory.specs.Shared.{own-fine, asked-fine, asked-same, asked-given}
 use Rattle.theory.specs.Shortest.{base-else, table-base, group-base, room-base, length-base, lengths-base, Never, base-never, shared-most}
 
 -- ---- the ticks of windows before a tick, counted window by window, are the supply from tick 0 on
-
--- what is left after the first number still rises, and is above it
-rising-rest : (a : ℕ) (l : List ℕ) (n : ℕ) → Rising (a ∷ l) n → Rising l n
-rising-rest a l n r = record { below = λ i h. r .below (suc i) (omega arith); up = λ i j h k. r .up (suc i) (suc j) (omega arith) (omega arith) }
-
-rising-above : (a : ℕ) (l : List ℕ) (n : ℕ) → Rising (a ∷ l) n → (i : ℕ) → i < length l → a < getD l i 0
-rising-above a l n r i h = r .up 0 (suc i) (omega arith) (omega arith)
 
 -- before the first number nothing is counted, and nothing is covered
 ticks-none : (l : List ℕ) (r : ℕ) → ((i : ℕ) → i < length l → r ≤ getD l i 0) → ticksBefore (windowsOf l) r ≡ 0
@@ -49,21 +42,22 @@ ticks-none [] r h = refl
 ticks-none (s ∷ []) r h = refl
 ticks-none (s ∷ e ∷ l) r h = rw (le-leb r s (h 0 (omega arith)))
 
-covers-none : (b : Board) (l : List ℕ) (k : ℕ) → ((i : ℕ) → i < length l → k < getD l i 0) → covers b (windowsOf l) k ≡ false
-unfolding covers gives pieces piecesFrom
-covers-none b [] k h = refl
-covers-none b (s ∷ []) k h = refl
-covers-none b (s ∷ e ∷ l) k h = rw (lt-leb s k (h 0 (omega arith))) (covers-none b l k (λ i u. h (suc (suc i)) (omega arith)))
+module _ (b : Board) where
+  covers-none : (l : List ℕ) (k : ℕ) → ((i : ℕ) → i < length l → k < getD l i 0) → covers b (windowsOf l) k ≡ false
+  unfolding covers pieces piecesFrom
+  covers-none [] k h = refl
+  covers-none (s ∷ []) k h = refl
+  covers-none (s ∷ e ∷ l) k h =
+      rw (gives-before b (window s e) k (omega (arith, h 0 (omega arith)))) (covers-none l k (λ i u. h (suc (suc i)) (omega arith)))
 
--- a window's ticks before r, one tick later
-window-ticks : (b : Board) (s e r : ℕ) → s < e → min (suc r) e - s ≡ min r e - s + bit (gives b (window s e) r)
-unfolding gives
-window-ticks b s e r h =
+-- a window's ticks before r, one tick later, on a board that loses none
+window-ticks : (P s e r : ℕ) → s < e → min (suc r) e - s ≡ min r e - s + bit (gives (framed P) (window s e) r)
+window-ticks P s e r h =
     elim (decLt r s) [
-      | yes u ↦ rw (lt-leb s r u) (omega arith)
+      | yes u ↦ rw (gives-before (framed P) (window s e) r (omega (arith, u))) (omega arith)
       | no u ↦ elim (decLt r e) [
-        | yes v ↦ rw (le-leb s r (omega arith), lt-ltb r e v) (omega arith)
-        | no v ↦ rw (le-leb s r (omega arith), le-ltb r e (omega arith)) (omega arith)
+        | yes v ↦ rw (gives-in (framed P) (window s e) r (omega arith) v) (omega arith)
+        | no v ↦ rw (gives-after (framed P) (window s e) r (omega arith)) (omega arith)
       ]
     ]
 
@@ -72,7 +66,10 @@ bit-apart : (x y : Bool) → (x ≡ true → y ≡ false) → bit (x || y) ≡ b
 bit-apart true y h = rw (h refl)
 bit-apart false y h = omega arith
 
-module _ (b : Board) where
+module _ (P : ℕ) where
+  abbrev b : Board
+  b = framed P
+
   module _ (s e : ℕ) (l : List ℕ) (n : ℕ) (up : Rising (s ∷ e ∷ l) n) where
     ordered : s < e
     ordered = rising-above s (e ∷ l) n up 0 (omega arith)
@@ -90,14 +87,12 @@ module _ (b : Board) where
         ]
 
     covers-first : (k : ℕ) → bit (covers b (windowsOf (s ∷ e ∷ l)) k) ≡ bit (gives b (window s e) k) + bit (covers b (windowsOf l) k)
-    unfolding covers gives pieces piecesFrom
+    unfolding covers pieces piecesFrom
     covers-first k = bit-apart (gives b (window s e) k) (covers b (windowsOf l) k) apart
       where
         apart : gives b (window s e) k ≡ true → covers b (windowsOf l) k ≡ false
         apart g =
-            let within = and-both (leb s k) (ltb k e) g in
-            let before : k < e = ltb-true k e (within .1) in
-            covers-none b l k (λ i h. omega (arith, later i h))
+            covers-none b l k (λ i h. omega (arith, later i h, gives-when b (window s e) k g))
 
   no-windows : (r : ℕ) → ticksBefore [] (suc r) ≡ ticksBefore [] r + bit (covers b [] r)
   unfolding ticksBefore covers
@@ -115,12 +110,12 @@ module _ (b : Board) where
         arith,
         ticks-first s e l n up (suc r),
         ticks-first s e l n up r,
-        window-ticks b s e r (ordered s e l n up),
+        window-ticks P s e r (ordered s e l n up),
         covers-first s e l n up r,
         ticks-step l n rest r,
       )
 
-  -- of any rising numbers on any board: a number left over at the end makes no window
+  -- of any rising numbers: a number left over at the end makes no window
   pub ticks-before : (l : List ℕ) (n : ℕ) → Rising l n → (r : ℕ) → ticksBefore (windowsOf l) r ≡ supply (covers b (windowsOf l)) 0 r
   unfolding supply
   ticks-before l n up zero = ticks-none l 0 (λ i h. omega arith)
@@ -145,11 +140,10 @@ module _ (σ : ℕ → Bool) (P : ℕ) where
   pub critical-ticks : Periodic σ P → (r : ℕ) → r ≤ P → ticksBefore (windowsOf (critical σ P)) r ≡ leastSupply σ P r
   unfolding supplied
   critical-ticks per r h =
-      let framed : Board = record { frame = P; owner = 0; shortest = 1 } in
       let l = critical σ P in
-      ticks-before framed l (P + 1) critical-rising r
-      ∙ supply-below (covers framed (windowsOf l)) (suppliedBy framed l) r
-      (λ k u. let in-frame : k < P = omega arith in ap (covers framed (windowsOf l)) (sym (mod-eq-of-lt in-frame)))
+      ticks-before P l (P + 1) critical-rising r
+      ∙ supply-below (covers (framed P) (windowsOf l)) (suppliedBy (framed P) l) r
+      (λ k u. let in-frame : k < P = omega arith in ap (covers (framed P) (windowsOf l)) (sym (mod-eq-of-lt in-frame)))
       ∙ critical-supply σ P per r
 
 module _ (b : Board) (ws s : List ℕ) where
@@ -228,7 +222,7 @@ least-from-agrees b ws s t e = rw e (go (tableFault b ws) refl)
     go : (f : Fault) → tableFault b ws ≡ f →
         unless (f orElse lengthFault t) (leastFrom (b .frame) s t) ≡ unless (f orElse lengthFault t) (leastSupply (suppliedBy b ws) (b .frame) t)
     go (fault n p) z = refl
-    go fine z = ap (unless (lengthFault t)) (least-from-exact b ws s (table-legal b ws z .frame) (fine-begins b ws s e) t)
+    go fine z = ap (unless (lengthFault t)) (least-from-exact b ws s (table-frame b ws z) (fine-begins b ws s e) t)
 
 -- 14 among faults that are never 14
 else-later : (m p : ℕ) (f g : Fault) → Never m f → (f orElse g) ≡ fault m p → (f ≡ fine) × (g ≡ fault m p)
@@ -355,7 +349,7 @@ module _ (b : Board) (ws s ts lengths : List ℕ) where
     unfolding marginsOutFor marginsOut
     margins-agree =
         let exact : marginFrom (b .frame) s (tasksOf ts) ≡ marginAt =
-        fun-ext (margin-from-exact b mine s (table-legal b mine (checked .table) .frame) (checked .belongs) (tasksOf ts)) in (
+        fun-ext (margin-from-exact b mine s (table-frame b mine (checked .table)) (checked .belongs) (tasksOf ts)) in (
           sym (answered .1),
           asked-fine teams b ws (kept out) (λ l. marginsOut b l s ts lengths out) shared
               ∙ rw (answered .0) (ap (λ (f : ℕ → ℤ). written (map f lengths) out) exact),

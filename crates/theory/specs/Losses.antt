@@ -1,0 +1,121 @@
+-- Document 02, request 7: when a board and one owner's windows are refused by 13, and by which of its four causes
+use mathlib.Core.Path.{_≡_, refl, sym, ap, _∙_}
+use mathlib.Core.Bool.{Bool, true, false, not, _&&_, _||_, or-true}
+use mathlib.Core.Logic.{_↔_, _≢_}
+use mathlib.Core.List.{List, [], _∷_}
+use Prim.Native.Nat.{ℕ, _≤_, _<_}
+use native.Mathlib.Omega.{arith}
+use native.Mathlib.Decide.{ℕ-discrete, decLt}
+use lib.Dec.{ltb, eqb}
+use lib.ListN.{length}
+use borrow.Author.Tests.{ltb-true, ltb-false, lt-ltb, le-ltb, eqb-true, eqb-false, eq-eqb, ne-eqb}
+use Rattle.scope.specs.Limits.{mostLost}
+use Rattle.scope.specs.Windows.{Board, windowsOf, suppliedBy}
+use Rattle.scope.specs.Answers.{Fault, Fault.fine, Fault.fault, faultIf, _orElse_, ruleFault}
+use Rattle.scope.specs.Shared.{leftOf, lostFault}
+use Rattle.theory.specs.Answers.{fault-not-fine}
+
+-- the four causes. What is left is nothing where every window is no longer than the lost ticks (Left, `left-supplied`: then no tick is supplied)
+pub data Cause (b : Board) (mine : List ℕ) : Type 0 where
+  no-such-rule : b .rule ≢ 1 → b .rule ≢ 2 → Cause b mine
+  too-many-lost : mostLost < b .lost → Cause b mine
+  lost-under-one : b .rule ≡ 1 → 0 < b .lost → Cause b mine
+  none-left : leftOf b (windowsOf mine) ≡ [] → Cause b mine
+
+-- a rule and lost ticks that a board can have
+pub record Ruled (b : Board) : Type 0 where
+  pub known : (b .rule ≢ 1) → b .rule ≡ 2
+  pub few : b .lost ≤ mostLost
+  pub whole : b .rule ≡ 1 → b .lost ≡ 0
+
+module _ (b : Board) where
+  abbrev bad : Bool
+  bad = not (eqb (b .rule) 1 || eqb (b .rule) 2) || ltb mostLost (b .lost) || (eqb (b .rule) 1 && ltb 0 (b .lost))
+
+  few-fine : b .lost ≤ mostLost → (b .rule ≡ 2) → ruleFault b ≡ fine
+  unfolding ruleFault
+  few-fine h e = rw (e, le-ltb mostLost (b .lost) h)
+
+  one-fine : b .rule ≡ 1 → b .lost ≡ 0 → ruleFault b ≡ fine
+  unfolding ruleFault
+  one-fine e z = rw (e, z)
+
+  pub ruled-fine : Ruled b → ruleFault b ≡ fine
+  ruled-fine r = elim (ℕ-discrete (b .rule) 1) [ yes e ↦ one-fine e (r .whole e) | no u ↦ few-fine (r .few) (r .known u) ]
+
+  -- or one that it cannot, by one of three causes
+  ruled-or : (mine : List ℕ) → (ruleFault b ≡ fault 13 0 → Cause b mine) × (Cause b mine → (leftOf b (windowsOf mine) ≡ [] → ⊥) → ruleFault b ≡ fault 13 0)
+  unfolding ruleFault
+  ruled-or mine = (only, so)
+    where
+      only : faultIf bad 13 0 ≡ fault 13 0 → Cause b mine
+      only e =
+          elim (decLt mostLost (b .lost)) [
+            | yes h ↦ too-many-lost h
+            | no h ↦ elim (ℕ-discrete (b .rule) 1) [
+              | yes r ↦ elim (ℕ-discrete (b .lost) 0) [
+                | yes z ↦ absurd (fault-not-fine (sym e ∙ one-fine r z))
+                | no z ↦ lost-under-one r (omega arith)
+              ]
+              | no r ↦ elim (ℕ-discrete (b .rule) 2) [
+                | yes s ↦ absurd (fault-not-fine (sym e ∙ few-fine (omega arith) s))
+                | no s ↦ no-such-rule r s
+              ]
+            ]
+          ]
+
+      so : Cause b mine → (leftOf b (windowsOf mine) ≡ [] → ⊥) → faultIf bad 13 0 ≡ fault 13 0
+      so (no-such-rule r s) u = rw (ne-eqb (b .rule) 1 r, ne-eqb (b .rule) 2 s)
+      so (too-many-lost h) u = rw (lt-ltb mostLost (b .lost) h, or-true (not (eqb (b .rule) 1 || eqb (b .rule) 2)))
+      so (lost-under-one r h) u = rw (r, lt-ltb 0 (b .lost) h, or-true (ltb mostLost (b .lost)))
+      so (none-left e) u = absurd (u e)
+
+  rule-number : (n p : ℕ) → ruleFault b ≡ fault n p → fault 13 0 ≡ fault n p
+  unfolding ruleFault
+  rule-number n p = go bad
+    where
+      go : (t : Bool) → faultIf t 13 0 ≡ fault n p → fault 13 0 ≡ fault n p
+      go true e = e
+      go false e = absurd (fault-not-fine (sym e))
+
+module _ (b : Board) (mine : List ℕ) where
+  abbrev left : List ℕ
+  left = leftOf b (windowsOf mine)
+
+  -- no other number and no other place
+  pub lost-thirteen : (n p : ℕ) → lostFault b mine ≡ fault n p → fault 13 0 ≡ fault n p
+  unfolding lostFault
+  lost-thirteen n p = go (ruleFault b) refl (eqb (length left) 0)
+    where
+      go : (f : Fault) → ruleFault b ≡ f → (t : Bool) → (f orElse faultIf t 13 0) ≡ fault n p → fault 13 0 ≡ fault n p
+      go (fault m q) r t e = rule-number b m q r ∙ e
+      go fine r true e = e
+      go fine r false e = absurd (fault-not-fine (sym e))
+
+  no-numbers : (l : List ℕ) → length l ≡ 0 → l ≡ []
+  no-numbers [] e = refl
+  no-numbers (a ∷ l) e = absurd (omega arith)
+
+  pub lost-exactly : (lostFault b mine ≡ fault 13 0) ↔ Cause b mine
+  unfolding lostFault
+  lost-exactly = (only (ruleFault b) refl, so (eqb (length left) 0) refl)
+    where
+      only : (f : Fault) → ruleFault b ≡ f → (f orElse faultIf (eqb (length left) 0) 13 0) ≡ fault 13 0 → Cause b mine
+      only (fault m q) r e = ruled-or b mine .0 (r ∙ e)
+      only fine r e = nothing (eqb (length left) 0) refl e
+        where
+          nothing : (t : Bool) → eqb (length left) 0 ≡ t → faultIf t 13 0 ≡ fault 13 0 → Cause b mine
+          nothing true z e = none-left (no-numbers left (eqb-true (length left) 0 z))
+          nothing false z e = absurd (fault-not-fine (sym e))
+
+      same : (f : Fault) → ((n p : ℕ) → f ≡ fault n p → fault 13 0 ≡ fault n p) → (f orElse fault 13 0) ≡ fault 13 0
+      same fine h = refl
+      same (fault n p) h = sym (h n p refl)
+
+      so : (t : Bool) → eqb (length left) 0 ≡ t → Cause b mine → (ruleFault b orElse faultIf t 13 0) ≡ fault 13 0
+      so true z c = same (ruleFault b) (rule-number b)
+      so false z c = rw (ruled-or b mine .1 c (λ e. eqb-false (length left) 0 z (ap length e)))
+
+  pub lost-fine : Ruled b → 0 < length left → lostFault b mine ≡ fine
+  unfolding lostFault
+  lost-fine r h = rw (ruled-fine b r, ne-eqb (length left) 0 (λ z. omega arith))
