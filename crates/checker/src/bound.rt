@@ -13,7 +13,7 @@ ghost use mathlib.Core.Path.{_≡_};
 ghost use Prim.Native.Nat.{_≤_, _<_, _/_};
 ghost use lib.ListN.{length as lengthOf};
 ghost use Rattle.scope.specs.Limits.{mostOfTask, mostLength};
-ghost use Rattle.scope.specs.Windows.{suppliedBy};
+ghost use Rattle.scope.specs.Windows.{framed, suppliedBy};
 ghost use Rattle.scope.specs.Tasks.{tasksOf};
 ghost use Rattle.scope.specs.Bound.{ceil, asked, response};
 ghost use Rattle.scope.specs.Answers.{boundAnswer, tableFault, Fault.fine, Answer.given};
@@ -48,16 +48,16 @@ fn asked_of(tasks: &[u32], index: usize, length: u32) -> u64
 
 // The least length up to the deadline whose least supply is at least what is asked. What is asked never falls, and a tick more supplies at most one
 // more: as many ticks as are missing are needed at least, and the lengths between are passed over.
-fn response_of(board: Board, windows: &[u32], tasks: &[u32], index: usize) -> Bound
-    requires { ⌜ (tableFault (boardOf board) (now windows) ≡ fine) × LegalGroup (now tasks) × (index < lengthOf (tasksOf (now tasks))) ⌝ }
-    ensures { λ r. ⌜ toldBound r ≡ given (response (suppliedBy (boardOf board) (now (windows .entry))) (board .frame) (tasksOf (now (tasks .entry))) index) ⌝ }
+fn response_of(frame: u32, windows: &[u32], tasks: &[u32], index: usize) -> Bound
+    requires { ⌜ (tableFault (framed frame) (now windows) ≡ fine) × LegalGroup (now tasks) × (index < lengthOf (tasksOf (now tasks))) ⌝ }
+    ensures { λ r. ⌜ toldBound r ≡ given (response (suppliedBy (framed frame) (now (windows .entry))) (frame) (tasksOf (now (tasks .entry))) index) ⌝ }
 {
     let task = task_at(tasks, index);
     let deadline = task.deadline as u64;
     let mut length: u64 = 1;
     while length <= deadline {
         let ticks = length as u32;
-        let least = least_of(board, windows, ticks) as u64;
+        let least = least_of(frame, windows, ticks) as u64;
         let asked = asked_of(tasks, index, ticks);
         if asked <= least {
             return Bound::Of(ticks);
@@ -68,9 +68,9 @@ fn response_of(board: Board, windows: &[u32], tasks: &[u32], index: usize) -> Bo
 }
 
 // The bound on a legal list of windows. Refusals 4 5 7.
-fn bound_on(board: Board, windows: &[u32], tasks: &[u32], index: u32) -> Bound
-    requires { ⌜ tableFault (boardOf board) (now windows) ≡ fine ⌝ }
-    ensures { λ r. ⌜ toldBound r ≡ boundAnswer (boardOf board) (now (windows .entry)) (now (tasks .entry)) index ⌝ }
+fn bound_on(frame: u32, windows: &[u32], tasks: &[u32], index: u32) -> Bound
+    requires { ⌜ tableFault (framed frame) (now windows) ≡ fine ⌝ }
+    ensures { λ r. ⌜ toldBound r ≡ boundAnswer (framed frame) (now (windows .entry)) (now (tasks .entry)) index ⌝ }
 {
     match check_tasks(tasks) {
         Checked::Bad(r) => Bound::Refused(r),
@@ -79,7 +79,7 @@ fn bound_on(board: Board, windows: &[u32], tasks: &[u32], index: u32) -> Bound
             if tasks.len() / 3 <= i {
                 Bound::Refused(Refusal::Asked)
             } else {
-                response_of(board, windows, tasks, i)
+                response_of(frame, windows, tasks, i)
             }
         }
     }
@@ -92,6 +92,6 @@ pub fn bound(board: Board, windows: &[u32], tasks: &[u32], index: u32) -> Bound
     let mut own = [0; 2 * Window::MOST];
     match own_windows(Owned::TEAMS, board, windows, &mut own) {
         Amount::Refused(r) => Bound::Refused(r),
-        Amount::Of(n) => bound_on(board, &own[..n as usize], tasks, index),
+        Amount::Of(n) => bound_on(board.frame, &own[..n as usize], tasks, index),
     }
 }

@@ -1,4 +1,3 @@
-use tables::board::Board;
 use tables::task::task_at;
 ghost use mathlib.Core.Path.{_≡_};
 ghost use Prim.Native.Nat.{_≤_, _<_};
@@ -26,11 +25,10 @@ impl Cycle {
 }
 
 // The cycle of a legal board and group, or that it is over its limit, as soon as the least common multiple passes it.
-pub(crate) fn cycle_of(board: Board, tasks: &[u32]) -> Cycle
-    requires { ⌜ (0 < board .frame) × (board .frame ≤ mostFrame) × LegalGroup (now tasks) ⌝ }
-    ensures { λ r. ⌜ r ≡ foundCycle (cycle (board .frame) (tasksOf (now (tasks .entry)))) ⌝ }
+pub(crate) fn cycle_of(frame: u32, tasks: &[u32]) -> Cycle
+    requires { ⌜ (0 < frame) × (frame ≤ mostFrame) × LegalGroup (now tasks) ⌝ }
+    ensures { λ r. ⌜ r ≡ foundCycle (cycle (frame) (tasksOf (now (tasks .entry)))) ⌝ }
 {
-    let frame = board.frame;
     let count = tasks.len() / 3;
     let mut h = frame as u64;
     let mut i = 0;

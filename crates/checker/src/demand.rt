@@ -12,6 +12,7 @@ use tables::window::Window;
 ghost use mathlib.Core.Path.{_≡_};
 ghost use Prim.Native.Nat.{_*_, _^_, _<_, _≤_};
 ghost use lib.IntN.{pos, _-ℤ_};
+ghost use Rattle.scope.specs.Windows.{framed};
 ghost use Rattle.scope.specs.Limits.{mostTasks, mostOfTask, mostLength};
 ghost use Rattle.scope.specs.Tasks.{tasksOf, demand as demandBy};
 ghost use Rattle.scope.specs.Answers.{Fault.fine, tableFault, demandAnswer, marginAnswer};
@@ -57,16 +58,16 @@ pub fn demand(tasks: &[u32], length: u32) -> Amount
 }
 
 // The margin on a legal list of windows. Refusals 4 5 7.
-fn margin_on(board: Board, windows: &[u32], tasks: &[u32], length: u32) -> Margin
-    requires { ⌜ tableFault (boardOf board) (now windows) ≡ fine ⌝ }
-    ensures { λ r. ⌜ toldMargin r ≡ marginAnswer (boardOf board) (now (windows .entry)) (now (tasks .entry)) length ⌝ }
+fn margin_on(frame: u32, windows: &[u32], tasks: &[u32], length: u32) -> Margin
+    requires { ⌜ tableFault (framed frame) (now windows) ≡ fine ⌝ }
+    ensures { λ r. ⌜ toldMargin r ≡ marginAnswer (framed frame) (now (windows .entry)) (now (tasks .entry)) length ⌝ }
 {
     match check_tasks(tasks) {
         Checked::Bad(r) => Margin::Refused(r),
         Checked::Fine => match check_length(length) {
             Checked::Bad(r) => Margin::Refused(r),
             Checked::Fine => {
-                let supply = least_of(board, windows, length);
+                let supply = least_of(frame, windows, length);
                 let demand = demand_of(tasks, length);
                 Margin::Of(difference(supply as u64, demand))
             }
@@ -81,6 +82,6 @@ pub fn margin(board: Board, windows: &[u32], tasks: &[u32], length: u32) -> Marg
     let mut own = [0; 2 * Window::MOST];
     match own_windows(Owned::TEAMS, board, windows, &mut own) {
         Amount::Refused(r) => Margin::Refused(r),
-        Amount::Of(n) => margin_on(board, &own[..n as usize], tasks, length),
+        Amount::Of(n) => margin_on(board.frame, &own[..n as usize], tasks, length),
     }
 }

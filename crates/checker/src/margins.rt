@@ -18,6 +18,7 @@ ghost use mathlib.Core.Path.{_≡_};
 ghost use mathlib.Core.List.{map};
 ghost use Prim.Native.Nat.{_≤_};
 ghost use lib.ListN.{length};
+ghost use Rattle.scope.specs.Windows.{framed};
 ghost use Rattle.scope.specs.Limits.{mostLength};
 ghost use Rattle.scope.specs.Numbers.{written};
 ghost use Rattle.scope.specs.Tasks.{tasksOf};
@@ -42,29 +43,29 @@ fn check_lengths(lengths: &[u32]) -> Checked
 
 // What is checked of a legal list of windows and what is lent with it. Refusals 4 5 14 7 8.
 fn check_margins(
-    board: Board,
+    frame: u32,
     windows: &[u32],
     summary: &[u32],
     tasks: &[u32],
     lengths: &[u32],
     room: usize,
 ) -> Checked
-    requires { ⌜ tableFault (boardOf board) (now windows) ≡ fine ⌝ }
-    ensures { λ r. ⌜ faultOf r ≡ marginsFault (boardOf board) (now (windows .entry)) (now (summary .entry)) (now (tasks .entry)) (now (lengths .entry)) room ⌝ }
+    requires { ⌜ tableFault (framed frame) (now windows) ≡ fine ⌝ }
+    ensures { λ r. ⌜ faultOf r ≡ marginsFault (framed frame) (now (windows .entry)) (now (summary .entry)) (now (tasks .entry)) (now (lengths .entry)) room ⌝ }
 {
     let group = check_tasks(tasks);
-    let belongs = check_summary(board, windows, summary);
+    let belongs = check_summary(frame, windows, summary);
     let asked = check_lengths(lengths);
     let fits = check_room(lengths.len(), room);
     group.or_else(belongs.or_else(asked.or_else(fits)))
 }
 
 // The margin of a length that is in its range, as a summary's numbers tell it, whatever they are.
-fn margin_from(board: Board, summary: &[u32], tasks: &[u32], length: u32) -> i64
-    requires { ⌜ (frameFault (boardOf board) ≡ fine) × LegalGroup (now tasks) × (length ≤ mostLength) ⌝ }
-    ensures { λ r. ⌜ r ≡ marginFrom (board .frame) (now (summary .entry)) (tasksOf (now (tasks .entry))) length ⌝ }
+fn margin_from(frame: u32, summary: &[u32], tasks: &[u32], length: u32) -> i64
+    requires { ⌜ (frameFault (framed frame) ≡ fine) × LegalGroup (now tasks) × (length ≤ mostLength) ⌝ }
+    ensures { λ r. ⌜ r ≡ marginFrom (frame) (now (summary .entry)) (tasksOf (now (tasks .entry))) length ⌝ }
 {
-    match least_from(board, summary, length) {
+    match least_from(frame, summary, length) {
         Amount::Refused(_) => 0,
         Amount::Of(supply) => {
             let demand = demand_of(tasks, length);
@@ -74,38 +75,38 @@ fn margin_from(board: Board, summary: &[u32], tasks: &[u32], length: u32) -> i64
 }
 
 // Writes the margins of lengths, each of which is in its range.
-fn write_margins(board: Board, summary: &[u32], tasks: &[u32], lengths: &[u32], out: &mut [i64])
-    requires { ⌜ (frameFault (boardOf board) ≡ fine) × LegalGroup (now tasks)
+fn write_margins(frame: u32, summary: &[u32], tasks: &[u32], lengths: &[u32], out: &mut [i64])
+    requires { ⌜ (frameFault (framed frame) ≡ fine) × LegalGroup (now tasks)
         × (lengthsFault (now lengths) ≡ fine) × (length (now lengths) ≤ length (now out)) ⌝ }
     ensures { λ _. ⌜ now (out .exit)
-        ≡ written (map (marginFrom (board .frame) (now (summary .entry)) (tasksOf (now (tasks .entry)))) (now (lengths .entry))) (now (out .entry)) ⌝ }
+        ≡ written (map (marginFrom (frame) (now (summary .entry)) (tasksOf (now (tasks .entry)))) (now (lengths .entry))) (now (out .entry)) ⌝ }
 {
     let mut i = 0;
     while i < lengths.len() {
-        out[i] = margin_from(board, summary, tasks, lengths[i]);
+        out[i] = margin_from(frame, summary, tasks, lengths[i]);
         i += 1;
     }
 }
 
 // The margins on a legal list of windows. Refusals 4 5 14 7 8.
 fn margins_on(
-    board: Board,
+    frame: u32,
     windows: &[u32],
     summary: &[u32],
     tasks: &[u32],
     lengths: &[u32],
     out: &mut [i64],
 ) -> Amount
-    requires { ⌜ tableFault (boardOf board) (now windows) ≡ fine ⌝ }
+    requires { ⌜ tableFault (framed frame) (now windows) ≡ fine ⌝ }
     ensures answer { λ r. ⌜ toldAmount r
-        ≡ marginsAnswer (boardOf board) (now (windows .entry)) (now (summary .entry)) (now (tasks .entry)) (now (lengths .entry)) (length (now (out .entry))) ⌝ }
+        ≡ marginsAnswer (framed frame) (now (windows .entry)) (now (summary .entry)) (now (tasks .entry)) (now (lengths .entry)) (length (now (out .entry))) ⌝ }
     ensures buffer { λ _. ⌜ now (out .exit)
-        ≡ marginsOut (boardOf board) (now (windows .entry)) (now (summary .entry)) (now (tasks .entry)) (now (lengths .entry)) (now (out .entry)) ⌝ }
+        ≡ marginsOut (framed frame) (now (windows .entry)) (now (summary .entry)) (now (tasks .entry)) (now (lengths .entry)) (now (out .entry)) ⌝ }
 {
-    match check_margins(board, windows, summary, tasks, lengths, out.len()) {
+    match check_margins(frame, windows, summary, tasks, lengths, out.len()) {
         Checked::Bad(r) => refuse_signed(r, out),
         Checked::Fine => {
-            write_margins(board, summary, tasks, lengths, out);
+            write_margins(frame, summary, tasks, lengths, out);
             Amount::Of(lengths.len() as u64)
         }
     }
@@ -129,6 +130,15 @@ pub fn margins(
     let mut own = [0; 2 * Window::MOST];
     match own_windows(Owned::TEAMS, board, windows, &mut own) {
         Amount::Refused(r) => refuse_signed(r, out),
-        Amount::Of(n) => { margins_on(board, &own[..n as usize], summary, tasks, lengths, out) }
+        Amount::Of(n) => {
+            margins_on(
+                board.frame,
+                &own[..n as usize],
+                summary,
+                tasks,
+                lengths,
+                out,
+            )
+        }
     }
 }

@@ -1,11 +1,10 @@
 // A stretch of ticks whose start moves on tick by tick.
-use tables::board::Board;
 use tables::cursor::Cursor;
 ghost use mathlib.Core.Path.{_≡_};
 ghost use Prim.Native.Nat.{_≤_};
+ghost use Rattle.scope.specs.Windows.{framed};
 ghost use Rattle.scope.specs.Limits.{mostFrame};
 ghost use Rattle.theory.specs.Answers.{LegalTable};
-ghost use Rattle.tables.specs.Told.{boardOf};
 ghost use Rattle.checker.specs.Stretches.{onAt, slidOf, Slides, Spans};
 
 // The cursors of the first tick and of the one after the last, and the supplied ticks.
@@ -16,23 +15,23 @@ pub(crate) struct Stretch {
 }
 
 // 1 for a supplied tick, 0 for another.
-fn tick_at(board: Board, windows: &[u32], at: Cursor) -> u32
-    ensures { λ r. ⌜ r ≡ onAt (boardOf board) (now (windows .entry)) at ⌝ }
+fn tick_at(frame: u32, windows: &[u32], at: Cursor) -> u32
+    ensures { λ r. ⌜ r ≡ onAt (framed frame) (now (windows .entry)) at ⌝ }
 {
-    if at.is_on(board, windows) { 1 } else { 0 }
+    if at.is_on(frame, windows) { 1 } else { 0 }
 }
 
 // The first `length` ticks.
-pub(crate) fn first_ticks(board: Board, windows: &[u32], length: u32) -> Stretch
-    requires { ⌜ LegalTable (boardOf board) (now windows) × (length ≤ mostFrame) ⌝ }
-    ensures { λ r. ⌜ Spans (boardOf board) (now (windows .entry)) 0 length r ⌝ }
+pub(crate) fn first_ticks(frame: u32, windows: &[u32], length: u32) -> Stretch
+    requires { ⌜ LegalTable (framed frame) (now windows) × (length ≤ mostFrame) ⌝ }
+    ensures { λ r. ⌜ Spans (framed frame) (now (windows .entry)) 0 length r ⌝ }
 {
     let mut to = Cursor::new();
     let mut supply = 0;
     let mut i = 0;
     while i < length {
-        supply += tick_at(board, windows, to);
-        to = to.next(board, windows);
+        supply += tick_at(frame, windows, to);
+        to = to.next(frame, windows);
         i += 1;
     }
     let from = Cursor::new();
@@ -40,18 +39,18 @@ pub(crate) fn first_ticks(board: Board, windows: &[u32], length: u32) -> Stretch
 }
 
 // One tick comes and one goes.
-pub(crate) fn slid(board: Board, windows: &[u32], stretch: Stretch) -> Stretch
-    requires { ⌜ Slides (boardOf board) (now windows) stretch ⌝ }
-    ensures { λ r. ⌜ r ≡ slidOf (boardOf board) (now (windows .entry)) stretch ⌝ }
+pub(crate) fn slid(frame: u32, windows: &[u32], stretch: Stretch) -> Stretch
+    requires { ⌜ Slides (framed frame) (now windows) stretch ⌝ }
+    ensures { λ r. ⌜ r ≡ slidOf (framed frame) (now (windows .entry)) stretch ⌝ }
 {
     let from = stretch.from;
     let to = stretch.to;
     let held = stretch.supply;
-    let comes = tick_at(board, windows, to);
-    let goes = tick_at(board, windows, from);
+    let comes = tick_at(frame, windows, to);
+    let goes = tick_at(frame, windows, from);
     Stretch {
-        from: from.next(board, windows),
-        to: to.next(board, windows),
+        from: from.next(frame, windows),
+        to: to.next(frame, windows),
         supply: held + comes - goes,
     }
 }

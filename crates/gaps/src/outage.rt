@@ -9,7 +9,7 @@ use tables::window::window_at;
 ghost use mathlib.Core.Path.{_≡_};
 ghost use Prim.Native.Nat.{_+_, _-_, _≤_};
 ghost use Rattle.scope.specs.Limits.{mostFrame};
-ghost use Rattle.scope.specs.Windows.{suppliedBy};
+ghost use Rattle.scope.specs.Windows.{framed, suppliedBy};
 ghost use Rattle.scope.specs.Partition.{outage as outageBy};
 ghost use Rattle.scope.specs.Shared.{outageFor};
 ghost use Rattle.theory.specs.Answers.{LegalTable};
@@ -24,9 +24,9 @@ fn last_gap(frame: u32, end: u32, start: u32) -> u32
 }
 
 // The longest run of unsupplied ticks over endless frames: the longest gap between two windows, or between the last one and the next frame's first.
-fn outage_of(board: Board, windows: &[u32]) -> u32
-    requires { ⌜ LegalTable (boardOf board) (now windows) ⌝ }
-    ensures { λ r. ⌜ r ≡ outageBy (suppliedBy (boardOf board) (now (windows .entry))) (board .frame) ⌝ }
+fn outage_of(frame: u32, windows: &[u32]) -> u32
+    requires { ⌜ LegalTable (framed frame) (now windows) ⌝ }
+    ensures { λ r. ⌜ r ≡ outageBy (suppliedBy (framed frame) (now (windows .entry))) (frame) ⌝ }
 {
     let count = windows.len() / 2;
     let first = window_at(windows, 0);
@@ -40,7 +40,7 @@ fn outage_of(board: Board, windows: &[u32]) -> u32
         end = window.end;
         i += 1;
     }
-    let gap = last_gap(board.frame, end, first.start);
+    let gap = last_gap(frame, end, first.start);
     larger(most, gap)
 }
 
@@ -52,7 +52,7 @@ pub fn outage(board: Board, windows: &[u32]) -> Amount
     match own_windows(Owned::TEAMS, board, windows, &mut own) {
         Amount::Refused(r) => Amount::Refused(r),
         Amount::Of(n) => {
-            let longest = outage_of(board, &own[..n as usize]);
+            let longest = outage_of(board.frame, &own[..n as usize]);
             Amount::Of(longest as u64)
         }
     }

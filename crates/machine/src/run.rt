@@ -17,7 +17,7 @@ ghost use mathlib.Core.Bool.{Bool};
 ghost use lib.ListN.{length};
 ghost use Rattle.scope.specs.Numbers.{written};
 ghost use Rattle.scope.specs.Limits.{mostTicks};
-ghost use Rattle.scope.specs.Windows.{suppliedBy};
+ghost use Rattle.scope.specs.Windows.{framed, suppliedBy};
 ghost use Rattle.scope.specs.Tasks.{tasksOf};
 ghost use Rattle.scope.specs.Jobs.{jobsOf};
 ghost use Rattle.scope.specs.Run.{ran, counts as countsBy};
@@ -58,7 +58,7 @@ fn clear(counts: &mut [u32], m: usize)
 // The run of legal lists under a rule `before`, which is tied to the machine's once: the buffer is cleared, the state is advanced to the run's end,
 // and a job that is late there is the miss.
 fn run_legal(
-    board: Board,
+    frame: u32,
     windows: &[u32],
     tasks: &[u32],
     n: u32,
@@ -67,18 +67,18 @@ fn run_legal(
 ) -> Ran
     ghost { ℕ → ℕ → Bool }
     requires { λ before. ⌜ rule (tasksOf (now tasks)) (jobsOf (now jobs)) ≡ before ⌝ }
-    requires { λ before. ⌜ LegalTable (boardOf board) (now windows) ⌝ }
+    requires { λ before. ⌜ LegalTable (framed frame) (now windows) ⌝ }
     requires { λ before. ⌜ Tasks (tasksOf (now tasks)) × Jobs (tasksOf (now tasks)) (jobsOf (now jobs)) × (n ≤ mostTicks)
         × (length (jobsOf (now jobs)) ≤ length (now counts)) ⌝ }
-    ensures answer { λ before r. ⌜ toldRan r ≡ given (ran (suppliedBy (boardOf board) (now (windows .entry)))
+    ensures answer { λ before r. ⌜ toldRan r ≡ given (ran (suppliedBy (framed frame) (now (windows .entry)))
         before (tasksOf (now (tasks .entry))) (jobsOf (now (jobs .entry))) n) ⌝ }
-    ensures buffer { λ before _. ⌜ now (counts .exit) ≡ written (countsBy (suppliedBy (boardOf board) (now (windows .entry)))
+    ensures buffer { λ before _. ⌜ now (counts .exit) ≡ written (countsBy (suppliedBy (framed frame) (now (windows .entry)))
         before (tasksOf (now (tasks .entry))) (jobsOf (now (jobs .entry))) n) (now (counts .entry)) ⌝ }
 {
     let count = jobs.len() / 3;
     clear(counts, count);
     let mut places = [0; 3 * Task::MOST];
-    let s = advance(n, board, windows, tasks, jobs, &mut places, counts);
+    let s = advance(n, frame, windows, tasks, jobs, &mut places, counts);
     let job = late(s.pending, &places, s.instant);
     if job < RunState::NO_JOB {
         return Ran::Missed {
@@ -111,22 +111,22 @@ fn refuse(r: Refusal, counts: &mut [u32]) -> Ran
 // Runs a job list of a group on a legal list of windows for n ticks. The windows were checked where they were taken from the table, so not again here.
 // Refusals 4 5 10 11 8.
 fn run_on(
-    board: Board,
+    frame: u32,
     windows: &[u32],
     tasks: &[u32],
     n: u32,
     jobs: &[u32],
     counts: &mut [u32],
 ) -> Ran
-    requires { ⌜ tableFault (boardOf board) (now windows) ≡ fine ⌝ }
-    ensures answer { λ r. ⌜ toldRan r ≡ runAnswer (boardOf board) (now (windows .entry))
+    requires { ⌜ tableFault (framed frame) (now windows) ≡ fine ⌝ }
+    ensures answer { λ r. ⌜ toldRan r ≡ runAnswer (framed frame) (now (windows .entry))
         (now (tasks .entry)) n (now (jobs .entry)) (length (now (counts .entry))) ⌝ }
-    ensures buffer { λ _. ⌜ now (counts .exit) ≡ runOut (boardOf board) (now (windows .entry))
+    ensures buffer { λ _. ⌜ now (counts .exit) ≡ runOut (framed frame) (now (windows .entry))
         (now (tasks .entry)) n (now (jobs .entry)) (now (counts .entry)) ⌝ }
 {
     match check_run(tasks, n, jobs, counts.len()) {
         Checked::Bad(r) => refuse(r, counts),
-        Checked::Fine => run_legal(board, windows, tasks, n, jobs, counts),
+        Checked::Fine => run_legal(frame, windows, tasks, n, jobs, counts),
     }
 }
 
@@ -148,6 +148,13 @@ pub fn run(
     let mut own = [0; 2 * Window::MOST];
     match own_windows(Owned::TEAMS, board, windows, &mut own) {
         Amount::Refused(r) => refuse(r, counts),
-        Amount::Of(numbers) => run_on(board, &own[..numbers as usize], tasks, n, jobs, counts),
+        Amount::Of(numbers) => run_on(
+            board.frame,
+            &own[..numbers as usize],
+            tasks,
+            n,
+            jobs,
+            counts,
+        ),
     }
 }

@@ -5,17 +5,15 @@ use crate::places::serve;
 use crate::state::RunState;
 use jobs::job::Job;
 use jobs::job::job_at;
-use tables::board::Board;
 use tables::task::task_at;
 ghost use mathlib.Core.Path.{_≡_};
 ghost use Prim.Native.Nat.{_<_, _≤_};
 ghost use lib.ListN.{length};
 ghost use Rattle.scope.specs.Limits.{mostJobs};
-ghost use Rattle.scope.specs.Windows.{suppliedBy};
+ghost use Rattle.scope.specs.Windows.{framed, suppliedBy};
 ghost use Rattle.scope.specs.Tasks.{tasksOf};
 ghost use Rattle.scope.specs.Jobs.{jobsOf};
 ghost use Rattle.theory.specs.Answers.{LegalTable};
-ghost use Rattle.tables.specs.Told.{boardOf};
 ghost use Rattle.tables.specs.Cursors.{after};
 ghost use Rattle.jobs.specs.Legal.{Tasks, Jobs};
 ghost use Rattle.jobs.specs.Told.{jobOf};
@@ -81,25 +79,25 @@ fn note(jobs: &[u32], k: u32, j: u32, counts: &mut [u32])
 // Where the cursor goes on is asked for at once, before a buffer is written, so that the window is read once.
 fn step(
     s: RunState,
-    board: Board,
+    frame: u32,
     windows: &[u32],
     tasks: &[u32],
     jobs: &[u32],
     places: &mut [u32],
     counts: &mut [u32],
 ) -> RunState
-    requires { ⌜ OnTable (boardOf board) (now windows) s
-        × Ready (suppliedBy (boardOf board) (now windows)) (rule (tasksOf (now tasks)) (jobsOf (now jobs)))
+    requires { ⌜ OnTable (framed frame) (now windows) s
+        × Ready (suppliedBy (framed frame) (now windows)) (rule (tasksOf (now tasks)) (jobsOf (now jobs)))
         (tasksOf (now tasks)) (jobsOf (now jobs)) s (now places) (now counts) ⌝ }
-    ensures { λ r. ⌜ Ticked (suppliedBy (boardOf board) (now (windows .entry))) (after (boardOf board) (now (windows .entry)))
+    ensures { λ r. ⌜ Ticked (suppliedBy (framed frame) (now (windows .entry))) (after (framed frame) (now (windows .entry)))
         (tasksOf (now (tasks .entry))) (jobsOf (now (jobs .entry)))
         s (now (places .entry)) (now (counts .entry)) r (now (places .exit)) (now (counts .exit)) ⌝ }
 {
     let fed = release(s, tasks, jobs, places);
     let counted = fed.counted();
     let cursor = s.cursor;
-    let on = cursor.is_on(board, windows);
-    let next = cursor.next(board, windows);
+    let on = cursor.is_on(frame, windows);
+    let next = cursor.next(frame, windows);
     let i = goes_to(on, Pending { bits: fed.pending }, places);
     let done = serve(places, i);
     let worked = counted.worked(i, done, next);
@@ -110,41 +108,41 @@ fn step(
 // One state is advanced in place, tick by tick: the thin form over the by-value step.
 fn tick(
     s: &mut RunState,
-    board: Board,
+    frame: u32,
     windows: &[u32],
     tasks: &[u32],
     jobs: &[u32],
     places: &mut [u32],
     counts: &mut [u32],
 )
-    requires { ⌜ OnTable (boardOf board) (now windows) (now s)
-        × Ready (suppliedBy (boardOf board) (now windows)) (rule (tasksOf (now tasks)) (jobsOf (now jobs)))
+    requires { ⌜ OnTable (framed frame) (now windows) (now s)
+        × Ready (suppliedBy (framed frame) (now windows)) (rule (tasksOf (now tasks)) (jobsOf (now jobs)))
         (tasksOf (now tasks)) (jobsOf (now jobs)) (now s) (now places) (now counts) ⌝ }
-    ensures { λ _. ⌜ Ticked (suppliedBy (boardOf board) (now (windows .entry))) (after (boardOf board) (now (windows .entry)))
+    ensures { λ _. ⌜ Ticked (suppliedBy (framed frame) (now (windows .entry))) (after (framed frame) (now (windows .entry)))
         (tasksOf (now (tasks .entry))) (jobsOf (now (jobs .entry)))
         (now (s .entry)) (now (places .entry)) (now (counts .entry)) (now (s .exit)) (now (places .exit)) (now (counts .exit)) ⌝ }
 {
-    *s = step(*s, board, windows, tasks, jobs, places, counts);
+    *s = step(*s, frame, windows, tasks, jobs, places, counts);
 }
 
 // The run up to its end: one state, advanced in place.
 pub(crate) fn advance(
     n: u32,
-    board: Board,
+    frame: u32,
     windows: &[u32],
     tasks: &[u32],
     jobs: &[u32],
     places: &mut [u32],
     counts: &mut [u32],
 ) -> RunState
-    requires { ⌜ LegalTable (boardOf board) (now windows) × Begins (tasksOf (now tasks)) (jobsOf (now jobs)) n (now places) (now counts) ⌝ }
-    ensures { λ r. ⌜ Over (suppliedBy (boardOf board) (now (windows .entry))) (rule (tasksOf (now (tasks .entry))) (jobsOf (now (jobs .entry))))
+    requires { ⌜ LegalTable (framed frame) (now windows) × Begins (tasksOf (now tasks)) (jobsOf (now jobs)) n (now places) (now counts) ⌝ }
+    ensures { λ r. ⌜ Over (suppliedBy (framed frame) (now (windows .entry))) (rule (tasksOf (now (tasks .entry))) (jobsOf (now (jobs .entry))))
         (tasksOf (now (tasks .entry))) (jobsOf (now (jobs .entry))) n
         (now (counts .entry)) r (now (places .exit)) (now (counts .exit)) ⌝ }
 {
     let mut s = RunState::new(n);
     while s.instant < s.end {
-        tick(&mut s, board, windows, tasks, jobs, places, counts);
+        tick(&mut s, frame, windows, tasks, jobs, places, counts);
     }
     s
 }

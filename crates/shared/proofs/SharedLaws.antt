@@ -1,21 +1,26 @@
 -- The rule of windows with owners, by the cases that the code tells apart; and the windows of one owner, one after the other
 use mathlib.Core.Path.{_≡_, refl, sym, ap, ap₂, _∙_}
-use mathlib.Core.Bool.{Bool, true, false, not, cond, _&&_, _||_, and-true, or-false}
+use mathlib.Core.Bool.{Bool, true, false, not, cond, _&&_, _||_, and-true, or-false, true≢false}
 use mathlib.Core.Logic.{_≢_}
 use mathlib.Core.Option.{none, some}
 use mathlib.Core.List.{List, [], _∷_, _++_, append-nil, append-assoc}
-use Prim.Native.Nat.{ℕ, zero, suc, _+_, _-_, _*_, _≤_, _<_}
+use Prim.Native.Nat.{ℕ, zero, suc, _+_, _-_, _*_, _/_, _≤_, _<_}
 use native.Mathlib.Omega.{arith}
 use native.Mathlib.Numerals.{add-one}
 use lib.Dec.{ltb, eqb}
 use lib.ListN.{length, getD, set, take, drop, length-append, length-set, take-append-drop}
 use lib.Seq.{take-suc, take-length, length-take-le}
-use borrow.Author.Tests.{lt-ltb, le-ltb, eq-eqb, ne-eqb}
-use Rattle.scope.specs.Numbers.{firstBy, written}
-use Rattle.scope.specs.Windows.{Board, Window, windowFits}
-use Rattle.scope.specs.Answers.{Answer.given, Answer.refused, faultAt, unless}
-use Rattle.scope.specs.Shared.{Owned, owned, ownedAt, windowsFor, asOwned, follows, ownedLegal, badOwned, ownedFault, ownedAnswer}
+use borrow.Author.Tests.{ltb-true, lt-ltb, le-ltb, eq-eqb, ne-eqb}
+use Rattle.scope.specs.Numbers.{firstBy, pieces, piecesFrom, written}
+use Rattle.scope.specs.Windows.{Board, Window, window, windowsOf, windowFits}
+use Rattle.scope.specs.Answers.{Fault, Fault.fine, Fault.fault, Answer.given, Answer.refused, faultIf, faultAt, _orElse_, unless, ruleFault}
+use Rattle.scope.specs.Shared.{Owned, owned, ownedAt, windowsFor, own, leftOf, ownLeft, absentOwnerFault, asOwned, follows, ownedLegal, badOwned, ownedFault, ownedAnswer}
+use Rattle.theory.specs.Numbers.{and-both}
+use Rattle.theory.specs.Lists.{pieces-length, pieces-append}
 use Rattle.theory.specs.Buffers.{written-more}
+use Rattle.theory.specs.Shared.{for-even}
+use Rattle.theory.specs.Left.{left-few}
+use Rattle.theory.specs.Losses.{rule-number}
 use Rattle.theory.specs.Alone.{owned-length}
 use Rattle.tables.proofs.FaultLaws.{keeps, breaks}
 
@@ -66,10 +71,11 @@ module _ (owners : ℕ) (b : Board) (ws : List Owned) (i : ℕ) where
     unfolding ownedLegal
     next-owned e = rw (fits, ne-eqb i 0 e)
 
--- ---- the windows of owner o among the first i
+-- ---- numbers that are gathered window by window: the windows of owner o, and what is left of them
 
-abbrev pub front : ℕ → List Owned → ℕ → List ℕ
-front o ws i = windowsFor o (take i ws)
+pub record Gathers (f : List Owned → List ℕ) : Type 0 where
+  pub empty : f [] ≡ []
+  pub append : (vs ws : List Owned) → f (vs ++ ws) ≡ f vs ++ f ws
 
 for-append : (o : ℕ) (vs ws : List Owned) → windowsFor o (vs ++ ws) ≡ windowsFor o vs ++ windowsFor o ws
 unfolding windowsFor
@@ -82,32 +88,131 @@ for-append o (v ∷ vs) ws = go (eqb (v .owner) o) (for-append o vs ws)
     go true e = ap (λ (l : List ℕ). v .window .start ∷ v .window .end ∷ l) e
     go false e = e
 
-module _ (o : ℕ) (ws : List Owned) where
-  pub front-none : front o ws 0 ≡ []
-  unfolding windowsFor
-  front-none = refl
+pub gathers-own : (o : ℕ) → Gathers (windowsFor o)
+unfolding windowsFor
+gathers-own o = record { empty = refl; append = for-append o }
 
-  pub front-all : (i : ℕ) → length ws ≤ i → i ≤ length ws → front o ws i ≡ windowsFor o ws
+abbrev pub leftFor : Board → List Owned → List ℕ
+leftFor b ws = leftOf b (windowsOf (windowsFor (b .owner) ws))
+
+left-append : (b : Board) (vs ws : List Window) → leftOf b (vs ++ ws) ≡ leftOf b vs ++ leftOf b ws
+unfolding leftOf
+left-append b [] ws = refl
+left-append b (v ∷ vs) ws = go (ltb (b .lost) (v .end - v .start)) (left-append b vs ws)
+  where
+    go : (t : Bool) → leftOf b (vs ++ ws) ≡ leftOf b vs ++ leftOf b ws →
+        cond t ((b .lost + v .start) ∷ v .end ∷ leftOf b (vs ++ ws)) (leftOf b (vs ++ ws))
+        ≡ cond t ((b .lost + v .start) ∷ v .end ∷ leftOf b vs) (leftOf b vs) ++ leftOf b ws
+    go true e = ap (λ (l : List ℕ). (b .lost + v .start) ∷ v .end ∷ l) e
+    go false e = e
+
+pub gathers-left : (b : Board) → Gathers (leftFor b)
+unfolding windowsFor leftOf pieces piecesFrom
+gathers-left b = record { empty = refl; append = append }
+  where
+    append : (vs ws : List Owned) → leftFor b (vs ++ ws) ≡ leftFor b vs ++ leftFor b ws
+    append vs ws =
+        let o = b .owner in
+        let even = for-even o vs in
+        ap (λ (l : List ℕ). leftOf b (windowsOf l)) (for-append o vs ws)
+        ∙ ap (leftOf b) (pieces-append Window 2 window (omega arith) (length (windowsFor o vs) / 2) (windowsFor o vs) (windowsFor o ws) (omega arith))
+        ∙ left-append b (windowsOf (windowsFor o vs)) (windowsOf (windowsFor o ws))
+
+module _ (f : List Owned → List ℕ) (is : Gathers f) (ws : List Owned) where
+  -- of the first i windows
+  abbrev pub front : ℕ → List ℕ
+  front i = f (take i ws)
+
+  pub front-none : front 0 ≡ []
+  front-none = is .empty
+
+  pub front-all : (i : ℕ) → length ws ≤ i → i ≤ length ws → front i ≡ f ws
   front-all i h l = let e : i ≡ length ws = omega arith in rw (e, take-length ws)
 
-  pub front-few : (i : ℕ) → length (front o ws i) ≤ length (windowsFor o ws)
+  pub front-few : (i : ℕ) → length (front i) ≤ length (f ws)
   front-few i =
-      omega (arith, ap length (for-append o (take i ws) (drop i ws)), ap (λ (l : List Owned). length (windowsFor o l)) (take-append-drop i ws), length-append (front o ws i) (windowsFor o (drop i ws)))
+      omega (arith, ap length (is .append (take i ws) (drop i ws)), ap (λ (l : List Owned). length (f l)) (take-append-drop i ws), length-append (front i) (f (drop i ws)))
 
   module _ (i : ℕ) (h : i < length ws) {w : Owned} (read : w ≡ ownedAt ws i) where
-    more : front o ws (i + 1) ≡ front o ws i ++ windowsFor o (w ∷ [])
-    more = rw (add-one i, take-suc ws i (owned 0 0 0) h, ← read) (for-append o (take i ws) (w ∷ []))
+    more : front (i + 1) ≡ front i ++ f (w ∷ [])
+    more = rw (add-one i, take-suc ws i (owned 0 0 0) h, ← read) (is .append (take i ws) (w ∷ []))
 
-    pub front-hit : w .owner ≡ o → front o ws (i + 1) ≡ front o ws i ++ (w .window .start ∷ w .window .end ∷ [])
-    unfolding windowsFor
-    front-hit e = more ∙ rw (eq-eqb (w .owner) o e)
+    -- a window that comes with two numbers, or with none
+    pub front-hit : (s e : ℕ) → f (w ∷ []) ≡ s ∷ e ∷ [] → front (i + 1) ≡ front i ++ (s ∷ e ∷ [])
+    front-hit s e z = more ∙ ap (λ (l : List ℕ). front i ++ l) z
 
-    pub front-miss : w .owner ≢ o → front o ws (i + 1) ≡ front o ws i
-    unfolding windowsFor
-    front-miss u = more ∙ rw (ne-eqb (w .owner) o u) (append-nil _)
+    pub front-miss : f (w ∷ []) ≡ [] → front (i + 1) ≡ front i
+    front-miss z = more ∙ ap (λ (l : List ℕ). front i ++ l) z ∙ append-nil _
 
-    pub count-hit : w .owner ≡ o → length (front o ws (i + 1)) ≡ length (front o ws i) + 2
-    count-hit e = ap length (front-hit e) ∙ length-append (front o ws i) (w .window .start ∷ w .window .end ∷ [])
+    pub count-hit : (s e : ℕ) → f (w ∷ []) ≡ s ∷ e ∷ [] → length (front (i + 1)) ≡ length (front i) + 2
+    count-hit s e z = ap length (front-hit s e z) ∙ length-append (front i) (s ∷ e ∷ [])
+
+module _ (o : ℕ) (w : Owned) where
+  pub own-hit : w .owner ≡ o → windowsFor o (w ∷ []) ≡ w .window .start ∷ w .window .end ∷ []
+  unfolding windowsFor
+  own-hit e = rw (eq-eqb (w .owner) o e)
+
+  pub own-miss : w .owner ≢ o → windowsFor o (w ∷ []) ≡ []
+  unfolding windowsFor
+  own-miss u = rw (ne-eqb (w .owner) o u)
+
+module _ (b : Board) (w : Owned) where
+  -- the window is the asked owner's, and is longer than what is lost
+  abbrev pub isLeft : Bool
+  isLeft = eqb (w .owner) (b .owner) && ltb (b .lost) (w .window .end - w .window .start)
+
+  pub left-hit : isLeft ≡ true → leftFor b (w ∷ []) ≡ (b .lost + w .window .start) ∷ w .window .end ∷ []
+  unfolding windowsFor leftOf pieces piecesFrom
+  left-hit e = let p = and-both (eqb (w .owner) (b .owner)) _ e in rw (p .0, p .1)
+
+  -- the start that is moved stays before the end
+  pub left-moved : isLeft ≡ true → b .lost + w .window .start < w .window .end
+  left-moved e =
+      let p = and-both (eqb (w .owner) (b .owner)) _ e in
+      omega (arith, ltb-true (b .lost) (w .window .end - w .window .start) (p .1))
+
+  pub left-miss : isLeft ≡ false → leftFor b (w ∷ []) ≡ []
+  unfolding windowsFor leftOf pieces piecesFrom
+  left-miss = go (eqb (w .owner) (b .owner)) refl (ltb (b .lost) (w .window .end - w .window .start)) refl
+    where
+      go : (t : Bool) → eqb (w .owner) (b .owner) ≡ t → (u : Bool) → ltb (b .lost) (w .window .end - w .window .start) ≡ u →
+          (t && u) ≡ false → leftFor b (w ∷ []) ≡ []
+      go false z u x e = rw z
+      go true z false x e = rw (z, x)
+      go true z true x e = absurd (true≢false e)
+
+-- ---- an owner that has no window, and one that is left no tick
+
+module _ (b : Board) (ws : List ℕ) where
+  pub absent-own : length (own b ws) ≡ 0 → fault 1 0 ≡ absentOwnerFault b ws
+  unfolding absentOwnerFault
+  absent-own e = rw (eq-eqb (length (own b ws)) 0 e)
+
+  pub present-own : length (own b ws) ≢ 0 → fine ≡ absentOwnerFault b ws
+  unfolding absentOwnerFault
+  present-own u = rw (ne-eqb (length (own b ws)) 0 u)
+
+  -- of no window nothing is left
+  pub left-present : (left : ℕ) → left ≡ length (ownLeft b ws) → left ≢ 0 → fine ≡ absentOwnerFault b ws
+  left-present left e u =
+      let few = left-few b (windowsOf (own b ws)) in
+      let count = pieces-length Window 2 window (own b ws) in
+      present-own (λ z. u (omega (arith, e, few, count, z)))
+
+module _ (b : Board) (left : ℕ) where
+  pub none-left : left ≡ 0 → fault 13 0 ≡ (ruleFault b orElse faultIf (eqb left 0) 13 0)
+  none-left e = rw (eq-eqb left 0 e) (go (ruleFault b) (rule-number b))
+    where
+      go : (f : Fault) → ((n p : ℕ) → f ≡ fault n p → fault 13 0 ≡ fault n p) → fault 13 0 ≡ (f orElse fault 13 0)
+      go fine h = refl
+      go (fault n p) h = h n p refl
+
+  pub some-left : left ≢ 0 → ruleFault b ≡ (ruleFault b orElse faultIf (eqb left 0) 13 0)
+  some-left u = rw (ne-eqb left 0 u) (go (ruleFault b))
+    where
+      go : (f : Fault) → f ≡ (f orElse fine)
+      go fine = refl
+      go (fault n p) = refl
 
 -- two numbers more in the lent memory
 pub length-two : (out : List ℕ) (i j s e : ℕ) → length (set (set out i s) j e) ≡ length out

@@ -11,7 +11,7 @@ use Rattle.scope.specs.Answers.{Answer, Answer.refused, verdictAnswer}
 use Rattle.scope.specs.Shared.{asOwned, askedFor, verdictFor}
 use Rattle.scope.specs.Examples.{X, XShared}
 use Rattle.scope.specs.Computing.{everything}
-use Rattle.theory.specs.Alone.{Entry, verdict-entry}
+use Rattle.theory.specs.Alone.{Entry, Alike, verdict-entry}
 use Rattle.theory.specs.Shortest.{Known, verdict-known, Twelve, exactly-twelve, smaller-answer}
 use Rattle.theory.specs.Applied.{w6}
 use Rattle.tables.specs.declared.board.Board.{Board}
@@ -32,10 +32,10 @@ module _ {R A : Type 0} (told : R → Answer A) (by : Refusal → R) (tells : (r
         λ t. determined x (by (Sliver p)) (promised ∙ twelve .1 t ∙ sym (tells (Sliver p))),
       )
 
-  pub smaller-answered : Entry refused entry → (c : Board) → b .frame ≡ c .frame → b .owner ≡ c .owner → 1 ≤ c .shortest → c .shortest ≤ b .shortest →
+  pub smaller-answered : Entry refused entry → (c : Board) → Alike (boardOf b) (boardOf c) → b .owner ≡ c .owner → 1 ≤ c .shortest → c .shortest ≤ b .shortest →
       ((p : ℕ) → x ≡ by (Sliver p) → ⊥) → (y : R) → told y ≡ askedFor teams (boardOf c) ws refused (entry (boardOf c)) → x ≡ y
-  smaller-answered is c framed owner least less spared y promised′ =
-      determined x y (promised ∙ smaller-answer teams (boardOf b) (boardOf c) ws framed owner least less is
+  smaller-answered is c alike owner least less spared y promised′ =
+      determined x y (promised ∙ smaller-answer teams (boardOf b) (boardOf c) ws alike owner least less is
       (λ p e. spared p (determined x (by (Sliver p)) (promised ∙ e ∙ sym (tells (Sliver p))))) ∙ sym promised′)
 
 -- of `verdict`, whatever the group
@@ -45,7 +45,7 @@ module _ (b : Board) (ws ts : List ℕ) (v : Verdict) (promised : toldVerdict v 
   verdict-sliver =
       sliver-answered toldVerdict Refused (λ r. refl) verdict-determined (λ d l. verdictAnswer d l ts) b (verdict-known (boardOf b) ts) ws v promised
 
-  pub verdict-smaller : (c : Board) → b .frame ≡ c .frame → b .owner ≡ c .owner → 1 ≤ c .shortest → c .shortest ≤ b .shortest →
+  pub verdict-smaller : (c : Board) → Alike (boardOf b) (boardOf c) → b .owner ≡ c .owner → 1 ≤ c .shortest → c .shortest ≤ b .shortest →
       ((p : ℕ) → v ≡ Refused (Sliver p) → ⊥) → (w : Verdict) → toldVerdict w ≡ verdictFor (boardOf c) ws ts → v ≡ w
   unfolding verdictFor
   verdict-smaller =
@@ -54,7 +54,7 @@ module _ (b : Board) (ws ts : List ℕ) (v : Verdict) (promised : toldVerdict v 
 -- ---- at X, whose windows have two ticks each, and the rest of its frame as owner 1's, who has one of one tick, window 3
 
 abbrev board : ℕ → Board
-board m = record { frame = 8; owner = 0; shortest = m }
+board m = record { frame = 8; owner = 0; shortest = m; rule = 1; lost = 0 }
 
 x-refused : (v : Verdict) → toldVerdict v ≡ verdictFor (boardOf (board 2)) XShared w6 → Twelve teams (boardOf (board 2)) XShared 3
 unfolding everything
@@ -66,6 +66,6 @@ unfolding everything
 x-smaller v w told told′ =
     let is : v ≡ Miss 6 2 3 2 = verdict-determined v (Miss 6 2 3 2) told in
     let same : v ≡ w =
-    verdict-smaller (board 2) (asOwned 0 X) w6 v told (board 1) refl refl (omega arith) (omega arith)
+    verdict-smaller (board 2) (asOwned 0 X) w6 v told (board 1) (record { frame = refl; rule = refl; lost = refl }) refl (omega arith) (omega arith)
     (λ p e. let z : Miss 6 2 3 2 ≡ Refused (Sliver p) = sym is ∙ e in let n : _≡_ {A = ℕ} 0 1 = cc in omega arith) w told′ in
     (same, sym same ∙ is)

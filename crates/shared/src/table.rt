@@ -1,21 +1,24 @@
-// A table that teams share, in threes of start, end and owner: its checks, and the windows of the owner that is asked for. Document 02, requests 4 and 5.
+// A table that teams share, in threes of start, end and owner: its checks, and what is left of the windows of the owner that is asked for. Document 02,
+// requests 4, 5 and 7.
 use tables::answer::Amount;
 use tables::answer::Checked;
 use tables::answer::Refusal;
 use tables::answer::refuse;
 use tables::board::Board;
 use tables::board::check_frame;
+use tables::board::check_rule;
 use tables::board::check_shortest;
 use tables::window::MadeWindow;
 use tables::window::Window;
 use tables::window::check_list;
 ghost use mathlib.Core.Path.{_≡_};
-ghost use Prim.Native.Nat.{_≤_};
-ghost use lib.Dec.{eqb};
+ghost use mathlib.Core.Bool.{_&&_};
+ghost use Prim.Native.Nat.{_-_, _≤_};
+ghost use lib.Dec.{ltb, eqb};
 ghost use lib.ListN.{length};
 ghost use Rattle.scope.specs.Numbers.{written};
-ghost use Rattle.scope.specs.Answers.{Fault.fine, faultIf, faultAt};
-ghost use Rattle.scope.specs.Shared.{owned, ownedOf, ownedAt, own, follows, ownedLegal, ownedFault, ownedAnswer, wholeFault};
+ghost use Rattle.scope.specs.Answers.{Fault.fine, faultIf, faultAt, _orElse_, ruleFault};
+ghost use Rattle.scope.specs.Shared.{owned, ownedOf, ownedAt, own, ownLeft, absentOwnerFault, follows, ownedLegal, ownedFault, ownedAnswer, wholeFault};
 ghost use Rattle.scope.specs.Shared.{sliver, firstSliver, sliverFault};
 ghost use Rattle.scope.specs.Shared.{sharedFault, ownAnswer, ownOut, asOwned, asOwnedAnswer, asOwnedOut};
 ghost use Rattle.tables.specs.Told.{boardOf, faultOf, toldAmount};
@@ -40,7 +43,7 @@ impl Owned {
     pub fn new(owners: u32, board: Board, start: u32, end: u32, owner: u32) -> MadeOwned
         ensures { λ r. ⌜ toldOwned r ≡ ownedAnswer owners (boardOf board) (owned start end owner) ⌝ }
     {
-        match Window::new(board, start, end) {
+        match Window::new(board.frame, start, end) {
             MadeWindow::Refused(_) => MadeOwned::Refused(Refusal::Window(0)),
             MadeWindow::Is(window) => {
                 if owners <= owner {
@@ -64,15 +67,31 @@ impl Owned {
         end < start
     }
 
+    // The ticks of the window: none where it ends no later than it starts.
+    fn ticks(self) -> u32
+        ensures { λ r. ⌜ r ≡ self .window .end - self .window .start ⌝ }
+    {
+        let start = self.window.start;
+        let end = self.window.end;
+        if end <= start { 0 } else { end - start }
+    }
+
     // Whether the window is shorter than the board allows.
     fn is_sliver(self, board: Board) -> bool
         ensures { λ r. ⌜ r ≡ sliver (boardOf board) (ownedBy self) ⌝ }
     {
-        let start = self.window.start;
-        let end = self.window.end;
-        let shortest = board.shortest;
-        let ticks = if start <= end { end - start } else { 0 };
-        ticks < shortest
+        self.ticks() < board.shortest
+    }
+
+    // Whether the window is the asked owner's and has a tick left.
+    fn is_left(self, board: Board) -> bool
+        ensures { λ r. ⌜ r ≡ (eqb (self .owner) (board .owner) && ltb (board .lost) (self .window .end - self .window .start)) ⌝ }
+    {
+        let owner = board.owner;
+        if self.owner != owner {
+            return false;
+        }
+        board.lost < self.ticks()
     }
 }
 
@@ -138,7 +157,7 @@ fn check_whole(owners: u32, board: Board, windows: &[u32]) -> Checked
     ensures { λ r. ⌜ faultOf r ≡ wholeFault owners (boardOf board) (now (windows .entry)) ⌝ }
 {
     let list = check_list(windows, 3);
-    let frame = check_frame(board);
+    let frame = check_frame(board.frame);
     let each = check_owned(owners, board, windows);
     list.or_else(frame.or_else(each))
 }
@@ -161,14 +180,45 @@ fn count_own(board: Board, windows: &[u32]) -> usize
     numbers
 }
 
-// Refusal 1 of an owner whose windows have so many numbers: none. An owner that does not exist has none in a list that keeps rule 3.
-fn check_present(numbers: usize) -> Checked
-    ensures { λ r. ⌜ faultOf r ≡ faultIf (eqb numbers 0) 1 0 ⌝ }
+// How many numbers what is left of these windows has, in pairs.
+fn count_left(board: Board, windows: &[u32]) -> usize
+    ensures { λ r. ⌜ r ≡ length (ownLeft (boardOf board) (now (windows .entry))) ⌝ }
 {
-    if numbers == 0 {
+    let count = windows.len() / 3;
+    let mut numbers = 0;
+    let mut i = 0;
+    while i < count {
+        let window = owned_at(windows, i);
+        if window.is_left(board) {
+            numbers += 2;
+        }
+        i += 1;
+    }
+    numbers
+}
+
+// Refusal 1 of an owner that has no window. One that has something left has a window; one that does not exist has none in a list that keeps rule 3.
+fn check_present(board: Board, windows: &[u32], left: usize) -> Checked
+    requires { ⌜ left ≡ length (ownLeft (boardOf board) (now windows)) ⌝ }
+    ensures { λ r. ⌜ faultOf r ≡ absentOwnerFault (boardOf board) (now (windows .entry)) ⌝ }
+{
+    if left != 0 {
+        return Checked::Fine;
+    }
+    if count_own(board, windows) == 0 {
         return Checked::Bad(Refusal::WindowList);
     }
     Checked::Fine
+}
+
+// Refusal 13, where what is left of the owner's windows has so many numbers.
+fn check_left(board: Board, left: usize) -> Checked
+    ensures { λ r. ⌜ faultOf r ≡ (ruleFault (boardOf board) orElse faultIf (eqb left 0) 13 0) ⌝ }
+{
+    if left == 0 {
+        return Checked::Bad(Refusal::Loss);
+    }
+    check_rule(board)
 }
 
 // Refusal 12 of a window that is shorter than the board allows, at the lowest index of the whole list.
@@ -201,16 +251,21 @@ fn check_slivers(owners: u32, board: Board, windows: &[u32]) -> Checked
     range.or_else(each)
 }
 
-// The refusals of a table, in this order: 1, 2 and 3 of the whole list, 1 of an absent owner, 12. How many numbers the owner's windows have is counted before.
-fn check_counted(owners: u32, board: Board, windows: &[u32], numbers: usize) -> Checked
-    requires { ⌜ numbers ≡ length (own (boardOf board) (now windows)) ⌝ }
+// The refusals of a table, in this order: 1, 2 and 3 of the whole list, 1 of an absent owner, 12, 13. How many numbers are left of the owner's windows is
+// counted before.
+fn check_counted(owners: u32, board: Board, windows: &[u32], left: usize) -> Checked
+    requires { ⌜ left ≡ length (ownLeft (boardOf board) (now windows)) ⌝ }
     ensures { λ r. ⌜ faultOf r ≡ sharedFault owners (boardOf board) (now (windows .entry)) ⌝ }
 {
     let whole = check_whole(owners, board, windows);
-    let owner = check_present(numbers);
+    let owner = check_present(board, windows, left);
     match whole.or_else(owner) {
         Checked::Bad(r) => Checked::Bad(r),
-        Checked::Fine => check_slivers(owners, board, windows),
+        Checked::Fine => {
+            let slivers = check_slivers(owners, board, windows);
+            let loss = check_left(board, left);
+            slivers.or_else(loss)
+        }
     }
 }
 
@@ -218,23 +273,23 @@ fn check_counted(owners: u32, board: Board, windows: &[u32], numbers: usize) -> 
 pub(crate) fn check_shared(owners: u32, board: Board, windows: &[u32]) -> Checked
     ensures { λ r. ⌜ faultOf r ≡ sharedFault owners (boardOf board) (now (windows .entry)) ⌝ }
 {
-    let numbers = count_own(board, windows);
-    check_counted(owners, board, windows, numbers)
+    let left = count_left(board, windows);
+    check_counted(owners, board, windows, left)
 }
 
-// Writes the windows of the asked owner at the front of out, in pairs.
+// Writes what is left of the asked owner's windows at the front of out, in pairs.
 fn gather(board: Board, windows: &[u32], out: &mut [u32])
-    requires { ⌜ length (own (boardOf board) (now windows)) ≤ length (now out) ⌝ }
-    ensures { λ _. ⌜ now (out .exit) ≡ written (own (boardOf board) (now (windows .entry))) (now (out .entry)) ⌝ }
+    requires { ⌜ length (ownLeft (boardOf board) (now windows)) ≤ length (now out) ⌝ }
+    ensures { λ _. ⌜ now (out .exit) ≡ written (ownLeft (boardOf board) (now (windows .entry))) (now (out .entry)) ⌝ }
 {
-    let owner = board.owner;
+    let lost = board.lost;
     let count = windows.len() / 3;
     let mut at = 0;
     let mut i = 0;
     while i < count {
         let here = owned_at(windows, i);
-        if here.owner == owner {
-            out[at] = here.window.start;
+        if here.is_left(board) {
+            out[at] = lost + here.window.start;
             out[at + 1] = here.window.end;
             at += 2;
         }
@@ -242,20 +297,21 @@ fn gather(board: Board, windows: &[u32], out: &mut [u32])
     }
 }
 
-// The windows of the asked owner, in pairs, at the front of out: how many numbers they have. Refusals: a table's, then 8.
+// What is left of the asked owner's windows, in pairs, at the front of out: how many numbers it has. Whoever goes on with these pairs in the board's frame
+// need not know of owner or loss (theory/Lent, `asked-taken`). Refusals: a table's, then 8.
 pub fn own_windows(owners: u32, board: Board, windows: &[u32], out: &mut [u32]) -> Amount
     ensures answer { λ r. ⌜ toldAmount r ≡ ownAnswer owners (boardOf board) (now (windows .entry)) (length (now (out .entry))) ⌝ }
     ensures buffer { λ _. ⌜ now (out .exit) ≡ ownOut owners (boardOf board) (now (windows .entry)) (now (out .entry)) ⌝ }
 {
-    let numbers = count_own(board, windows);
-    match check_counted(owners, board, windows, numbers) {
+    let left = count_left(board, windows);
+    match check_counted(owners, board, windows, left) {
         Checked::Bad(r) => refuse(r, out),
         Checked::Fine => {
-            if out.len() < numbers {
-                refuse(Refusal::Room(numbers as u64), out)
+            if out.len() < left {
+                refuse(Refusal::Room(left as u64), out)
             } else {
                 gather(board, windows, out);
-                Amount::Of(numbers as u64)
+                Amount::Of(left as u64)
             }
         }
     }

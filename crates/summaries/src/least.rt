@@ -1,7 +1,6 @@
 // The least supply as the numbers of a summary tell it: A for each whole frame, and of the rest what the critical windows have of it.
 use tables::answer::Amount;
 use tables::answer::Checked;
-use tables::board::Board;
 use tables::board::check_frame;
 use tables::length::check_length;
 use tables::number::lesser;
@@ -9,9 +8,9 @@ ghost use mathlib.Core.Path.{_≡_};
 ghost use Prim.Native.Nat.{_+_, _-_, _*_, _^_, _<_, _≤_, min};
 ghost use lib.ListN.{length, getD};
 ghost use Rattle.scope.specs.Limits.{mostFrame, mostLength};
-ghost use Rattle.scope.specs.Windows.{windowsOf};
+ghost use Rattle.scope.specs.Windows.{framed, windowsOf};
 ghost use Rattle.scope.specs.Summary.{windowsIn, ticksBefore, leastFrom};
-ghost use Rattle.tables.specs.Told.{boardOf, toldAmount};
+ghost use Rattle.tables.specs.Told.{toldAmount};
 ghost use Rattle.summaries.specs.Least.{mostTicks, fromAnswer};
 
 // The ticks of a window before tick r: none where it ends no later than it starts.
@@ -90,15 +89,15 @@ fn sum_from(frame: u32, summary: &[u32], length: u32) -> u64
 }
 
 // The least supply of a length as a summary's numbers tell it, whatever they are. Refusals 2 7.
-pub fn least_from(board: Board, summary: &[u32], length: u32) -> Amount
-    ensures { λ r. ⌜ toldAmount r ≡ fromAnswer (boardOf board) (now (summary .entry)) length ⌝ }
+pub fn least_from(frame: u32, summary: &[u32], length: u32) -> Amount
+    ensures { λ r. ⌜ toldAmount r ≡ fromAnswer (framed frame) (now (summary .entry)) length ⌝ }
 {
-    let framed = check_frame(board);
+    let framed = check_frame(frame);
     let asked = check_length(length);
     match framed.or_else(asked) {
         Checked::Bad(r) => Amount::Refused(r),
         Checked::Fine => {
-            let least = sum_from(board.frame, summary, length);
+            let least = sum_from(frame, summary, length);
             Amount::Of(least)
         }
     }

@@ -11,6 +11,7 @@ use tables::board::Board;
 use tables::window::Window;
 ghost use mathlib.Core.Path.{_≡_};
 ghost use lib.ListN.{length};
+ghost use Rattle.scope.specs.Windows.{framed};
 ghost use Rattle.scope.specs.Summary.{leastFromAnswer, makeFor, makeOutFor, leastFromFor};
 ghost use Rattle.tables.specs.Told.{boardOf, toldAmount};
 
@@ -22,17 +23,17 @@ pub fn make_summary(board: Board, windows: &[u32], out: &mut [u32]) -> Amount
     let mut own = [0; 2 * Window::MOST];
     match own_windows(Owned::TEAMS, board, windows, &mut own) {
         Amount::Refused(r) => refuse(r, out),
-        Amount::Of(n) => make_in(board, &own[..n as usize], out),
+        Amount::Of(n) => make_in(board.frame, &own[..n as usize], out),
     }
 }
 
 // The least supply of a length on a list of windows in pairs, from its summary. Refusals 1 2 3 14 7.
-fn least_from_in(board: Board, windows: &[u32], summary: &[u32], length: u32) -> Amount
-    ensures { λ r. ⌜ toldAmount r ≡ leastFromAnswer (boardOf board) (now (windows .entry)) (now (summary .entry)) length ⌝ }
+fn least_from_in(frame: u32, windows: &[u32], summary: &[u32], length: u32) -> Amount
+    ensures { λ r. ⌜ toldAmount r ≡ leastFromAnswer (framed frame) (now (windows .entry)) (now (summary .entry)) length ⌝ }
 {
-    match check_summary(board, windows, summary) {
+    match check_summary(frame, windows, summary) {
         Checked::Bad(r) => Amount::Refused(r),
-        Checked::Fine => least_from(board, summary, length),
+        Checked::Fine => least_from(frame, summary, length),
     }
 }
 
@@ -43,6 +44,6 @@ pub fn least_supply(board: Board, windows: &[u32], summary: &[u32], length: u32)
     let mut own = [0; 2 * Window::MOST];
     match own_windows(Owned::TEAMS, board, windows, &mut own) {
         Amount::Refused(r) => Amount::Refused(r),
-        Amount::Of(n) => least_from_in(board, &own[..n as usize], summary, length),
+        Amount::Of(n) => least_from_in(board.frame, &own[..n as usize], summary, length),
     }
 }

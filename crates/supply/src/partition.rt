@@ -14,7 +14,7 @@ ghost use Prim.Native.Nat.{_+_, _-_, _*_, _≤_, max};
 ghost use lib.ListN.{length};
 ghost use Rattle.scope.specs.Limits.{mostFrame};
 ghost use Rattle.scope.specs.Ticks.{perFrame};
-ghost use Rattle.scope.specs.Windows.{suppliedBy};
+ghost use Rattle.scope.specs.Windows.{framed, suppliedBy};
 ghost use Rattle.scope.specs.Answers.{Fault.fine, tableFault, criticalOf, criticalAnswer, criticalOut, delayAnswer};
 ghost use Rattle.scope.specs.Shared.{criticalFor, criticalOutFor, delayFor};
 ghost use Rattle.theory.specs.Answers.{LegalTable};
@@ -74,17 +74,16 @@ fn lag_with(whole: u32, t: u32, frame: u32, least: u32) -> u64
 
 // One pass over the pieces of a frame. The lag is greatest at an end of a piece.
 pub(crate) fn measured(
-    board: Board,
+    frame: u32,
     windows: &[u32],
     whole: u32,
     held: &[u32],
     from: usize,
 ) -> Measure
-    requires { ⌜ LegalTable (boardOf board) (now windows) × (from ≤ 3)
-        × (whole ≡ perFrame (suppliedBy (boardOf board) (now windows)) (board .frame)) ⌝ }
-    ensures { λ r. ⌜ Measured (boardOf board) (now (windows .entry)) (now (held .entry)) from r ⌝ }
+    requires { ⌜ LegalTable (framed frame) (now windows) × (from ≤ 3)
+        × (whole ≡ perFrame (suppliedBy (framed frame) (now windows)) (frame)) ⌝ }
+    ensures { λ r. ⌜ Measured (framed frame) (now (windows .entry)) (now (held .entry)) from r ⌝ }
 {
-    let frame = board.frame;
     let mut met = Met {
         count: 0,
         same: true,
@@ -94,7 +93,7 @@ pub(crate) fn measured(
     let mut least = 0;
     let mut t = 0;
     while t < frame {
-        let piece = piece_from(board, windows, t, least);
+        let piece = piece_from(frame, windows, t, least);
         let rising = piece.rising;
         met = edge_met(met, held, from, rising != before, t);
         before = rising;
@@ -112,17 +111,16 @@ pub(crate) fn measured(
 }
 
 // Writes the critical partition after the first `from` numbers of out.
-pub(crate) fn write_edges(board: Board, windows: &[u32], from: usize, out: &mut [u32])
-    requires { ⌜ LegalTable (boardOf board) (now windows) × (from + length (criticalOf (boardOf board) (now windows)) ≤ length (now out)) ⌝ }
-    ensures { λ _. ⌜ now (out .exit) ≡ writtenAfter from (now (out .entry)) (criticalOf (boardOf board) (now (windows .entry))) ⌝ }
+pub(crate) fn write_edges(frame: u32, windows: &[u32], from: usize, out: &mut [u32])
+    requires { ⌜ LegalTable (framed frame) (now windows) × (from + length (criticalOf (framed frame) (now windows)) ≤ length (now out)) ⌝ }
+    ensures { λ _. ⌜ now (out .exit) ≡ writtenAfter from (now (out .entry)) (criticalOf (framed frame) (now (windows .entry))) ⌝ }
 {
-    let frame = board.frame;
     let mut at = from;
     let mut before = false;
     let mut least = 0;
     let mut t = 0;
     while t < frame {
-        let piece = piece_from(board, windows, t, least);
+        let piece = piece_from(frame, windows, t, least);
         let rising = piece.rising;
         if rising != before {
             out[at] = t;
@@ -138,19 +136,19 @@ pub(crate) fn write_edges(board: Board, windows: &[u32], from: usize, out: &mut 
 }
 
 // The critical partition of a legal list of windows: how many windows; two numbers a window at the front of out, the rest of out kept. Refusal 8.
-fn critical_on(board: Board, windows: &[u32], out: &mut [u32]) -> Amount
-    requires { ⌜ tableFault (boardOf board) (now windows) ≡ fine ⌝ }
-    ensures answer { λ r. ⌜ toldAmount r ≡ criticalAnswer (boardOf board) (now (windows .entry)) (length (now (out .entry))) ⌝ }
-    ensures buffer { λ r. ⌜ now (out .exit) ≡ criticalOut (boardOf board) (now (windows .entry)) (now (out .entry)) ⌝ }
+fn critical_on(frame: u32, windows: &[u32], out: &mut [u32]) -> Amount
+    requires { ⌜ tableFault (framed frame) (now windows) ≡ fine ⌝ }
+    ensures answer { λ r. ⌜ toldAmount r ≡ criticalAnswer (framed frame) (now (windows .entry)) (length (now (out .entry))) ⌝ }
+    ensures buffer { λ r. ⌜ now (out .exit) ≡ criticalOut (framed frame) (now (windows .entry)) (now (out .entry)) ⌝ }
 {
-    let whole = least_at_ends(board, windows, 0).whole;
-    let measure = measured(board, windows, whole, &windows[..0], 0);
+    let whole = least_at_ends(frame, windows, 0).whole;
+    let measure = measured(frame, windows, whole, &windows[..0], 0);
     let numbers = measure.numbers as u64;
     let count = numbers / 2;
     if (out.len() as u64) < numbers {
         refuse(Refusal::Room(numbers), out)
     } else {
-        write_edges(board, windows, 0, out);
+        write_edges(frame, windows, 0, out);
         Amount::Of(count)
     }
 }
@@ -163,17 +161,17 @@ pub fn critical(board: Board, windows: &[u32], out: &mut [u32]) -> Amount
     let mut own = [0; 2 * Window::MOST];
     match own_windows(Owned::TEAMS, board, windows, &mut own) {
         Amount::Refused(r) => refuse(r, out),
-        Amount::Of(n) => critical_on(board, &own[..n as usize], out),
+        Amount::Of(n) => critical_on(board.frame, &own[..n as usize], out),
     }
 }
 
 // The delay of a legal list of windows, with A beside it.
-fn delay_on(board: Board, windows: &[u32]) -> Delay
-    requires { ⌜ tableFault (boardOf board) (now windows) ≡ fine ⌝ }
-    ensures { λ r. ⌜ toldDelay r ≡ delayAnswer (boardOf board) (now (windows .entry)) ⌝ }
+fn delay_on(frame: u32, windows: &[u32]) -> Delay
+    requires { ⌜ tableFault (framed frame) (now windows) ≡ fine ⌝ }
+    ensures { λ r. ⌜ toldDelay r ≡ delayAnswer (framed frame) (now (windows .entry)) ⌝ }
 {
-    let per_frame = least_at_ends(board, windows, 0).whole;
-    let measure = measured(board, windows, per_frame, &windows[..0], 0);
+    let per_frame = least_at_ends(frame, windows, 0).whole;
+    let measure = measured(frame, windows, per_frame, &windows[..0], 0);
     let delay = measure.delay as u64;
     Delay::Of { delay, per_frame }
 }
@@ -185,6 +183,6 @@ pub fn delay(board: Board, windows: &[u32]) -> Delay
     let mut own = [0; 2 * Window::MOST];
     match own_windows(Owned::TEAMS, board, windows, &mut own) {
         Amount::Refused(r) => Delay::Refused(r),
-        Amount::Of(n) => delay_on(board, &own[..n as usize]),
+        Amount::Of(n) => delay_on(board.frame, &own[..n as usize]),
     }
 }

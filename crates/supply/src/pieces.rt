@@ -6,16 +6,14 @@ use crate::row::moved;
 use crate::row::ticks_after;
 use crate::row::upto;
 use crate::supply::start_after;
-use tables::board::Board;
 use tables::number::larger;
 use tables::number::lesser;
 use tables::window::window_at;
 ghost use mathlib.Core.Path.{_≡_};
 ghost use Prim.Native.Nat.{_+_, _<_, _^_};
 ghost use Rattle.scope.specs.Ticks.{leastSupply};
-ghost use Rattle.scope.specs.Windows.{suppliedBy};
+ghost use Rattle.scope.specs.Windows.{framed, suppliedBy};
 ghost use Rattle.theory.specs.Answers.{LegalTable};
-ghost use Rattle.tables.specs.Told.{boardOf};
 ghost use Rattle.supply.specs.Ahead.{joinedOf, Foreseen, Told};
 
 // What lies ahead of a length: the least supply stays for `flat` lengths or, where that is none, rises at each of `rise`.
@@ -59,12 +57,11 @@ fn joined(ahead: Ahead, ticks: Ticks, over: u32) -> Ahead
 }
 
 // What lies ahead of length t, whose least supply is `least`, over the starts where a window ends.
-fn ahead_of(board: Board, windows: &[u32], t: u32, least: u32) -> Ahead
-    requires { ⌜ LegalTable (boardOf board) (now windows) × (t < board .frame)
-        × (least ≡ leastSupply (suppliedBy (boardOf board) (now windows)) (board .frame) t) ⌝ }
-    ensures { λ r. ⌜ Foreseen (boardOf board) (now (windows .entry)) t r ⌝ }
+fn ahead_of(frame: u32, windows: &[u32], t: u32, least: u32) -> Ahead
+    requires { ⌜ LegalTable (framed frame) (now windows) × (t < frame)
+        × (least ≡ leastSupply (suppliedBy (framed frame) (now windows)) (frame) t) ⌝ }
+    ensures { λ r. ⌜ Foreseen (framed frame) (now (windows .entry)) t r ⌝ }
 {
-    let frame = board.frame;
     let count = windows.len() / 2;
     let mut ahead = Ahead {
         flat: 0,
@@ -77,7 +74,7 @@ fn ahead_of(board: Board, windows: &[u32], t: u32, least: u32) -> Ahead
         let window = window_at(windows, i);
         let start = start_after(window, earlier);
         let end = start.tick + t;
-        position = moved(board, windows, position, end);
+        position = moved(frame, windows, position, end);
         let ticks = ticks_after(windows, position, end);
         let supply = upto(windows, position, end) - start.before;
         ahead = joined(ahead, ticks, supply - least);
@@ -88,12 +85,12 @@ fn ahead_of(board: Board, windows: &[u32], t: u32, least: u32) -> Ahead
 }
 
 // The piece from length t on, whose least supply is `least`.
-pub(crate) fn piece_from(board: Board, windows: &[u32], t: u32, least: u32) -> Piece
-    requires { ⌜ LegalTable (boardOf board) (now windows) × (t < board .frame)
-        × (least ≡ leastSupply (suppliedBy (boardOf board) (now windows)) (board .frame) t) ⌝ }
-    ensures { λ r. ⌜ Told (suppliedBy (boardOf board) (now (windows .entry))) (board .frame) t r ⌝ }
+pub(crate) fn piece_from(frame: u32, windows: &[u32], t: u32, least: u32) -> Piece
+    requires { ⌜ LegalTable (framed frame) (now windows) × (t < frame)
+        × (least ≡ leastSupply (suppliedBy (framed frame) (now windows)) (frame) t) ⌝ }
+    ensures { λ r. ⌜ Told (suppliedBy (framed frame) (now (windows .entry))) (frame) t r ⌝ }
 {
-    let ahead = ahead_of(board, windows, t, least);
+    let ahead = ahead_of(frame, windows, t, least);
     let flat = ahead.flat;
     if flat == 0 {
         let n = ahead.rise;
@@ -103,7 +100,7 @@ pub(crate) fn piece_from(board: Board, windows: &[u32], t: u32, least: u32) -> P
             least: least + n,
         };
     }
-    let n = lesser(flat, board.frame - t);
+    let n = lesser(flat, frame - t);
     Piece {
         rising: false,
         end: t + n,

@@ -1,12 +1,11 @@
 // The endless row of windows, frame after frame, and how many ticks are supplied before a tick of it.
-use tables::board::Board;
 use tables::window::Window;
 ghost use mathlib.Core.Path.{_≡_};
 ghost use Prim.Native.Nat.{_+_, _-_, _*_, _/_, _<_, _≤_};
 ghost use lib.ListN.{length};
 ghost use Rattle.scope.specs.Limits.{mostFrame};
-ghost use Rattle.scope.specs.Windows.{windowsOf, windowAt};
-ghost use Rattle.tables.specs.Told.{boardOf, windowOf};
+ghost use Rattle.scope.specs.Windows.{framed, windowsOf, windowAt};
+ghost use Rattle.tables.specs.Told.{windowOf};
 ghost use Rattle.supply.specs.Positions.{first, opens, closes, following, ticksFrom, Stands, Behind};
 
 // Window `index` of the frame that begins at tick `base`, with the supplied ticks before that window.
@@ -49,11 +48,10 @@ fn end_at(windows: &[u32], position: Position) -> u32
 }
 
 // The position of the next window: after the last one of a frame comes the first of the next frame.
-fn next(board: Board, windows: &[u32], position: Position) -> Position
-    requires { ⌜ Stands (boardOf board) (now windows) position ⌝ }
-    ensures { λ r. ⌜ r ≡ following (boardOf board) (now (windows .entry)) position ⌝ }
+fn next(frame: u32, windows: &[u32], position: Position) -> Position
+    requires { ⌜ Stands (framed frame) (now windows) position ⌝ }
+    ensures { λ r. ⌜ r ≡ following (framed frame) (now (windows .entry)) position ⌝ }
 {
-    let frame = board.frame;
     let base = position.base;
     let index = position.index;
     let earlier = position.before;
@@ -74,13 +72,13 @@ fn next(board: Board, windows: &[u32], position: Position) -> Position
 }
 
 // On to the first window that ends after tick x. The ends rise, whatever a window gives.
-pub(crate) fn moved(board: Board, windows: &[u32], position: Position, x: u32) -> Position
-    requires { ⌜ Behind (boardOf board) (now windows) position x × (x ≤ 2 * mostFrame) ⌝ }
-    ensures { λ r. ⌜ Behind (boardOf board) (now (windows .entry)) r x × (x < closes (now (windows .entry)) r) ⌝ }
+pub(crate) fn moved(frame: u32, windows: &[u32], position: Position, x: u32) -> Position
+    requires { ⌜ Behind (framed frame) (now windows) position x × (x ≤ 2 * mostFrame) ⌝ }
+    ensures { λ r. ⌜ Behind (framed frame) (now (windows .entry)) r x × (x < closes (now (windows .entry)) r) ⌝ }
 {
     let mut at = position;
     while end_at(windows, at) <= x {
-        at = next(board, windows, at);
+        at = next(frame, windows, at);
     }
     at
 }

@@ -17,7 +17,7 @@ ghost use mathlib.Core.Path.{_≡_};
 ghost use Prim.Native.Nat.{_+_, _-_, _≤_};
 ghost use Rattle.scope.specs.Limits.{mostFrame, mostLength};
 ghost use Rattle.scope.specs.Ticks.{perFrame, leastSupply};
-ghost use Rattle.scope.specs.Windows.{suppliedBy};
+ghost use Rattle.scope.specs.Windows.{framed, suppliedBy};
 ghost use Rattle.scope.specs.Answers.{Fault.fine, tableFault, leastSupplyAnswer};
 ghost use Rattle.scope.specs.Shared.{suppliedFor, leastSupplyFor};
 ghost use Rattle.theory.specs.Answers.{LegalTable};
@@ -47,10 +47,10 @@ pub(crate) fn start_after(window: Window, earlier: u32) -> Start
 
 // The least supply of a length of at most a frame, over the starts where a window ends. Both ends of the stretch only move forward: what is supplied
 // before its start is the sum of the windows so far, what is supplied before its end is told by a position in the row.
-pub(crate) fn least_at_ends(board: Board, windows: &[u32], length: u32) -> Least
-    requires { ⌜ LegalTable (boardOf board) (now windows) × (length ≤ board .frame) ⌝ }
-    ensures { λ r. ⌜ (r .supply ≡ leastSupply (suppliedBy (boardOf board) (now (windows .entry))) (board .frame) length)
-        × (r .whole ≡ perFrame (suppliedBy (boardOf board) (now (windows .entry))) (board .frame)) ⌝ }
+pub(crate) fn least_at_ends(frame: u32, windows: &[u32], length: u32) -> Least
+    requires { ⌜ LegalTable (framed frame) (now windows) × (length ≤ frame) ⌝ }
+    ensures { λ r. ⌜ (r .supply ≡ leastSupply (suppliedBy (framed frame) (now (windows .entry))) (frame) length)
+        × (r .whole ≡ perFrame (suppliedBy (framed frame) (now (windows .entry))) (frame)) ⌝ }
 {
     let count = windows.len() / 2;
     let mut least = length;
@@ -61,7 +61,7 @@ pub(crate) fn least_at_ends(board: Board, windows: &[u32], length: u32) -> Least
         let window = window_at(windows, i);
         let start = start_after(window, earlier);
         let end = start.tick + length;
-        position = moved(board, windows, position, end);
+        position = moved(frame, windows, position, end);
         least = lesser(least, upto(windows, position, end) - start.before);
         earlier += window.end - window.start;
         i += 1;
@@ -73,36 +73,35 @@ pub(crate) fn least_at_ends(board: Board, windows: &[u32], length: u32) -> Least
 }
 
 // The least supply of a length: A for each whole frame, and the least supply of the rest.
-fn least_of(board: Board, windows: &[u32], length: u32) -> u32
-    requires { ⌜ LegalTable (boardOf board) (now windows) × (length ≤ mostLength) ⌝ }
-    ensures { λ r. ⌜ r ≡ leastSupply (suppliedBy (boardOf board) (now (windows .entry))) (board .frame) length ⌝ }
+fn least_of(frame: u32, windows: &[u32], length: u32) -> u32
+    requires { ⌜ LegalTable (framed frame) (now windows) × (length ≤ mostLength) ⌝ }
+    ensures { λ r. ⌜ r ≡ leastSupply (suppliedBy (framed frame) (now (windows .entry))) (frame) length ⌝ }
 {
-    let frame = board.frame;
-    let rest = least_at_ends(board, windows, length % frame);
+    let rest = least_at_ends(frame, windows, length % frame);
     length / frame * rest.whole + rest.supply
 }
 
 // The least supply of a length on a legal list of windows. Refusal 7.
-fn least_on(board: Board, windows: &[u32], length: u32) -> Amount
-    requires { ⌜ tableFault (boardOf board) (now windows) ≡ fine ⌝ }
-    ensures { λ r. ⌜ toldAmount r ≡ leastSupplyAnswer (boardOf board) (now (windows .entry)) length ⌝ }
+fn least_on(frame: u32, windows: &[u32], length: u32) -> Amount
+    requires { ⌜ tableFault (framed frame) (now windows) ≡ fine ⌝ }
+    ensures { λ r. ⌜ toldAmount r ≡ leastSupplyAnswer (framed frame) (now (windows .entry)) length ⌝ }
 {
     match check_length(length) {
         Checked::Bad(r) => Amount::Refused(r),
         Checked::Fine => {
-            let least = least_of(board, windows, length);
+            let least = least_of(frame, windows, length);
             Amount::Of(least as u64)
         }
     }
 }
 
 // The least supply of a length on a list of windows in pairs, as one owner has it: what is asked over and over is asked so. Refusals 1 2 3 7.
-pub fn least_in(board: Board, windows: &[u32], length: u32) -> Amount
-    ensures { λ r. ⌜ toldAmount r ≡ leastSupplyAnswer (boardOf board) (now (windows .entry)) length ⌝ }
+pub fn least_in(frame: u32, windows: &[u32], length: u32) -> Amount
+    ensures { λ r. ⌜ toldAmount r ≡ leastSupplyAnswer (framed frame) (now (windows .entry)) length ⌝ }
 {
-    match check_table(board, windows) {
+    match check_table(frame, windows) {
         Checked::Bad(r) => Amount::Refused(r),
-        Checked::Fine => least_on(board, windows, length),
+        Checked::Fine => least_on(frame, windows, length),
     }
 }
 
@@ -113,7 +112,7 @@ pub fn supplied(board: Board, windows: &[u32], tick: u32) -> Supplied
     let mut own = [0; 2 * Window::MOST];
     match own_windows(Owned::TEAMS, board, windows, &mut own) {
         Amount::Refused(r) => Supplied::Refused(r),
-        Amount::Of(n) => Supplied::Is(is_on(board, &own[..n as usize], tick as u64)),
+        Amount::Of(n) => Supplied::Is(is_on(board.frame, &own[..n as usize], tick as u64)),
     }
 }
 
@@ -124,6 +123,6 @@ pub fn least_supply(board: Board, windows: &[u32], length: u32) -> Amount
     let mut own = [0; 2 * Window::MOST];
     match own_windows(Owned::TEAMS, board, windows, &mut own) {
         Amount::Refused(r) => Amount::Refused(r),
-        Amount::Of(n) => least_on(board, &own[..n as usize], length),
+        Amount::Of(n) => least_on(board.frame, &own[..n as usize], length),
     }
 }

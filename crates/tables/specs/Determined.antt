@@ -11,7 +11,7 @@ use Rattle.scope.specs.Summary as Summaries
 use Rattle.scope.specs.Answers as Answers
 use Rattle.scope.specs.Answers.{Fault, Fault.fine, Fault.fault, Answer, Answer.given, Answer.refused}
 use Rattle.tables.specs.declared.answer.Refusal.{Refusal}
-use Rattle.tables.specs.declared.answer.Refusal.the-variants.{WindowList, Frame, Window, TaskList, Task, Cycle, Asked, Room, Bytes, JobList, Job, Sliver, Summary}
+use Rattle.tables.specs.declared.answer.Refusal.the-variants.{WindowList, Frame, Window, TaskList, Task, Cycle, Asked, Room, Bytes, JobList, Job, Sliver, Loss, Summary}
 use Rattle.tables.specs.declared.answer.Checked.{Checked}
 use Rattle.tables.specs.declared.answer.Checked.the-variants.{Fine, Bad}
 use Rattle.tables.specs.declared.answer.Supplied as supplied
@@ -50,7 +50,8 @@ refusalOf n p =
     (cond (eqb n 10) JobList
     (cond (eqb n 11) (Job p)
     (cond (eqb n 12) (Sliver p)
-    Summary)))))))))))
+    (cond (eqb n 13) Loss
+    Summary))))))))))))
 
 pub refusal-back : (r : Refusal) → refusalOf (number r) (place r) ≡ r
 refusal-back WindowList = refl
@@ -65,6 +66,7 @@ refusal-back (Bytes o) = refl
 refusal-back JobList = refl
 refusal-back (Job i) = refl
 refusal-back (Sliver i) = refl
+refusal-back Loss = refl
 refusal-back Summary = refl
 
 abbrev checkedOf : Fault → Checked
@@ -161,7 +163,7 @@ task-determined = undone taskOf (λ x. record { work = x .C; period = x .T; dead
 -- ---- constructors' answers
 
 abbrev boardFrom : Windows.Board → madeBoard.MadeBoard
-boardFrom b = madeBoard.the-variants.Is (record { frame = b .frame; owner = b .owner; shortest = b .shortest })
+boardFrom b = madeBoard.the-variants.Is (record { frame = b .frame; owner = b .owner; shortest = b .shortest; rule = b .rule; lost = b .lost })
 
 pub made-board-determined : (a b : madeBoard.MadeBoard) → toldBoard a ≡ toldBoard b → a ≡ b
 made-board-determined = undone toldBoard (made boardFrom madeBoard.the-variants.Refused) back

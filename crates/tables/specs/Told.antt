@@ -10,7 +10,7 @@ use Rattle.scope.specs.Summary as Summaries
 use Rattle.scope.specs.Answers as Answers
 use Rattle.scope.specs.Answers.{Fault, Fault.fine, Fault.fault, Answer, Answer.given, Answer.refused}
 use Rattle.tables.specs.declared.answer.Refusal.{Refusal}
-use Rattle.tables.specs.declared.answer.Refusal.the-variants.{WindowList, Frame, Window, TaskList, Task, Cycle, Asked, Room, Bytes, JobList, Job, Sliver, Summary}
+use Rattle.tables.specs.declared.answer.Refusal.the-variants.{WindowList, Frame, Window, TaskList, Task, Cycle, Asked, Room, Bytes, JobList, Job, Sliver, Loss, Summary}
 use Rattle.tables.specs.declared.answer.Checked.{Checked}
 use Rattle.tables.specs.declared.answer.Checked.the-variants.{Fine, Bad}
 use Rattle.tables.specs.declared.answer.Supplied as supplied
@@ -31,7 +31,7 @@ use Rattle.tables.specs.declared.length.MadeLength as madeLength
 -- ---- values
 
 abbrev pub boardOf : board.Board → Windows.Board
-boardOf b = record { frame = b .frame; owner = b .owner; shortest = b .shortest }
+boardOf b = record { frame = b .frame; owner = b .owner; shortest = b .shortest; rule = b .rule; lost = b .lost }
 
 abbrev pub windowOf : window.Window → Windows.Window
 windowOf w = record { start = w .start; end = w .end }
@@ -54,6 +54,7 @@ number (Bytes o) = 9
 number JobList = 10
 number (Job i) = 11
 number (Sliver i) = 12
+number Loss = 13
 number Summary = 14
 
 abbrev pub place : Refusal → ℕ
@@ -69,6 +70,7 @@ place (Bytes o) = o
 place JobList = 0
 place (Job i) = i
 place (Sliver i) = i
+place Loss = 0
 place Summary = 0
 
 abbrev pub faultOf : Checked → Fault

@@ -18,6 +18,7 @@ pub enum Refusal {
     JobList,
     Job(u64),
     Sliver(u64),
+    Loss,
     Summary,
 }
 
@@ -39,6 +40,7 @@ impl Refusal {
             Refusal::JobList => 10,
             Refusal::Job(_) => 11,
             Refusal::Sliver(_) => 12,
+            Refusal::Loss => 13,
             Refusal::Summary => 14,
         }
     }
@@ -60,6 +62,7 @@ impl Refusal {
             Refusal::JobList => 0,
             Refusal::Job(i) => i,
             Refusal::Sliver(i) => i,
+            Refusal::Loss => 0,
             Refusal::Summary => 0,
         }
     }

@@ -4,16 +4,19 @@ use crate::window::Window;
 ghost use mathlib.Core.Path.{_≡_};
 ghost use mathlib.Core.Bool.{_||_};
 ghost use lib.Dec.{ltb, eqb};
-ghost use Rattle.scope.specs.Answers.{frameFault, shortestFault, boardAnswer};
+ghost use Rattle.scope.specs.Windows.{framed};
+ghost use Rattle.scope.specs.Answers.{frameFault, shortestFault, ruleFault, boardAnswer};
 ghost use Rattle.tables.specs.Told.{boardOf, faultOf, toldBoard};
 
-// What a table is judged by beside its windows: the frame, the owner that is asked for, and the shortest allowed window. Any value may be lent: the
-// entries check it. C lends it too, as it is.
+// What a table is judged by beside its windows: the frame, the owner that is asked for, the shortest allowed window, the rule by which windows are given, and
+// the ticks that are lost of each. Any value may be lent: the entries check it. C lends it too, as it is.
 #[repr(C)]
 pub struct Board {
     pub frame: u32,
     pub owner: u32,
     pub shortest: u32,
+    pub rule: u32,
+    pub lost: u32,
 }
 
 pub enum MadeBoard {
@@ -28,18 +31,28 @@ impl Board {
     // The shortest allowed window: 1 to 65,536 ticks.
     pub const MOST_SHORTEST: u32 = 65536;
 
-    // Which owners there are is judged with the windows.
-    pub fn new(frame: u32, owner: u32, shortest: u32) -> MadeBoard
-        ensures { λ r. ⌜ toldBoard r ≡ boardAnswer (record { frame = frame; owner = owner; shortest = shortest }) ⌝ }
+    // Rule 1 gives the whole window, rule 2 loses its first ticks: at most 65,535.
+    pub const WHOLE: u32 = 1;
+
+    pub const LOSING: u32 = 2;
+
+    pub const MOST_LOST: u32 = 65535;
+
+    // Which owners there are, and whether a tick is left to the one asked for, is judged with the windows.
+    pub fn new(frame: u32, owner: u32, shortest: u32, rule: u32, lost: u32) -> MadeBoard
+        ensures { λ r. ⌜ toldBoard r ≡ boardAnswer (record { frame = frame; owner = owner; shortest = shortest; rule = rule; lost = lost }) ⌝ }
     {
         let board = Board {
             frame,
             owner,
             shortest,
+            rule,
+            lost,
         };
-        let framed = check_frame(board);
+        let length = check_frame(frame);
         let ranged = check_shortest(board);
-        match framed.or_else(ranged) {
+        let ruled = check_rule(board);
+        match length.or_else(ranged.or_else(ruled)) {
             Checked::Fine => MadeBoard::Is(board),
             Checked::Bad(r) => MadeBoard::Refused(r),
         }
@@ -54,11 +67,32 @@ fn out_of_range(n: u32, most: u32) -> bool
 }
 
 // Refusal 2.
-pub fn check_frame(board: Board) -> Checked
-    ensures { λ r. ⌜ faultOf r ≡ frameFault (boardOf board) ⌝ }
+pub fn check_frame(frame: u32) -> Checked
+    ensures { λ r. ⌜ faultOf r ≡ frameFault (framed frame) ⌝ }
 {
-    if out_of_range(board.frame, Board::LONGEST) {
+    if out_of_range(frame, Board::LONGEST) {
         return Checked::Bad(Refusal::Frame);
+    }
+    Checked::Fine
+}
+
+// Refusal 13 of a rule or lost ticks that no board has.
+pub fn check_rule(board: Board) -> Checked
+    ensures { λ r. ⌜ faultOf r ≡ ruleFault (boardOf board) ⌝ }
+{
+    let rule = board.rule;
+    let lost = board.lost;
+    if rule == Board::WHOLE {
+        if lost == 0 {
+            return Checked::Fine;
+        }
+        return Checked::Bad(Refusal::Loss);
+    }
+    if rule != Board::LOSING {
+        return Checked::Bad(Refusal::Loss);
+    }
+    if Board::MOST_LOST < lost {
+        return Checked::Bad(Refusal::Loss);
     }
     Checked::Fine
 }

@@ -1,8 +1,7 @@
-use crate::board::Board;
 use crate::window::window_at;
 ghost use mathlib.Core.Path.{_≡_};
-ghost use Rattle.scope.specs.Windows.{windowsOf, windowAt, gives};
-ghost use Rattle.tables.specs.Told.{boardOf};
+ghost use Prim.Native.Nat.{ℕ};
+ghost use Rattle.scope.specs.Windows.{framed, windowsOf, windowAt, gives};
 ghost use Rattle.tables.specs.Cursors.{begin, after};
 
 // A tick of the frame and the window at hand there: on a legal table the first one that ends after the tick, which alone can give it; past the last one
@@ -21,10 +20,9 @@ impl Cursor {
     }
 
     // One tick on. After the last tick of a frame comes the first; where the window at hand ends, the next one is at hand.
-    pub fn next(self, board: Board, windows: &[u32]) -> Cursor
-        ensures { λ r. ⌜ r ≡ after (boardOf board) (now (windows .entry)) self ⌝ }
+    pub fn next(self, frame: u32, windows: &[u32]) -> Cursor
+        ensures { λ r. ⌜ r ≡ after (framed frame) (now (windows .entry)) self ⌝ }
     {
-        let frame = board.frame;
         let at = self.window;
         if frame <= self.tick {
             return Cursor::new();
@@ -43,11 +41,11 @@ impl Cursor {
         Cursor { tick, window: at }
     }
 
-    // Whether the window at hand gives the tick.
-    pub fn is_on(self, board: Board, windows: &[u32]) -> bool
-        ensures { λ r. ⌜ r ≡ gives (boardOf board) (windowAt (windowsOf (now (windows .entry))) (self .window)) (self .tick) ⌝ }
+    // Whether the window at hand gives the tick, where no tick is lost.
+    pub fn is_on(self, windows: &[u32]) -> bool
+        ensures { λ r. ⌜ ((P : ℕ) → r ≡ gives (framed P) (windowAt (windowsOf (now (windows .entry))) (self .window)) (self .tick)) ⌝ }
     {
         let window = window_at(windows, self.window);
-        window.holds(board, self.tick as u64)
+        window.holds(self.tick as u64)
     }
 }

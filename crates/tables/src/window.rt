@@ -1,13 +1,12 @@
 use crate::answer::Checked;
 use crate::answer::Refusal;
-use crate::board::Board;
 use crate::board::check_frame;
 use crate::list::bad_count;
 ghost use mathlib.Core.Path.{_≡_};
-ghost use Prim.Native.Nat.{_%_};
-ghost use Rattle.scope.specs.Windows.{windowsOf, windowAt, windowFits, gives, covers, suppliedBy, windowLegal};
+ghost use Prim.Native.Nat.{ℕ, _%_};
+ghost use Rattle.scope.specs.Windows.{framed, windowsOf, windowAt, windowFits, gives, covers, suppliedBy, windowLegal};
 ghost use Rattle.scope.specs.Answers.{listFault, windowListFault, windowFault, tableFault, windowAnswer};
-ghost use Rattle.tables.specs.Told.{boardOf, windowOf, faultOf, toldWindow};
+ghost use Rattle.tables.specs.Told.{windowOf, faultOf, toldWindow};
 
 // The ticks `start` up to but not including `end`.
 pub struct Window {
@@ -24,29 +23,28 @@ impl Window {
     // Windows of a table: 1 to 64.
     pub const MOST: usize = 64;
 
-    pub fn new(board: Board, start: u32, end: u32) -> MadeWindow
-        ensures { λ r. ⌜ toldWindow r ≡ windowAnswer (boardOf board) (record { start = start; end = end }) ⌝ }
+    pub fn new(frame: u32, start: u32, end: u32) -> MadeWindow
+        ensures { λ r. ⌜ toldWindow r ≡ windowAnswer (framed frame) (record { start = start; end = end }) ⌝ }
     {
         let window = Window { start, end };
-        if window.fits(board) {
+        if window.fits(frame) {
             return MadeWindow::Is(window);
         }
         MadeWindow::Refused(Refusal::Window(0))
     }
 
     // Start before end, and end within the frame.
-    fn fits(self, board: Board) -> bool
-        ensures { λ r. ⌜ r ≡ windowFits (boardOf board) (windowOf self) ⌝ }
+    fn fits(self, frame: u32) -> bool
+        ensures { λ r. ⌜ r ≡ windowFits (framed frame) (windowOf self) ⌝ }
     {
         let start = self.start;
         let end = self.end;
-        let frame = board.frame;
         start < end && end <= frame
     }
 
-    // Whether the window gives tick k of a frame.
-    pub(crate) fn holds(self, board: Board, k: u64) -> bool
-        ensures { λ r. ⌜ r ≡ gives (boardOf board) (windowOf self) k ⌝ }
+    // Whether the window gives tick k of a frame, where no tick is lost.
+    pub(crate) fn holds(self, k: u64) -> bool
+        ensures { λ r. ⌜ ((P : ℕ) → r ≡ gives (framed P) (windowOf self) k) ⌝ }
     {
         let start = self.start as u64;
         let end = self.end as u64;
@@ -67,14 +65,14 @@ pub fn window_at(windows: &[u32], i: usize) -> Window
 }
 
 // Whether one of the windows gives tick k of a frame.
-fn covered(board: Board, windows: &[u32], k: u64) -> bool
-    ensures { λ r. ⌜ r ≡ covers (boardOf board) (windowsOf (now (windows .entry))) k ⌝ }
+fn covered(windows: &[u32], k: u64) -> bool
+    ensures { λ r. ⌜ ((P : ℕ) → r ≡ covers (framed P) (windowsOf (now (windows .entry))) k) ⌝ }
 {
     let count = windows.len() / 2;
     let mut i = 0;
     while i < count {
         let window = window_at(windows, i);
-        if window.holds(board, k) {
+        if window.holds(k) {
             return true;
         }
         i += 1;
@@ -83,27 +81,27 @@ fn covered(board: Board, windows: &[u32], k: u64) -> bool
 }
 
 // A tick's place in its frame. A frame of no ticks leaves the tick as it is.
-fn place_of(board: Board, tick: u64) -> u64
-    ensures { λ r. ⌜ r ≡ tick % board .frame ⌝ }
+fn place_of(frame: u32, tick: u64) -> u64
+    ensures { λ r. ⌜ r ≡ tick % frame ⌝ }
 {
-    let frame = board.frame as u64;
-    if frame == 0 { tick } else { tick % frame }
+    let ticks = frame as u64;
+    if ticks == 0 { tick } else { tick % ticks }
 }
 
-// Whether a tick is supplied. Nothing is checked: a table that is not legal supplies ticks by the same definition.
-pub fn is_on(board: Board, windows: &[u32], tick: u64) -> bool
-    ensures { λ r. ⌜ r ≡ suppliedBy (boardOf board) (now (windows .entry)) tick ⌝ }
+// Whether a tick is supplied by windows of which nothing is lost. Nothing is checked: a table that is not legal supplies ticks by the same definition.
+pub fn is_on(frame: u32, windows: &[u32], tick: u64) -> bool
+    ensures { λ r. ⌜ r ≡ suppliedBy (framed frame) (now (windows .entry)) tick ⌝ }
 {
-    let place = place_of(board, tick);
-    covered(board, windows, place)
+    let place = place_of(frame, tick);
+    covered(windows, place)
 }
 
 // Whether window i keeps its rule.
-fn window_legal(board: Board, windows: &[u32], i: usize) -> bool
-    ensures { λ r. ⌜ r ≡ windowLegal (boardOf board) (windowsOf (now (windows .entry))) i ⌝ }
+fn window_legal(frame: u32, windows: &[u32], i: usize) -> bool
+    ensures { λ r. ⌜ r ≡ windowLegal (framed frame) (windowsOf (now (windows .entry))) i ⌝ }
 {
     let window = window_at(windows, i);
-    match Window::new(board, window.start, window.end) {
+    match Window::new(frame, window.start, window.end) {
         MadeWindow::Refused(_) => false,
         MadeWindow::Is(window) => {
             if i == 0 {
@@ -136,13 +134,13 @@ pub fn check_window_list(windows: &[u32]) -> Checked
 }
 
 // Refusal 3, at the lowest index.
-fn check_windows(board: Board, windows: &[u32]) -> Checked
-    ensures { λ r. ⌜ faultOf r ≡ windowFault (boardOf board) (windowsOf (now (windows .entry))) ⌝ }
+fn check_windows(frame: u32, windows: &[u32]) -> Checked
+    ensures { λ r. ⌜ faultOf r ≡ windowFault (framed frame) (windowsOf (now (windows .entry))) ⌝ }
 {
     let count = windows.len() / 2;
     let mut i = 0;
     while i < count {
-        if !window_legal(board, windows, i) {
+        if !window_legal(frame, windows, i) {
             let place = i as u64;
             return Checked::Bad(Refusal::Window(place));
         }
@@ -152,11 +150,11 @@ fn check_windows(board: Board, windows: &[u32]) -> Checked
 }
 
 // Refusals 1, 2 and 3.
-pub fn check_table(board: Board, windows: &[u32]) -> Checked
-    ensures { λ r. ⌜ faultOf r ≡ tableFault (boardOf board) (now (windows .entry)) ⌝ }
+pub fn check_table(frame: u32, windows: &[u32]) -> Checked
+    ensures { λ r. ⌜ faultOf r ≡ tableFault (framed frame) (now (windows .entry)) ⌝ }
 {
     let list = check_window_list(windows);
-    let frame = check_frame(board);
-    let each = check_windows(board, windows);
-    list.or_else(frame.or_else(each))
+    let length = check_frame(frame);
+    let each = check_windows(frame, windows);
+    list.or_else(length.or_else(each))
 }

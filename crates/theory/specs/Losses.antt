@@ -32,13 +32,25 @@ module _ (b : Board) where
   abbrev bad : Bool
   bad = not (eqb (b .rule) 1 || eqb (b .rule) 2) || ltb mostLost (b .lost) || (eqb (b .rule) 1 && ltb 0 (b .lost))
 
-  few-fine : b .lost ≤ mostLost → (b .rule ≡ 2) → ruleFault b ≡ fine
+  pub few-fine : b .lost ≤ mostLost → (b .rule ≡ 2) → ruleFault b ≡ fine
   unfolding ruleFault
   few-fine h e = rw (e, le-ltb mostLost (b .lost) h)
 
-  one-fine : b .rule ≡ 1 → b .lost ≡ 0 → ruleFault b ≡ fine
+  pub one-fine : b .rule ≡ 1 → b .lost ≡ 0 → ruleFault b ≡ fine
   unfolding ruleFault
   one-fine e z = rw (e, z)
+
+  pub no-rule : b .rule ≢ 1 → b .rule ≢ 2 → ruleFault b ≡ fault 13 0
+  unfolding ruleFault
+  no-rule r s = rw (ne-eqb (b .rule) 1 r, ne-eqb (b .rule) 2 s)
+
+  pub over-lost : mostLost < b .lost → ruleFault b ≡ fault 13 0
+  unfolding ruleFault
+  over-lost h = rw (lt-ltb mostLost (b .lost) h, or-true (not (eqb (b .rule) 1 || eqb (b .rule) 2)))
+
+  pub one-lost : b .rule ≡ 1 → 0 < b .lost → ruleFault b ≡ fault 13 0
+  unfolding ruleFault
+  one-lost r h = rw (r, lt-ltb 0 (b .lost) h, or-true (ltb mostLost (b .lost)))
 
   pub ruled-fine : Ruled b → ruleFault b ≡ fine
   ruled-fine r = elim (ℕ-discrete (b .rule) 1) [ yes e ↦ one-fine e (r .whole e) | no u ↦ few-fine (r .few) (r .known u) ]
@@ -65,12 +77,12 @@ module _ (b : Board) where
           ]
 
       so : Cause b mine → (leftOf b (windowsOf mine) ≡ [] → ⊥) → faultIf bad 13 0 ≡ fault 13 0
-      so (no-such-rule r s) u = rw (ne-eqb (b .rule) 1 r, ne-eqb (b .rule) 2 s)
-      so (too-many-lost h) u = rw (lt-ltb mostLost (b .lost) h, or-true (not (eqb (b .rule) 1 || eqb (b .rule) 2)))
-      so (lost-under-one r h) u = rw (r, lt-ltb 0 (b .lost) h, or-true (ltb mostLost (b .lost)))
+      so (no-such-rule r s) u = no-rule r s
+      so (too-many-lost h) u = over-lost h
+      so (lost-under-one r h) u = one-lost r h
       so (none-left e) u = absurd (u e)
 
-  rule-number : (n p : ℕ) → ruleFault b ≡ fault n p → fault 13 0 ≡ fault n p
+  pub rule-number : (n p : ℕ) → ruleFault b ≡ fault n p → fault 13 0 ≡ fault n p
   unfolding ruleFault
   rule-number n p = go bad
     where

@@ -1,5 +1,6 @@
+use Rattle.scope.specs.Windows.{framed}
 use Rattle.checker.proofs.BoundLaws.{bound-refused, bound-absent, bound-given}
-use Rattle.tables.specs.Told.{boardOf, faultOf}
+use Rattle.tables.specs.Told.{faultOf}
 use Rattle.theory.specs.Answers.{orElse-fine, checked-legal}
 use Rattle.theory.specs.Lists.{pieces-length}
 use Rattle.scope.specs.Answers.{Fault.fine, _orElse_, tableFault, groupFault}
@@ -26,7 +27,7 @@ enum-told c = search needs
 
 -- the group's checks have passed too
 group-fine : (c : tie.After-enum-told) → let a = c .before .before .before .before .before .args in
-    (tableFault (boardOf (a .board)) (a .windows .now) orElse groupFault (a .tasks .now)) ≡ fine
+    (tableFault (framed (a .frame)) (a .windows .now) orElse groupFault (a .tasks .now)) ≡ fine
 group-fine c =
     or-fine (tableFault _ _) _ (c .before .before .before .before .before .pre) ∙ sym (c .before .before .check-tasks .ensures) ∙ ap faultOf (c .enum-told .given .1)
 

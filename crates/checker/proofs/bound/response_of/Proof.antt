@@ -1,12 +1,11 @@
 use borrow.Author.Needs.{needs}
 use Rattle.scope.specs.Limits.{mostOfTask, mostLength}
-use Rattle.scope.specs.Windows.{suppliedBy}
+use Rattle.scope.specs.Windows.{framed, suppliedBy}
 use Rattle.scope.specs.Tasks.{Task, task, tasksOf, taskAt}
 use Rattle.scope.specs.Answers.{Answer.given}
 use Rattle.theory.specs.Lists.{pieces-length}
 use Rattle.theory.specs.Answers.{table-legal}
 use Rattle.theory.specs.Rows.{table-row}
-use Rattle.tables.specs.Told.{boardOf}
 use Rattle.tables.proofs.TaskLaws.{read-rule}
 use Rattle.checker.proofs.BoundLaws.{Short, short-first, short-next, bound-found, no-bound-found, asked-at-most}
 use native.Mathlib.Omega.{arith}
@@ -21,11 +20,11 @@ use Rattle.checker.proofs.least.least_of.Reads as least-of-reads
 use Rattle.tables.proofs.task.task_at.Reads as task-at-reads
 
 abbrev Inv-loop : tie.InvT-loop
-Inv-loop board windows tasks index deadline length₀ length =
-    (1 ≤ length) × Short (suppliedBy (boardOf board) windows) (board .frame) (tasksOf tasks) index length
+Inv-loop frame windows tasks index deadline length₀ length =
+    (1 ≤ length) × Short (suppliedBy (framed frame) windows) (frame .frame) (tasksOf tasks) index length
 
 abbrev μ-loop : tie.MeasureT-loop
-μ-loop board windows tasks index deadline length₀ length = deadline + 1 - length
+μ-loop frame windows tasks index deadline length₀ length = deadline + 1 - length
 
 task-at-requires : tie.Need-task-at-requires Inv-loop μ-loop
 task-at-requires c κs = search needs

@@ -55,7 +55,7 @@ mul-h c =
 -- what is found is still on the way to the cycle
 turn : (c : tie.After-gcd Inv-loop μ-loop) →
     let a = c .before .before .before .before .before .before .args in let l = c .before .before .before .before .loop in
-    cycle (a .board .frame) (tasksOf (a .tasks .now))
+    cycle (a .frame) (tasksOf (a .tasks .now))
     ≡ cycle (l .h / c .gcd .result * c .before .before .task-at .result .period) (drop (l .i + 1) (tasksOf (a .tasks .now)))
 turn c =
     let l = c .before .before .before .before .loop in

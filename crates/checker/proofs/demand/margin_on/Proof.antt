@@ -1,7 +1,8 @@
 use mathlib.Core.Path.{_≡_, sym, ap, _∙_}
+use Rattle.scope.specs.Windows.{framed}
 use Rattle.scope.specs.Answers.{Fault.fine, _orElse_, Answer.given, tableFault, groupFault, lengthFault}
 use Rattle.theory.specs.Answers.{orElse-fine, checked-legal, length-legal}
-use Rattle.tables.specs.Told.{boardOf, faultOf}
+use Rattle.tables.specs.Told.{faultOf}
 use Rattle.checker.proofs.DemandLaws.{margin-is, margin-refused, margin-late, margin-given}
 use native.Mathlib.Omega.{arith}
 use Rattle.tables.proofs.FaultLaws.{or-fine}
@@ -36,7 +37,7 @@ enum-told-2 c = search needs
 
 -- the group's checks have passed too
 group-fine : (c : tie.After-enum-told) → let a = c .before .before .before .before .before .args in
-    (tableFault (boardOf (a .board)) (a .windows .now) orElse groupFault (a .tasks .now)) ≡ fine
+    (tableFault (framed (a .frame)) (a .windows .now) orElse groupFault (a .tasks .now)) ≡ fine
 group-fine c =
     or-fine (tableFault _ _) _ (c .before .before .before .before .before .pre) ∙ sym (c .before .before .check-tasks .ensures) ∙ ap faultOf (c .enum-told .given .1)
 

@@ -3,8 +3,8 @@ use native.Mathlib.Omega.{arith}
 use Prim.Native.Nat.{_≤_}
 use borrow.Author.Needs.{needs}
 use Rattle.scope.specs.Ticks.{leastSupply}
-use Rattle.scope.specs.Windows.{suppliedBy}
-use Rattle.tables.specs.Told.{boardOf, toldAmount}
+use Rattle.scope.specs.Windows.{framed, suppliedBy}
+use Rattle.tables.specs.Told.{toldAmount}
 use Rattle.checker.proofs.LeastLaws.{least-told, least-not-refused}
 use Rattle.checker.proofs.least.least_of.Statement.{statement}
 use Rattle.checker.proofs.least.least_of.Tie as tie
@@ -20,7 +20,7 @@ enum-known-least c = search needs
 
 -- what the entry tells is the least supply
 told : (c : tie.After-known-told) → let a = c .before .before .before .before .before .args in
-    (c .before .least .given .0 .0 ≡ leastSupply (suppliedBy (boardOf (a .board)) (a .windows .now)) (a .board .frame) (a .length))
+    (c .before .least .given .0 .0 ≡ leastSupply (suppliedBy (framed (a .frame)) (a .windows .now)) (a .frame) (a .length))
     × (c .before .least .given .0 .0 ≤ a .length)
 told c =
     let p = c .before .before .before .before .before .pre in

@@ -2,9 +2,10 @@ use native.Mathlib.Omega.{arith}
 use mathlib.Core.Path.{_≡_, sym, ap, ap₂, _∙_}
 use Prim.Native.Nat.{ℕ}
 use lib.IntN.{pos, _-ℤ_}
+use Rattle.scope.specs.Windows.{framed}
 use Rattle.scope.specs.Tasks.{tasksOf}
 use Rattle.scope.specs.Summary.{leastFrom, marginFrom}
-use Rattle.tables.specs.Told.{boardOf, toldAmount}
+use Rattle.tables.specs.Told.{toldAmount}
 use Rattle.checker.proofs.MarginLaws.{never-refused, least-told, least-small, margin-kept}
 use borrow.Author.Needs.{needs}
 use Rattle.checker.proofs.margins.margin_from.Statement.{statement}
@@ -29,7 +30,7 @@ demand-of-requires c κs = let p = c .before .before .before .before .before .be
 
 -- the supply is what the summary tells
 supplied : (c : tie.After-known-told) → let a = c .before .before .before .before .before .before .args in
-    c .before .supply .given .0 .0 ≡ leastFrom (a .board .frame) (a .summary .now) (a .length)
+    c .before .supply .given .0 .0 ≡ leastFrom (a .frame) (a .summary .now) (a .length)
 supplied c =
     let e = c .before .before .before .before .before .before in
     least-told _ _ _ (e .pre .0) (e .pre .2) _ (sym (ap toldAmount (c .before .supply .given .1)) ∙ c .before .before .before .least-from .ensures)
@@ -41,7 +42,7 @@ difference-requires c κs =
     let a = e .args in
     let w = told 0 in
     let n = told 2 in
-    let small = least-small (boardOf (a .board)) (a .summary .now) (a .length) (e .pre .0) (e .pre .2) (omega arith) (omega arith) in
+    let small = least-small (framed (a .frame)) (a .summary .now) (a .length) (e .pre .0) (e .pre .2) (omega arith) (omega arith) in
     (omega (arith, small, supplied (c .before)), omega (arith, c .demand-of .ensures .1))
 
 returns : tie.Need-returns
@@ -51,7 +52,7 @@ returns c =
 
 -- a margin is a supply minus a demand
 subtracted : (c : tie.After-difference) → let a = c .before .before .before .before .before .before .before .before .args in
-    c .difference .result ≡ marginFrom (a .board .frame) (a .summary .now) (tasksOf (a .tasks .now)) (a .length)
+    c .difference .result ≡ marginFrom (a .frame) (a .summary .now) (tasksOf (a .tasks .now)) (a .length)
 unfolding marginFrom
 subtracted c = c .difference .ensures ∙ ap₂ (λ (x y : ℕ). pos x -ℤ pos y) (supplied (c .before .before)) (c .before .demand-of .ensures .0)
 
@@ -62,7 +63,7 @@ returns-2 c =
     let a = e .args in
     let w = told 0 in
     let n = told 2 in
-    margin-kept (boardOf (a .board)) (a .summary .now) (a .length) (e .pre .0) (e .pre .2) (a .tasks .now) (e .pre .1) (omega arith) (omega arith) _ (subtracted c)
+    margin-kept (framed (a .frame)) (a .summary .now) (a .length) (e .pre .0) (e .pre .2) (a .tasks .now) (e .pre .1) (omega arith) (omega arith) _ (subtracted c)
 
 pub margin-from-spec : {M : Type 1} → statement M
 margin-from-spec =

@@ -1,5 +1,6 @@
 use mathlib.Core.Path.{sym, ap, _∙_}
 use borrow.Author.Needs.{needs}
+use Rattle.scope.specs.Windows.{framed}
 use Rattle.scope.specs.Summary.{marginsAnswer, marginsOut}
 use Rattle.tables.specs.Told.{faultOf}
 use Rattle.tables.proofs.FaultLaws.{refused-by, given-by, kept-by, written-by}

@@ -3,9 +3,9 @@ use native.Mathlib.Omega.{arith}
 use mathlib.Core.Path.{_≡_, refl, _∙_}
 use Prim.Native.Nat.{_-_, _≤_}
 use lib.ListN.{length, getD, length-set}
+use Rattle.scope.specs.Windows.{framed}
 use Rattle.scope.specs.Tasks.{tasksOf}
 use Rattle.scope.specs.Summary.{marginFrom}
-use Rattle.tables.specs.Told.{boardOf}
 use Rattle.checker.proofs.MarginLaws.{each-asked, margin-kept, marginsTo, margins-none, margins-more, margins-whole}
 use Rattle.checker.proofs.margins.write_margins.Statement.{statement}
 use Rattle.checker.proofs.margins.write_margins.Tie as tie
@@ -14,20 +14,20 @@ use Rattle.checker.proofs.margins.write_margins.Lts as lts
 use Rattle.checker.proofs.margins.margin_from.Reads as margin-from-reads
 
 abbrev Inv-loop : tie.InvT-loop
-Inv-loop board summary tasks lengths out₀ i₀ out i =
+Inv-loop frame summary tasks lengths out₀ i₀ out i =
     (i ≤ length lengths)
     × (length out ≡ length out₀)
     × (length lengths ≤ length out₀)
-    × (out ≡ marginsTo (marginFrom (board .frame) summary (tasksOf tasks)) lengths out₀ i)
+    × (out ≡ marginsTo (marginFrom (frame .frame) summary (tasksOf tasks)) lengths out₀ i)
 
 abbrev μ-loop : tie.MeasureT-loop
-μ-loop board summary tasks lengths out₀ i₀ out i = length lengths - i
+μ-loop frame summary tasks lengths out₀ i₀ out i = length lengths - i
 
 loop-holds : tie.Need-loop-holds Inv-loop μ-loop
 loop-holds c =
     let e = c .before .before .before in
     let a = e .args in
-    (omega arith, refl, e .pre .3, margins-none (marginFrom (a .board .frame) (a .summary .now) (tasksOf (a .tasks .now))) (a .lengths .now) (a .out .now))
+    (omega arith, refl, e .pre .3, margins-none (marginFrom (a .frame) (a .summary .now) (tasksOf (a .tasks .now))) (a .lengths .now) (a .out .now))
 
 mul-margin-from : tie.Need-mul-margin-from Inv-loop μ-loop
 mul-margin-from c = search needs
@@ -64,13 +64,13 @@ loop-again c =
     let n = told 2 in
     let asked = each-asked (a .lengths .now) i (e .pre .2) t in
     let stored =
-    margin-kept (boardOf (a .board)) (a .summary .now) (getD (a .lengths .now) i 0) (e .pre .0) asked (a .tasks .now) (e .pre .1)
+    margin-kept (framed (a .frame)) (a .summary .now) (getD (a .lengths .now) i 0) (e .pre .0) asked (a .tasks .now) (e .pre .1)
     (omega arith) (omega arith) _ (c .margin-from .ensures)
     in (
       omega arith,
       simp length-set (l .1),
       l .2,
-      margins-more (marginFrom (a .board .frame) (a .summary .now) (tasksOf (a .tasks .now))) (a .lengths .now) (a .out .now) _ _ _ t (l .2) (l .3) stored,
+      margins-more (marginFrom (a .frame) (a .summary .now) (tasksOf (a .tasks .now))) (a .lengths .now) (a .out .now) _ _ _ t (l .2) (l .3) stored,
     )
 
 same-length : tie.Need-same-length Inv-loop μ-loop

@@ -2,9 +2,9 @@ use native.Mathlib.Omega.{arith}
 use mathlib.Core.Path.{_≡_}
 use Prim.Native.Nat.{_-_, _≤_}
 use borrow.Author.Needs.{needs}
+use Rattle.scope.specs.Windows.{framed}
 use Rattle.scope.specs.Limits.{mostFrame}
 use Rattle.theory.specs.Answers.{LegalTable}
-use Rattle.tables.specs.Told.{boardOf}
 use Rattle.checker.proofs.StretchLaws.{on-le, Counted, counted-none, counted-more, counted-all}
 use Rattle.checker.proofs.stretch.first_ticks.Statement.{statement}
 use Rattle.checker.proofs.stretch.first_ticks.Tie as tie
@@ -15,11 +15,11 @@ use Rattle.tables.proofs.cursor.Cursor.new.Reads as new-reads
 use Rattle.tables.proofs.cursor.Cursor.next.Reads as next-reads
 
 abbrev Inv-loop : tie.InvT-loop
-Inv-loop board windows length to₀ supply₀ i₀ to supply i =
-    (i ≤ length) × (length ≤ mostFrame) × (ok : LegalTable (boardOf board) windows) × Counted (boardOf board) windows ok i to supply
+Inv-loop frame windows length to₀ supply₀ i₀ to supply i =
+    (i ≤ length) × (length ≤ mostFrame) × (ok : LegalTable (framed frame) windows) × Counted (framed frame) windows ok i to supply
 
 abbrev μ-loop : tie.MeasureT-loop
-μ-loop board windows length to₀ supply₀ i₀ to supply i = length - i
+μ-loop frame windows length to₀ supply₀ i₀ to supply i = length - i
 
 new-requires : tie.Need-new-requires Inv-loop μ-loop
 new-requires c κs = search needs
@@ -35,7 +35,7 @@ add-supply : tie.Need-add-supply Inv-loop μ-loop
 add-supply c =
     let a = c .before .before .before .before .before .args in
     let l = c .before .before .loop in
-    omega (arith, l .inv .3 .few, c .tick-at .ensures, on-le (boardOf (a .board)) (a .windows .now) (l .to))
+    omega (arith, l .inv .3 .few, c .tick-at .ensures, on-le (framed (a .frame)) (a .windows .now) (l .to))
 
 next-requires : tie.Need-next-requires Inv-loop μ-loop
 next-requires c κs = search needs

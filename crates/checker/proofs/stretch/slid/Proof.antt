@@ -1,5 +1,5 @@
 use native.Mathlib.Omega.{arith}
-use Rattle.tables.specs.Told.{boardOf}
+use Rattle.scope.specs.Windows.{framed}
 use Rattle.checker.proofs.StretchLaws.{on-le}
 use borrow.Author.Needs.{needs}
 use Rattle.checker.proofs.stretch.slid.Statement.{statement}
@@ -24,7 +24,7 @@ next-requires-2 c κs = search needs
 add-t11 : tie.Need-add-t11
 add-t11 c =
     let e = c .before .before .before .before .before .before .before in
-    omega (arith, e .pre .few, c .before .before .before .tick-at .ensures, on-le (boardOf (e .args .board)) (e .args .windows .now) (e .args .stretch .to))
+    omega (arith, e .pre .few, c .before .before .before .tick-at .ensures, on-le (framed (e .args .frame)) (e .args .windows .now) (e .args .stretch .to))
 
 sub-t12 : tie.Need-sub-t12
 sub-t12 c =

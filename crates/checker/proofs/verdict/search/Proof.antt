@@ -7,13 +7,13 @@ use native.Mathlib.Nat.{mod-lt}
 use borrow.Author.Needs.{needs}
 use Rattle.scope.specs.Limits.{mostFrame, mostNumber}
 use Rattle.scope.specs.Ticks.{Periodic}
-use Rattle.scope.specs.Windows.{suppliedBy}
+use Rattle.scope.specs.Windows.{framed, suppliedBy}
 use Rattle.scope.specs.Tasks.{Task, tasksOf}
 use Rattle.scope.specs.Answers.{Answer.given}
 use Rattle.theory.specs.Answers.{LegalTable, table-legal}
 use Rattle.theory.specs.Rows.{table-row}
 use Rattle.tables.specs.declared.answer.Verdict.the-variants.{Meets}
-use Rattle.tables.specs.Told.{boardOf, toldVerdict}
+use Rattle.tables.specs.Told.{toldVerdict}
 use Rattle.checker.specs.Stretches.{Spans}
 use Rattle.checker.proofs.DemandLaws.{demand-most}
 use Rattle.checker.proofs.StretchLaws.{spans-slides, spans-on}
@@ -31,19 +31,19 @@ use Rattle.checker.proofs.stretch.slid.Reads as slid-reads
 use Rattle.checker.proofs.verdict.known_or_least.Reads as known-or-least-reads
 
 abbrev Inv-loop : tie.InvT-loop
-Inv-loop board windows tasks cycle frame found₀ due demand supply length risen rest least stretch₀ start₀ found stretch start =
-    (start ≤ board .frame) × (found ≡ Meets cycle) × Spans (boardOf board) windows start rest stretch
-    × Above (suppliedBy (boardOf board) windows) (board .frame) rest start
+Inv-loop frame windows tasks cycle frame found₀ due demand supply length risen rest least stretch₀ start₀ found stretch start =
+    (start ≤ frame .frame) × (found ≡ Meets cycle) × Spans (framed frame) windows start rest stretch
+    × Above (suppliedBy (framed frame) windows) (frame .frame) rest start
 
 abbrev μ-loop : tie.MeasureT-loop
-μ-loop board windows tasks cycle frame found₀ due demand supply length risen rest least stretch₀ start₀ found stretch start = board .frame - start
+μ-loop frame windows tasks cycle frame found₀ due demand supply length risen rest least stretch₀ start₀ found stretch start = frame .frame - start
 
 abbrev Inv-search : tie.InvT-search
-Inv-search board windows tasks cycle frame found₀ due₀ demand₀ supply₀ length₀ found due demand supply length =
-    (found ≡ Meets cycle) × Reached (suppliedBy (boardOf board) windows) (board .frame) (tasksOf tasks) length demand supply due
+Inv-search frame windows tasks cycle frame found₀ due₀ demand₀ supply₀ length₀ found due demand supply length =
+    (found ≡ Meets cycle) × Reached (suppliedBy (framed frame) windows) (frame .frame) (tasksOf tasks) length demand supply due
 
 abbrev μ-search : tie.MeasureT-search
-μ-search board windows tasks cycle frame found₀ due₀ demand₀ supply₀ length₀ found due demand supply length = cycle + 1 - length
+μ-search frame windows tasks cycle frame found₀ due₀ demand₀ supply₀ length₀ found due demand supply length = cycle + 1 - length
 
 slice-aggregate-first-due : tie.Need-slice-aggregate-first-due Inv-loop μ-loop Inv-search μ-search
 slice-aggregate-first-due c = search needs
@@ -96,16 +96,16 @@ abbrev began : Asks → tie.Start Inv-loop μ-loop Inv-search μ-search
 began c = turn c .before .before .before .before .before .before .before .before .before .before
 
 abbrev σ : Asks → ℕ → Bool
-σ c = suppliedBy (boardOf (began c .args .board)) (began c .args .windows .now)
+σ c = suppliedBy (framed (began c .args .frame)) (began c .args .windows .now)
 
 abbrev P : Asks → ℕ
-P c = began c .args .board .frame
+P c = began c .args .frame
 
 abbrev ts : Asks → List Task
 ts c = tasksOf (began c .args .tasks .now)
 
 -- what is known of the table
-legal-at : (c : Asks) → LegalTable (boardOf (began c .args .board)) (began c .args .windows .now)
+legal-at : (c : Asks) → LegalTable (framed (began c .args .frame)) (began c .args .windows .now)
 legal-at c = table-legal _ _ (began c .pre .0)
 
 per-at : (c : Asks) → Periodic (σ c) (P c)

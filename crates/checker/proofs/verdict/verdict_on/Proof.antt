@@ -1,9 +1,9 @@
 use Rattle.scope.specs.Limits.{mostCycle}
 use Rattle.checker.proofs.VerdictLaws.{verdict-refused, verdict-over, verdict-given}
 use Rattle.checker.proofs.CycleLaws.{was-over, was-found}
-use Rattle.tables.specs.Told.{boardOf, faultOf}
+use Rattle.tables.specs.Told.{faultOf}
 use Rattle.theory.specs.Answers.{orElse-fine, checked-legal}
-use Rattle.scope.specs.Windows.{suppliedBy}
+use Rattle.scope.specs.Windows.{framed, suppliedBy}
 use Rattle.scope.specs.Tasks.{tasksOf}
 use Rattle.scope.specs.Cycle.{cycle}
 use Rattle.scope.specs.Verdict.{verdict}
@@ -32,13 +32,13 @@ enum-told c = search needs
 
 -- the group's checks have passed too
 group-fine : (c : tie.After-enum-told) → let a = c .before .before .before .before .before .args in
-    (tableFault (boardOf (a .board)) (a .windows .now) orElse groupFault (a .tasks .now)) ≡ fine
+    (tableFault (framed (a .frame)) (a .windows .now) orElse groupFault (a .tasks .now)) ≡ fine
 group-fine c =
     or-fine (tableFault _ _) _ (c .before .before .before .before .before .pre) ∙ sym (c .before .before .check-tasks .ensures) ∙ ap faultOf (c .enum-told .given .1)
 
 -- and the cycle is within its limit
 cycle-fine : (c : tie.After-known-told2) → let a = c .before .before .before .before .before .before .before .before .before .args in
-    (cycle (a .board .frame) (tasksOf (a .tasks .now)) ≡ c .before .cycle .given .0 .0) × (cycle (a .board .frame) (tasksOf (a .tasks .now)) ≤ mostCycle)
+    (cycle (a .frame) (tasksOf (a .tasks .now)) ≡ c .before .cycle .given .0 .0) × (cycle (a .frame) (tasksOf (a .tasks .now)) ≤ mostCycle)
 cycle-fine c = was-found _ _ (sym (c .before .before .before .cycle-of .ensures) ∙ c .before .cycle .given .1)
 
 cycle-of-requires : tie.Need-cycle-of-requires
@@ -71,7 +71,7 @@ returns-3 c =
     let h = cycle-fine d in
     let a = d .before .before .before .before .before .before .before .before .before .args in
     c .search .ensures
-    ∙ ap (λ (n : ℕ). given (verdict (suppliedBy (boardOf (a .board)) (a .windows .now)) (a .board .frame) (tasksOf (a .tasks .now)) n)) (sym (h .0))
+    ∙ ap (λ (n : ℕ). given (verdict (suppliedBy (framed (a .frame)) (a .windows .now)) (a .frame) (tasksOf (a .tasks .now)) n)) (sym (h .0))
     ∙ verdict-given _ _ _ (group-fine (d .before .before .before .before)) (h .1)
 
 pub verdict-on-spec : {M : Type 1} → statement M

@@ -1,10 +1,10 @@
 use mathlib.Core.Path.{_≡_, ap, _∙_}
 use Prim.Native.Nat.{_+_, _-_, _≤_, max}
-use Rattle.scope.specs.Windows.{Window, window, windowsOf, suppliedBy}
+use Rattle.scope.specs.Windows.{framed, Window, window, windowsOf, suppliedBy}
 use Rattle.scope.specs.Partition.{outage}
 use Rattle.theory.specs.Lists.{pieces-length}
 use Rattle.theory.specs.LongestGap.{Passed, passed-first, passed-next, passed-last}
-use Rattle.tables.specs.Told.{boardOf, windowOf}
+use Rattle.tables.specs.Told.{windowOf}
 use native.Mathlib.Omega.{arith}
 use borrow.Author.Needs.{needs}
 use Rattle.gaps.proofs.outage.outage_of.Statement.{statement}
@@ -16,10 +16,10 @@ use Rattle.tables.proofs.number.larger.Reads as larger-reads
 use Rattle.tables.proofs.window.window_at.Reads as window-at-reads
 
 abbrev Inv-loop : tie.InvT-loop
-Inv-loop board windows count first end₀ most₀ i₀ end most i = Passed (boardOf board) (windowsOf windows) (first .start) i end most
+Inv-loop frame windows count first end₀ most₀ i₀ end most i = Passed (framed frame) (windowsOf windows) (first .start) i end most
 
 abbrev μ-loop : tie.MeasureT-loop
-μ-loop board windows count first end₀ most₀ i₀ end most i = count - i
+μ-loop frame windows count first end₀ most₀ i₀ end most i = count - i
 
 -- in a turn: the gap before window i, and one window more is passed
 turn : (c : tie.After-struct-known Inv-loop μ-loop) →
@@ -28,7 +28,7 @@ turn : (c : tie.After-struct-known Inv-loop μ-loop) →
     let l = c .before .before .before .loop in
     let w = c .before .window-at2 .result in
     (l .end ≤ w .start)
-    × Passed (boardOf (a .board)) (windowsOf (a .windows .now)) (first .start) (l .i + 1) (w .end) (max (l .most) (w .start - l .end))
+    × Passed (framed (a .frame)) (windowsOf (a .windows .now)) (first .start) (l .i + 1) (w .end) (max (l .most) (w .start - l .end))
 turn c =
     let s = c .before .before .before .before .before .before in
     let w = c .before .window-at2 in
@@ -40,8 +40,8 @@ round : (c : tie.After-loop Inv-loop μ-loop) →
     let a = c .before .before .before .before .args in
     let first = c .before .before .window-at .result in
     let l = c .before .loop in
-    (l .end ≤ a .board .frame) × (first .start ≤ a .board .frame)
-    × (max (l .most) (a .board .frame - l .end + first .start) ≡ outage (suppliedBy (boardOf (a .board)) (a .windows .now)) (a .board .frame))
+    (l .end ≤ a .frame) × (first .start ≤ a .frame)
+    × (max (l .most) (a .frame - l .end + first .start) ≡ outage (suppliedBy (framed (a .frame)) (a .windows .now)) (a .frame))
 round c =
     let s = c .before .before .before .before in
     let l = c .before .loop in

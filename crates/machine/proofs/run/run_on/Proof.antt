@@ -1,8 +1,9 @@
 use mathlib.Core.Path.{_≡_, ap, _∙_}
 use lib.ListN.{length}
 use borrow.Author.Needs.{needs}
+use Rattle.scope.specs.Windows.{framed}
 use Rattle.scope.specs.Answers.{Fault.fine, runFault, runAnswer, runOut}
-use Rattle.tables.specs.Told.{boardOf, faultOf}
+use Rattle.tables.specs.Told.{faultOf}
 use Rattle.tables.proofs.FaultLaws.{refused-by, given-by, kept-by, written-by}
 use Rattle.machine.proofs.RunLaws.{after-table, legal-run}
 use Rattle.machine.proofs.run.run_on.Statement.{statement}
@@ -15,14 +16,14 @@ use Rattle.machine.proofs.run.run_legal.Reads as run-legal-reads
 
 -- the checks are those that a legal table leaves
 checked : (c : tie.After-check-run) → let a = c .before .before .before .before .before .args in
-    runFault (boardOf (a .board)) (a .windows .now) (a .tasks .now) (a .n) (a .jobs .now) (length (a .counts .now)) ≡ faultOf (c .check-run .result)
+    runFault (framed (a .frame)) (a .windows .now) (a .tasks .now) (a .n) (a .jobs .now) (length (a .counts .now)) ≡ faultOf (c .check-run .result)
 checked c =
     let s = c .before .before .before .before .before in
-    after-table _ _ _ _ (boardOf (s .args .board)) _ (s .pre) _ (c .check-run .ensures)
+    after-table _ _ _ _ (framed (s .args .frame)) _ (s .pre) _ (c .check-run .ensures)
 
 -- all of them have passed
 run-fine : (c : tie.After-enum-told) → let a = c .before .before .before .before .before .before .before .args in
-    runFault (boardOf (a .board)) (a .windows .now) (a .tasks .now) (a .n) (a .jobs .now) (length (a .counts .now)) ≡ fine
+    runFault (framed (a .frame)) (a .windows .now) (a .tasks .now) (a .n) (a .jobs .now) (length (a .counts .now)) ≡ fine
 run-fine c = checked (c .before .before) ∙ ap faultOf (c .enum-told .given .1)
 
 check-run-requires : tie.Need-check-run-requires
@@ -40,7 +41,7 @@ enum-told c = search needs
 run-legal-requires : tie.Need-run-legal-requires
 run-legal-requires c κs =
     let a = c .before .before .before .before .before .before .before .before .args in
-    legal-run _ _ _ _ (boardOf (a .board)) _ (run-fine (c .before))
+    legal-run _ _ _ _ (framed (a .frame)) _ (run-fine (c .before))
 
 same-length : tie.Need-same-length
 same-length c = search needs

@@ -240,7 +240,7 @@ abbrev lent-numbers : Ty
 lent-numbers = tyRef erased mut (tyInt w32)
 
 module _ {M : Type 1} (𝓤 : URA M) (H : Heap 𝓤) (A : Atoms 𝓤) (W : Given 𝓤 H A)
-    (at-mem : Memory → SProp 𝓤) (run : Routine → Fun 𝓤) (n : ℕ) (n-fits : n < 2 ^ 32) (i : Inputs) (p c : Buffer) (board-good : GoodBoard (i .board))
+    (at-mem : Memory → SProp 𝓤) (run : Routine → Fun 𝓤) (n : ℕ) (n-fits : n < 2 ^ 32) (i : Inputs) (p c : Buffer) (frame-good : GoodBoard (i .board))
     (begins : Begins n i p c) (room₁ : Room u32 (length (p .list .now))) (room₂ : Room u32 (length (c .list .now))) where
   abbrev bound : walkOf 𝓤 H A advance.ended stayed (advance.clauses 𝓤 H A at-mem run) .Ghost
   bound = ((six-lfts i p c, six-shares i p c, tt, (n, six-args i p c), (vint w32 n ∷ [], six-vals i p c)), tt)
@@ -259,7 +259,7 @@ module _ {M : Type 1} (𝓤 : URA M) (H : Heap 𝓤) (A : Atoms 𝓤) (W : Given
       (val (s .h)) (s .h) (tt, (tt, (tt, (tt, (tt, (s .ps, (s .cs, tt)))))))
       (tt, (tt, (tt, (tt, (tt, (s .same, (s .same′, tt)))))))) $ says ! over $
       move ! (4 ∷ 3 ∷ 1 ∷ []) $ use3 W (‵ (Tokens i p c)) (tokens-in 𝓤 H A W i p c) $ frame ! $ move ! (2 ∷ 1 ∷ 0 ∷ []) $
-      use3 W (‵ (Six i (Last p (s .ps)) (Last c (s .cs)))) (six-in 𝓤 H A W i (Last p (s .ps)) (Last c (s .cs)) board-good) $
+      use3 W (‵ (Six i (Last p (s .ps)) (Last c (s .cs)))) (six-in 𝓤 H A W i (Last p (s .ps)) (Last c (s .cs)) frame-good) $
       owned ! u32 (Is u32) (uint-makes 𝓤 H A W w32) n _ (refl, n-fits) $
       fjoin ! $ frame ! $ owned ! T.the-row (Is T.the-row) (LL.makes T.the-type T′.the-plain 𝓤 H A) (s .h) _ (s .good) $ done !
 
@@ -272,7 +272,7 @@ module _ {M : Type 1} (𝓤 : URA M) (H : Heap 𝓤) (A : Atoms 𝓤) (W : Given
     Λ = 𝓣 .Λ
 
     abbrev En : Env 𝓤 H
-    En = (T′.mir, l₀) ∷ (tyInt w32, l₁) ∷ (board-mir, l₂) ∷ (list-mir (named 0), l₃)
+    En = (T′.mir, l₀) ∷ (tyInt w32, l₁) ∷ (frame-mir, l₂) ∷ (list-mir (named 0), l₃)
         ∷ (list-mir (named 1), l₄) ∷ (list-mir (named 2), l₅) ∷ (buffer-mir (named 3), l₆) ∷ (buffer-mir (named 4), l₇)
         ∷ (T′.mir, l₈) ∷ (T′.mir, l₉) ∷ (tyInt w32, l₁₀) ∷ (tyInt w32, l₁₁)
         ∷ (tyBool, l₁₂) ∷ (tyUnit, l₁₃) ∷ (lent, l₁₄) ∷ (lent-numbers, l₁₅) ∷ (buffer-mir erased, l₁₆)
@@ -292,7 +292,7 @@ module _ {M : Type 1} (𝓤 : URA M) (H : Heap 𝓤) (A : Atoms 𝓤) (W : Given
         ∷ ‵ (fat fullShare (list-mir (named 2)) l₅ 0 (numbers-val (i .jobs)))
         ∷ ‵ (fdies (list-mir (named 2)) l₅) ∷ ‵ (fat fullShare (list-mir (named 1)) l₄ 0 (numbers-val (i .tasks))) ∷ ‵ (fdies (list-mir (named 1)) l₄)
         ∷ ‵ (fat fullShare (list-mir (named 0)) l₃ 0 (numbers-val (i .windows)))
-        ∷ ‵ (fdies (list-mir (named 0)) l₃) ∷ ‵ (fat fullShare board-mir l₂ 0 (board-val (i .board))) ∷ ‵ (fdies board-mir l₂)
+        ∷ ‵ (fdies (list-mir (named 0)) l₃) ∷ ‵ (fat fullShare frame-mir l₂ 0 (frame-val (i .board))) ∷ ‵ (fdies frame-mir l₂)
         ∷ ‵ (fat fullShare (tyInt w32) l₁ 0 (vint w32 n)) ∷ ‵ (fdies (tyInt w32) l₁) ∷ ‵ (froom T′.mir l₀ 0) ∷ ‵ (fdies T′.mir l₀) ∷ []
 
     -- a turn's postcondition: it ends nearer to the end, or the loop is left and the rest of the body runs
@@ -337,7 +337,7 @@ module _ {M : Type 1} (𝓤 : URA M) (H : Heap 𝓤) (A : Atoms 𝓤) (W : Given
         -- [c; its lender's part; p; its lender's part; the reference; its lender's part; δ's token; β's; α's; the lists'; lists; the open borrows; _18; …]
         move ! (10 ∷ []) $ use1 W (‵ (Lists i) ⊛ ‵ (Lists i)) (lists-twice 𝓤 H A W i) $ split ! $ move ! (10 ∷ 6 ∷ 11 ∷ 9 ∷ 8 ∷ 0 ∷ 4 ∷ 2 ∷ []) $ group ! 8 $
         use1 W (raw (Tick 𝓤 H A at-mem run .pre (to-tick 𝓤 H A W at-mem run i (anew p β γ₁ (s .ps)) (anew c δ γ₂ (s .cs)) α l₈ γ (s .h))))
-        (goes-tick 𝓤 H A W at-mem run i (anew p β γ₁ (s .ps)) (anew c δ γ₂ (s .cs)) α l₈ γ (s .h) board-good (ready n i p c begins s less β δ γ₁ γ₂)) $
+        (goes-tick 𝓤 H A W at-mem run i (anew p β γ₁ (s .ps)) (anew c δ γ₂ (s .cs)) α l₈ γ (s .h) frame-good (ready n i p c begins s less β δ γ₁ γ₂)) $
         -- [what `tick` asks; lists; the lender's parts of c, p and the state; the open borrows; _18; …; _17; …; _16; …; _15; …; _14; …; _13; …; _12; …; _11; …;
         -- _10; …; _9; …; that _8 dies; _7; …; _6; …; _5; …; _4; …; _3; …; _2; …; _1; …; _0; …]
         calls-at-last ! (fmOf 𝓤 H (W .laws) 𝓣) (Tick 𝓤 H A at-mem run) known
@@ -409,7 +409,7 @@ module _ {M : Type 1} (𝓤 : URA M) (H : Heap 𝓤) (A : Atoms 𝓤) (W : Given
   module _ (𝓣 : Tables 𝓤 H) (known-new : Triple 𝓤 (𝓣 .C #new) (New 𝓤 H A at-mem run)) (known : Triple 𝓤 (𝓣 .C #tick) (Tick 𝓤 H A at-mem run)) where
     -- the machine values of the parameters
     abbrev passed : List Val
-    passed = vint w32 n ∷ board-val (i .board) ∷ numbers-val (i .windows) ∷ numbers-val (i .tasks) ∷ numbers-val (i .jobs) ∷ buffer-val p ∷ buffer-val c ∷ []
+    passed = vint w32 n ∷ frame-val (i .board) ∷ numbers-val (i .windows) ∷ numbers-val (i .tasks) ∷ numbers-val (i .jobs) ∷ buffer-val p ∷ buffer-val c ∷ []
 
     walk : Room u32 (length (i .windows .now)) → Room u32 (length (i .tasks .now)) → Room u32 (length (i .jobs .now))
         → ent 𝓤 (onEntry 𝓤 H A advance.signature (six-lfts i p c) (six-shares i p c) (n, six-args i p c) (vint w32 n ∷ [], six-vals i p c))
@@ -425,7 +425,7 @@ module _ {M : Type 1} (𝓤 : URA M) (H : Heap 𝓤) (A : Atoms 𝓤) (W : Given
         alloc1 ! (λ l₁₀. alloc1 ! (λ l₁₁. alloc1 ! (λ l₁₂. alloc1 ! (λ l₁₃.
         alloc1 ! (λ l₁₄. alloc1 ! (λ l₁₅. alloc1 ! (λ l₁₆. alloc1 ! (λ l₁₇. alloc1 ! (λ l₁₈. alloc0 ! $ params1 ! $
         pass1 ! (init ! 34 refl (tt, record { fits = n-fits })) $
-        pass1 ! (init ! 32 refl (LL.lawful B.the-type B′.the-laws 𝓤 H A W .typed (i .board) _ board-good .0)) $
+        pass1 ! (init ! 32 refl (LL.lawful B.the-type B′.the-laws 𝓤 H A W .typed (i .board) _ frame-good .0)) $
         pass1 ! (init ! 30 refl (tt, (tt, (record { fits = room₃ .0 }, tt)))) $ pass1 ! (init ! 28 refl (tt, (tt, (record { fits = room₄ .0 }, tt)))) $
         pass1 ! (init ! 26 refl (tt, (tt, (record { fits = room₅ .0 }, tt)))) $
         pass1 ! (init ! 24 refl (tt, (tt, (record { fits = room₁ .0 }, tt)))) $
@@ -454,7 +454,7 @@ module _ {M : Type 1} (𝓤 : URA M) (H : Heap 𝓤) (A : Atoms 𝓤) (W : Given
       → Triple 𝓤 (𝓣 .C #tick) (Tick 𝓤 H A at-mem run) → Walks 𝓤 H A advance.ended stayed
       (WpFn 𝓤 H (𝓣 .C) (𝓣 .Λ) code.function) (advance.clauses 𝓤 H A at-mem run)
   advance-walks 𝓣 known-new known = walked 𝓤 H A advance.ended stayed (advance.clauses 𝓤 H A at-mem run) (WpFn 𝓤 H (𝓣 .C) (𝓣 .Λ) code.function)
-      (λ κs. (uint-vals w32, (board-vals, (slice-vals, (slice-vals, (slice-vals, (slice-vals, (slice-vals, tt))))))))
+      (λ κs. (uint-vals w32, (frame-vals, (slice-vals, (slice-vals, (slice-vals, (slice-vals, (slice-vals, tt))))))))
       (λ κs. (
         uint-tells w32,
         (
@@ -473,7 +473,7 @@ module _ {M : Type 1} (𝓤 : URA M) (H : Heap 𝓤) (A : Atoms 𝓤) (W : Given
       ))
       (λ κs qs bounds a _ are.
       let i : Inputs = record {
-        board = a .1 .0;
+        frame = a .1 .0;
         windows = a .1 .1 .0;
         tasks = a .1 .1 .1 .0;
         jobs = a .1 .1 .1 .1 .0;

@@ -1,9 +1,8 @@
 use mathlib.Core.Path.{sym, _∙_}
 use borrow.Author.Needs.{needs}
-use Rattle.scope.specs.Windows.{suppliedBy}
+use Rattle.scope.specs.Windows.{framed, suppliedBy}
 use Rattle.scope.specs.Tasks.{tasksOf}
 use Rattle.scope.specs.Jobs.{jobsOf}
-use Rattle.tables.specs.Told.{boardOf}
 use Rattle.tables.specs.Cursors.{after}
 use Rattle.tables.proofs.CursorLaws.{on-at}
 use Rattle.machine.specs.Rule.{rule}
@@ -49,7 +48,7 @@ serve-requires c κs =
 abbrev given-out : (c : tie.After-serve) →
     let a = c .before .before .before .before .before .before .before .before .before .before
     .before .before .before .before .before .before .before .args in
-    GivenOut (suppliedBy (boardOf (a .board)) (a .windows .now)) (after (boardOf (a .board)) (a .windows .now))
+    GivenOut (suppliedBy (framed (a .frame)) (a .windows .now)) (after (framed (a .frame)) (a .windows .now))
     (rule (tasksOf (a .tasks .now)) (jobsOf (a .jobs .now))) (tasksOf (a .tasks .now)) (jobsOf (a .jobs .now)) (a .s) (a .places .now) (a .counts .now)
 given-out c =
     let g = c .before .before in

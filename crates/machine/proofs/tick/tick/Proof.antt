@@ -167,7 +167,7 @@ module _ {M : Type 1} (𝓤 : URA M) (H : Heap 𝓤) (A : Atoms 𝓤) (W : Given
   module _ (C : Calls 𝓤 H) (Λ : Loops 𝓤 H) (fm : FmC 𝓤 H (W .laws) C) (known : Triple 𝓤 (C #step) (Step 𝓤 H A at-mem run)) where
     -- the machine values of the parameters
     abbrev passed : List Val
-    passed = vptr b o ∷ board-val (i .board) ∷ numbers-val (i .windows) ∷ numbers-val (i .tasks) ∷ numbers-val (i .jobs) ∷ buffer-val p ∷ buffer-val c ∷ []
+    passed = vptr b o ∷ frame-val (i .board) ∷ numbers-val (i .windows) ∷ numbers-val (i .tasks) ∷ numbers-val (i .jobs) ∷ buffer-val p ∷ buffer-val c ∷ []
 
     walk : Room u32 (length (i .windows .now)) → Room u32 (length (i .tasks .now))
         → Room u32 (length (i .jobs .now)) → Room u32 (length (p .list .now)) → Room u32 (length (c .list .now))
@@ -240,7 +240,7 @@ module _ {M : Type 1} (𝓤 : URA M) (H : Heap 𝓤) (A : Atoms 𝓤) (W : Given
       → Walks 𝓤 H A tick.ended stayed (WpFn 𝓤 H C Λ code.function)
       (tick.clauses 𝓤 H A at-mem run)
   tick-walks C Λ fm known = walked 𝓤 H A tick.ended stayed (tick.clauses 𝓤 H A at-mem run) (WpFn 𝓤 H C Λ code.function)
-      (λ κs. (ptr-vals, (board-vals, (slice-vals, (slice-vals, (slice-vals, (slice-vals, (slice-vals, tt))))))))
+      (λ κs. (ptr-vals, (frame-vals, (slice-vals, (slice-vals, (slice-vals, (slice-vals, (slice-vals, tt))))))))
       (λ κs. (
         mut-tells (named 0) (κs .0) T.the-row,
         (
@@ -259,7 +259,7 @@ module _ {M : Type 1} (𝓤 : URA M) (H : Heap 𝓤) (A : Atoms 𝓤) (W : Given
       ))
       (λ κs qs bounds a _ are.
       let i : Inputs = record {
-        board = a .1 .0;
+        frame = a .1 .0;
         windows = a .1 .1 .0;
         tasks = a .1 .1 .1 .0;
         jobs = a .1 .1 .1 .1 .0;

@@ -1,8 +1,8 @@
 use mathlib.Core.Path.{_≡_, sym, ap, ap₂, _∙_}
 use Prim.Native.Nat.{ℕ}
 use lib.Dec.{eqb}
-use Rattle.scope.specs.Answers.{Fault.fine, faultIf, _orElse_}
-use Rattle.scope.specs.Shared.{wholeFault, absentOwnerFault, sliverFault, sharedFault}
+use Rattle.scope.specs.Answers.{Fault.fine, faultIf, _orElse_, ruleFault}
+use Rattle.scope.specs.Shared.{own, wholeFault, absentOwnerFault, sliverFault, lostFault, sharedFault}
 use Rattle.theory.specs.Answers.{orElse-fine}
 use Rattle.tables.specs.Told.{boardOf, faultOf}
 use Rattle.tables.proofs.FaultLaws.{or-assoc, or-fault, or-fine}
@@ -11,6 +11,7 @@ use Rattle.shared.proofs.table.check_counted.Statement.{statement}
 use Rattle.shared.proofs.table.check_counted.Tie as tie
 use Rattle.shared.proofs.table.check_counted.Reads as reads
 use Rattle.shared.proofs.table.check_counted.Lts as lts
+use Rattle.shared.proofs.table.check_left.Reads as check-left-reads
 use Rattle.shared.proofs.table.check_present.Reads as check-present-reads
 use Rattle.shared.proofs.table.check_slivers.Reads as check-slivers-reads
 use Rattle.shared.proofs.table.check_whole.Reads as check-whole-reads
@@ -19,10 +20,9 @@ use Rattle.tables.proofs.answer.Checked.or_else.Reads as or-else-reads
 -- the checks of the list and of the owner together
 faulted : (c : tie.After-or-else) → let a = c .before .before .before .before .args in
     faultOf (c .or-else .result) ≡ (wholeFault (a .owners) (boardOf (a .board)) (a .windows .now) orElse absentOwnerFault (boardOf (a .board)) (a .windows .now))
-unfolding absentOwnerFault
 faulted c =
     c .or-else .ensures
-    ∙ ap₂ _orElse_ (c .before .before .check-whole .ensures) (c .before .check-present .ensures ∙ ap (λ (n : ℕ). faultIf (eqb n 0) 1 0) (c .before .before .before .before .pre))
+    ∙ ap₂ _orElse_ (c .before .before .check-whole .ensures) (c .before .check-present .ensures)
 
 -- past the match there is no fault of either
 fine-at : (c : tie.After-enum-told) → let a = c .before .before .before .before .before .before .args in
@@ -33,7 +33,7 @@ check-whole-requires : tie.Need-check-whole-requires
 check-whole-requires c κs = search needs
 
 check-present-requires : tie.Need-check-present-requires
-check-present-requires c κs = search needs
+check-present-requires c κs = c .before .before .pre
 
 or-else-requires : tie.Need-or-else-requires
 or-else-requires c κs = search needs
@@ -47,6 +47,12 @@ enum-told c = search needs
 check-slivers-requires : tie.Need-check-slivers-requires
 check-slivers-requires c κs = orElse-fine _ _ (fine-at c) .0
 
+check-left-requires : tie.Need-check-left-requires
+check-left-requires c κs = search needs
+
+or-else-requires-2 : tie.Need-or-else-requires-2
+or-else-requires-2 c κs = search needs
+
 returns : tie.Need-returns
 unfolding sharedFault
 returns c =
@@ -54,16 +60,20 @@ returns c =
     let a = c .before .before .before .before .before .before .before .args in
     let ws = a .windows .now in
     let board = boardOf (a .board) in
-    sym (sym (or-assoc (wholeFault (a .owners) board ws) (absentOwnerFault board ws) (sliverFault board ws)) ∙ or-fault _ (sliverFault board ws) f)
+    let last = sliverFault board ws orElse lostFault board (own board ws) in
+    sym (sym (or-assoc (wholeFault (a .owners) board ws) (absentOwnerFault board ws) last) ∙ or-fault _ last f)
 
 returns-2 : tie.Need-returns-2
-unfolding sharedFault
+unfolding sharedFault lostFault
 returns-2 c =
-    let a = c .before .before .before .before .before .before .before .args in
+    let x = c .before .before .before in
+    let a = x .before .before .before .before .before .before .args in
     let ws = a .windows .now in
     let board = boardOf (a .board) in
-    c .check-slivers .ensures
-    ∙ sym (sym (or-assoc (wholeFault (a .owners) board ws) (absentOwnerFault board ws) (sliverFault board ws)) ∙ or-fine _ (sliverFault board ws) (fine-at (c .before)))
+    let last = sliverFault board ws orElse lostFault board (own board ws) in
+    let left = c .before .check-left .ensures ∙ ap (λ (n : ℕ). ruleFault board orElse faultIf (eqb n 0) 13 0) (x .before .before .before .before .before .before .pre) in
+    c .or-else2 .ensures ∙ ap₂ _orElse_ (c .before .before .check-slivers .ensures) left
+    ∙ sym (sym (or-assoc (wholeFault (a .owners) board ws) (absentOwnerFault board ws) last) ∙ or-fine _ last (fine-at x))
 
 pub check-counted-spec : {M : Type 1} → statement M
 check-counted-spec =
@@ -75,5 +85,7 @@ check-counted-spec =
     enum-known-r
     enum-told
     check-slivers-requires
+    check-left-requires
+    or-else-requires-2
     returns
     returns-2)

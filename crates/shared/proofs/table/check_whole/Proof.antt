@@ -1,5 +1,5 @@
 use mathlib.Core.Path.{ap₂, _∙_}
-use Rattle.scope.specs.Answers.{_orElse_}
+use Rattle.scope.specs.Answers.{_orElse_, frameFault}
 use Rattle.scope.specs.Shared.{ownedListFault, wholeFault}
 use borrow.Author.Needs.{needs}
 use Rattle.shared.proofs.table.check_whole.Statement.{statement}
@@ -27,7 +27,7 @@ or-else-requires-2 : tie.Need-or-else-requires-2
 or-else-requires-2 c κs = search needs
 
 returns : tie.Need-returns
-unfolding wholeFault ownedListFault
+unfolding wholeFault ownedListFault frameFault
 returns c =
     let d = c .before .before in
     c .or-else2 .ensures

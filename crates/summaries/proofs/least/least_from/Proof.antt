@@ -1,7 +1,8 @@
 use mathlib.Core.Path.{_≡_, sym, ap, ap₂, _∙_}
+use Rattle.scope.specs.Windows.{framed}
 use Rattle.scope.specs.Answers.{Fault.fine, Answer.given, _orElse_, frameFault, lengthFault}
 use Rattle.theory.specs.Answers.{orElse-fine, frame-legal, length-legal}
-use Rattle.tables.specs.Told.{boardOf, faultOf}
+use Rattle.tables.specs.Told.{faultOf}
 use Rattle.tables.proofs.FaultLaws.{refused-by, given-by}
 use Rattle.summaries.specs.Least.{fromAnswer}
 use borrow.Author.Needs.{needs}
@@ -16,11 +17,11 @@ use Rattle.tables.proofs.length.check_length.Reads as check-length-reads
 
 -- the two checks together
 faulted : (c : tie.After-or-else) → let a = c .before .before .before .before .args in
-    faultOf (c .or-else .result) ≡ (frameFault (boardOf (a .board)) orElse lengthFault (a .length))
+    faultOf (c .or-else .result) ≡ (frameFault (framed (a .frame)) orElse lengthFault (a .length))
 faulted c = c .or-else .ensures ∙ ap₂ _orElse_ (c .before .before .check-frame .ensures) (c .before .check-length .ensures)
 
 passed : (c : tie.After-enum-told) → let a = c .before .before .before .before .before .before .args in
-    (frameFault (boardOf (a .board)) orElse lengthFault (a .length)) ≡ fine
+    (frameFault (framed (a .frame)) orElse lengthFault (a .length)) ≡ fine
 passed c = sym (faulted (c .before .before)) ∙ ap faultOf (c .enum-told .given .1)
 
 check-frame-requires : tie.Need-check-frame-requires
@@ -41,8 +42,8 @@ enum-told c = search needs
 sum-from-requires : tie.Need-sum-from-requires
 sum-from-requires c κs =
     let a = c .before .before .before .before .before .before .args in
-    let p = orElse-fine (frameFault (boardOf (a .board))) (lengthFault (a .length)) (passed c) in
-    let f = frame-legal (boardOf (a .board)) (p .0) in
+    let p = orElse-fine (frameFault (framed (a .frame))) (lengthFault (a .length)) (passed c) in
+    let f = frame-legal (framed (a .frame)) (p .0) in
     (f .0, f .1, length-legal (a .length) (p .1))
 
 returns : tie.Need-returns

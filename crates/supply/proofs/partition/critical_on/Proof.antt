@@ -3,9 +3,9 @@ use Prim.Native.Nat.{ℕ, _/_, _≤_, _<_}
 use native.Mathlib.Omega.{arith}
 use lib.ListN.{length}
 use borrow.Author.Needs.{needs}
+use Rattle.scope.specs.Windows.{framed}
 use Rattle.scope.specs.Answers.{Answer.given, Answer.refused, criticalOf, criticalAnswer, criticalOut}
 use Rattle.theory.specs.Answers.{table-legal}
-use Rattle.tables.specs.Told.{boardOf}
 use Rattle.tables.proofs.FaultLaws.{refused-by, given-by, kept-by, written-by}
 use Rattle.supply.proofs.PartitionLaws.{critical-short, critical-fine}
 use Rattle.supply.proofs.partition.critical_on.Statement.{statement}
@@ -46,8 +46,8 @@ returns c =
     let e = c .before .before .before .before .before .before .before .before .before .before .before in
     let a = e .args in
     let m = c .before .before .before .before .before .before .measured .ensures .numbers in
-    let h : length (a .out .now) < length (criticalOf (boardOf (a .board)) (a .windows .now)) = omega (arith, m, c .before .before .before .before .if1 .taken) in
-    let f = critical-short (boardOf (a .board)) (a .windows .now) (length (a .out .now)) (e .pre) h in
+    let h : length (a .out .now) < length (criticalOf (framed (a .frame)) (a .windows .now)) = omega (arith, m, c .before .before .before .before .if1 .taken) in
+    let f = critical-short (framed (a .frame)) (a .windows .now) (length (a .out .now)) (e .pre) h in
     let x = c .before .before .refuse .ensures in
     (x .0 ∙ ap (refused 8) m ∙ refused-by _ _ f, x .1 ∙ kept-by _ _ _ f)
 
@@ -60,8 +60,8 @@ returns-2 c =
     let e = c .before .before .before .before .before .before .before .before .before .before .before in
     let a = e .args in
     let m = c .before .before .before .before .before .before .measured .ensures .numbers in
-    let h : length (criticalOf (boardOf (a .board)) (a .windows .now)) ≤ length (a .out .now) = omega (arith, m, c .before .before .before .before .if1 .left) in
-    let f = critical-fine (boardOf (a .board)) (a .windows .now) (length (a .out .now)) (e .pre) h in
+    let h : length (criticalOf (framed (a .frame)) (a .windows .now)) ≤ length (a .out .now) = omega (arith, m, c .before .before .before .before .if1 .left) in
+    let f = critical-fine (framed (a .frame)) (a .windows .now) (length (a .out .now)) (e .pre) h in
     (ap (λ (n : ℕ). given (n / 2)) m ∙ given-by _ _ f, c .before .before .write-edges .ensures ∙ written-by _ _ _ f)
 
 pub critical-on-spec : {M : Type 1} → statement M

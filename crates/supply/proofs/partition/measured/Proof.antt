@@ -5,13 +5,12 @@ use native.Mathlib.Omega.{arith}
 use borrow.Author.Needs.{needs}
 use Rattle.scope.specs.Numbers.{greatest}
 use Rattle.scope.specs.Ticks.{leastSupply}
-use Rattle.scope.specs.Windows.{suppliedBy}
+use Rattle.scope.specs.Windows.{framed, suppliedBy}
 use Rattle.scope.specs.Partition.{lag, delay as delayOf}
 use Rattle.scope.specs.Answers.{criticalOf}
 use Rattle.theory.specs.Ticks.{least-none}
 use Rattle.theory.specs.Rows.{table-row}
 use Rattle.theory.specs.Lags.{piece-lag, delay-fits}
-use Rattle.tables.specs.Told.{boardOf}
 use Rattle.supply.specs.declared.partition.Met.{Met}
 use Rattle.supply.proofs.PartitionLaws.{was-none, edges, rose, edges-few, next-rose, next-edge, next-none, last-edge, last-none}
 use Rattle.supply.proofs.PartitionLaws.{Counted, counted-none, counted-next, lag-order, lag-is, lag-first, lag-all}
@@ -25,19 +24,19 @@ use Rattle.supply.proofs.partition.greater.Reads as greater-reads
 use Rattle.supply.proofs.pieces.piece_from.Reads as piece-from-reads
 
 abbrev Inv-loop : tie.InvT-loop
-Inv-loop board windows whole held from frame met₀ delay₀ before₀ least₀ t₀ met delay before least t =
-    let b = boardOf board in
+Inv-loop frame windows whole held from frame met₀ delay₀ before₀ least₀ t₀ met delay before least t =
+    let b = framed frame in
     let σ = suppliedBy b windows in
-    (t ≤ frame) × (before ≡ rose b windows t) × (least ≡ leastSupply σ (board .frame) t) × Counted held from (edges b windows t) met
-    × (delay ≡ greatest (lag σ (board .frame)) (t + 1))
+    (t ≤ frame) × (before ≡ rose b windows t) × (least ≡ leastSupply σ (frame .frame) t) × Counted held from (edges b windows t) met
+    × (delay ≡ greatest (lag σ (frame .frame)) (t + 1))
 
 abbrev μ-loop : tie.MeasureT-loop
-μ-loop board windows whole held from frame met₀ delay₀ before₀ least₀ t₀ met delay before least t = frame - t
+μ-loop frame windows whole held from frame met₀ delay₀ before₀ least₀ t₀ met delay before least t = frame - t
 
 loop-holds : tie.Need-loop-holds Inv-loop μ-loop
 loop-holds c =
     let a = c .before .before .args in
-    let b = boardOf (a .board) in
+    let b = framed (a .frame) in
     let per = table-row b (a .windows .now) (c .before .before .pre .0) .repeats in
     (omega arith, was-none _, sym (least-none _ _ per), counted-none b (a .windows .now) (a .held .now) (a .from), lag-first _ _ per)
 
@@ -48,7 +47,7 @@ edge-met-requires : tie.Need-edge-met-requires Inv-loop μ-loop
 edge-met-requires c κs =
     let e = c .before .before .before .before .before in
     let l = c .before .before .loop in
-    (e .pre .1, omega (arith, l .inv .0, l .inv .3 .count, edges-few (boardOf (e .args .board)) (e .args .windows .now) (l .t), e .pre .0 .frame-most))
+    (e .pre .1, omega (arith, l .inv .0, l .inv .3 .count, edges-few (framed (e .args .frame)) (e .args .windows .now) (l .t), e .pre .0 .frame-most))
 
 lag-with-requires : tie.Need-lag-with-requires Inv-loop μ-loop
 lag-with-requires c κs =
@@ -68,10 +67,10 @@ loop-again c =
     let l = c .before .before .before .before .before .loop in
     let r = c .before .before .before .piece-from .result in
     let p = c .before .before .before .piece-from .ensures in
-    let b = boardOf (a .board) in
+    let b = framed (a .frame) in
     let ws = a .windows .now in
     let σ = suppliedBy b ws in
-    let P = a .board .frame in
+    let P = a .frame in
     let per = table-row b ws (e .pre .0) .repeats in (
       p .most,
       next-rose b ws (l .t) r p (l .before) (l .inv .1),
@@ -90,36 +89,36 @@ loop-again c =
     )
 
 -- the frame is at its end
-ended : (c : tie.After-loop Inv-loop μ-loop) → c .before .loop .t ≡ c .before .before .before .before .args .board .frame
+ended : (c : tie.After-loop Inv-loop μ-loop) → c .before .loop .t ≡ c .before .before .before .before .args .frame
 ended c = omega (arith, c .before .loop .inv .0, c .loop-test .left)
 
 -- and the delay is found
 delay-is : (c : tie.After-loop Inv-loop μ-loop) → let a = c .before .before .before .before .args in
-    c .before .loop .delay ≡ delayOf (suppliedBy (boardOf (a .board)) (a .windows .now)) (a .board .frame)
+    c .before .loop .delay ≡ delayOf (suppliedBy (framed (a .frame)) (a .windows .now)) (a .frame)
 delay-is c =
     let e = c .before .before .before .before in
-    let σ = suppliedBy (boardOf (e .args .board)) (e .args .windows .now) in
-    let P = e .args .board .frame in
+    let σ = suppliedBy (framed (e .args .frame)) (e .args .windows .now) in
+    let P = e .args .frame in
     c .before .loop .inv .4 ∙ ap (λ (k : ℕ). greatest (lag σ P) (k + 1)) (ended c) ∙ lag-all σ P (table-row _ _ (e .pre .0) .repeats)
 
 edge-met-requires-2 : tie.Need-edge-met-requires-2 Inv-loop μ-loop
 edge-met-requires-2 c κs =
     let e = c .before .before .before .before in
     let l = c .before .loop in
-    (e .pre .1, omega (arith, l .inv .0, l .inv .3 .count, edges-few (boardOf (e .args .board)) (e .args .windows .now) (l .t), e .pre .0 .frame-most))
+    (e .pre .1, omega (arith, l .inv .0, l .inv .3 .count, edges-few (framed (e .args .frame)) (e .args .windows .now) (l .t), e .pre .0 .frame-most))
 
 cast-t17 : tie.Need-cast-t17 Inv-loop μ-loop
 cast-t17 c =
     let e = c .before .before .before .before .before in
-    omega (arith, delay-is (c .before), delay-fits _ _ (table-row (boardOf (e .args .board)) (e .args .windows .now) (e .pre .0) .repeats) (e .pre .0 .frame-most))
+    omega (arith, delay-is (c .before), delay-fits _ _ (table-row (framed (e .args .frame)) (e .args .windows .now) (e .pre .0) .repeats) (e .pre .0 .frame-most))
 
 returns : tie.Need-returns Inv-loop μ-loop
 returns c =
     let e = c .before .before .before .before .before in
     let l = c .before .before .loop in
-    let b = boardOf (e .args .board) in
+    let b = framed (e .args .frame) in
     let ws = e .args .windows .now in
-    let P = e .args .board .frame in
+    let P = e .args .frame in
     let z = ended (c .before) in
     let is = l .inv .1 ∙ ap (rose b ws) z in
     let all = counted-next _ _ (edges b ws (l .t)) P (l .met) (l .inv .3) (l .before) (criticalOf b ws)

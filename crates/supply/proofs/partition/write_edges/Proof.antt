@@ -4,12 +4,11 @@ use Prim.Native.Nat.{ℕ, _+_, _-_, _≤_, _<_}
 use native.Mathlib.Omega.{arith}
 use lib.ListN.{length, length-set, length-append}
 use Rattle.scope.specs.Ticks.{leastSupply}
-use Rattle.scope.specs.Windows.{suppliedBy}
+use Rattle.scope.specs.Windows.{framed, suppliedBy}
 use Rattle.scope.specs.Answers.{criticalOf}
 use Rattle.theory.specs.Ticks.{least-none}
 use Rattle.theory.specs.Rows.{table-row}
 use Rattle.theory.specs.Buffers.{writtenAfter, after-none, after-more}
-use Rattle.tables.specs.Told.{boardOf}
 use Rattle.supply.proofs.PartitionLaws.{was-none, edges, edges-none, rose, next-rose, next-edge, next-none, next-most, last-edge, last-none}
 use Rattle.supply.proofs.partition.write_edges.Statement.{statement}
 use Rattle.supply.proofs.partition.write_edges.Tie as tie
@@ -18,24 +17,24 @@ use Rattle.supply.proofs.partition.write_edges.Lts as lts
 use Rattle.supply.proofs.pieces.piece_from.Reads as piece-from-reads
 
 abbrev Inv-loop : tie.InvT-loop
-Inv-loop board windows from out₀ frame at₀ before₀ least₀ t₀ out at before least t =
-    let b = boardOf board in
+Inv-loop frame windows from out₀ frame at₀ before₀ least₀ t₀ out at before least t =
+    let b = framed frame in
     (t ≤ frame)
     × (before ≡ rose b windows t)
-    × (least ≡ leastSupply (suppliedBy b windows) (board .frame) t)
+    × (least ≡ leastSupply (suppliedBy b windows) (frame .frame) t)
     × (at ≡ from + length (edges b windows t))
     × (length out ≡ length out₀)
     × (from + length (criticalOf b windows) ≤ length out₀)
     × (out ≡ writtenAfter from out₀ (edges b windows t))
 
 abbrev μ-loop : tie.MeasureT-loop
-μ-loop board windows from out₀ frame at₀ before₀ least₀ t₀ out at before least t = frame - t
+μ-loop frame windows from out₀ frame at₀ before₀ least₀ t₀ out at before least t = frame - t
 
 loop-holds : tie.Need-loop-holds Inv-loop μ-loop
 loop-holds c =
     let a = c .before .before .args in
     let p = c .before .before .pre in
-    let e = edges-none (boardOf (a .board)) (a .windows .now) in (
+    let e = edges-none (framed (a .frame)) (a .windows .now) in (
       omega arith,
       was-none _,
       sym (least-none _ _ (table-row _ _ (p .0) .repeats)),
@@ -53,7 +52,7 @@ room : (c : tie.Then1 Inv-loop μ-loop) → c .before .before .before .loop .at 
 room c =
     let a = c .before .before .before .before .before .before .args in
     let l = c .before .before .before .loop in
-    let b = boardOf (a .board) in
+    let b = framed (a .frame) in
     let r = c .before .piece-from in
     omega (
       arith,
@@ -81,7 +80,7 @@ loop-again : tie.Need-loop-again Inv-loop μ-loop
 loop-again c =
     let a = c .before .before .before .before .before .before .args in
     let l = c .before .before .before .loop in
-    let b = boardOf (a .board) in
+    let b = framed (a .frame) in
     let r = c .before .piece-from .result in
     let p = c .before .piece-from .ensures in
     let e = next-edge b (a .windows .now) (l .t) r p (l .before) (l .inv .1) (c .if1 .taken) in (
@@ -102,7 +101,7 @@ loop-again-2 : tie.Need-loop-again-2 Inv-loop μ-loop
 loop-again-2 c =
     let a = c .before .before .before .before .before .before .args in
     let l = c .before .before .before .loop in
-    let b = boardOf (a .board) in
+    let b = framed (a .frame) in
     let r = c .before .piece-from .result in
     let p = c .before .piece-from .ensures in
     let e = next-none b (a .windows .now) (l .t) r p (l .before) (l .inv .1) (c .if1 .left) in (
@@ -116,20 +115,20 @@ loop-again-2 c =
     )
 
 -- at the end of the frame
-ended : (c : tie.After-loop Inv-loop μ-loop) → c .before .loop .t ≡ c .before .before .before .before .args .board .frame
+ended : (c : tie.After-loop Inv-loop μ-loop) → c .before .loop .t ≡ c .before .before .before .before .args .frame
 ended c = omega (arith, c .before .loop .inv .0, c .loop-test .left)
 
 -- an open run's end is the last number
 closed : (c : tie.Then2 Inv-loop μ-loop) →
     let a = c .before .before .before .before .before .args in
-    criticalOf (boardOf (a .board)) (a .windows .now) ≡ edges (boardOf (a .board)) (a .windows .now) (c .before .before .loop .t) ++ (a .board .frame ∷ [])
+    criticalOf (framed (a .frame)) (a .windows .now) ≡ edges (framed (a .frame)) (a .windows .now) (c .before .before .loop .t) ++ (a .frame ∷ [])
 closed c =
     let a = c .before .before .before .before .before .args in
     let l = c .before .before .loop in
-    let b = boardOf (a .board) in
+    let b = framed (a .frame) in
     let e = ended (c .before) in
     last-edge b (a .windows .now) (l .before) (l .inv .1 ∙ ap (rose b (a .windows .now)) e) (c .if2 .taken)
-    ∙ ap (λ (k : ℕ). edges b (a .windows .now) k ++ (a .board .frame ∷ [])) (sym e)
+    ∙ ap (λ (k : ℕ). edges b (a .windows .now) k ++ (a .frame ∷ [])) (sym e)
 
 room-2 : (c : tie.Then2 Inv-loop μ-loop) → c .before .before .loop .at < length (c .before .before .loop .out)
 room-2 c =
@@ -141,7 +140,7 @@ room-2 c =
       l .inv .4,
       l .inv .5,
       ap length (closed c),
-      length-append (edges (boardOf (a .board)) (a .windows .now) (l .t)) (a .board .frame ∷ []),
+      length-append (edges (framed (a .frame)) (a .windows .now) (l .t)) (a .frame ∷ []),
     )
 
 mul-out-2 : tie.Need-mul-out-2 Inv-loop μ-loop
@@ -157,7 +156,7 @@ returns : tie.Need-returns Inv-loop μ-loop
 returns c =
     let a = c .before .before .before .before .before .args in
     let l = c .before .before .loop in
-    after-more (a .from) (a .out .now) (omega (arith, l .inv .5)) (edges (boardOf (a .board)) (a .windows .now) (l .t)) (l .out) (l .at) (a .board .frame) (l .inv .3)
+    after-more (a .from) (a .out .now) (omega (arith, l .inv .5)) (edges (framed (a .frame)) (a .windows .now) (l .t)) (l .out) (l .at) (a .frame) (l .inv .3)
     (omega (arith, room-2 c, l .inv .4)) (l .inv .6)
     ∙ ap (writtenAfter (a .from) (a .out .now)) (sym (closed c))
 
@@ -168,7 +167,7 @@ returns-2 : tie.Need-returns-2 Inv-loop μ-loop
 returns-2 c =
     let a = c .before .before .before .before .before .args in
     let l = c .before .before .loop in
-    let b = boardOf (a .board) in
+    let b = framed (a .frame) in
     let e = ended (c .before) in
     l .inv .6
     ∙ ap (writtenAfter (a .from) (a .out .now)) (ap (edges b (a .windows .now)) e ∙ sym (last-none b (a .windows .now) (l .before) (l .inv .1 ∙ ap (rose b (a .windows .now)) e) (c .if2 .left)))

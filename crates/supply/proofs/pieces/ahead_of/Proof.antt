@@ -5,11 +5,11 @@ use mathlib.Core.Path.{_≡_, ap, _∙_}
 use lib.ListN.{length}
 use Rattle.scope.specs.Limits.{mostFrame}
 use Rattle.scope.specs.Ticks.{supply}
-use Rattle.scope.specs.Windows.{suppliedBy}
+use Rattle.scope.specs.Windows.{framed, suppliedBy}
 use Rattle.theory.specs.Answers.{LegalTable}
 use Rattle.theory.specs.Rows.{endOf, table-row}
 use Rattle.theory.specs.Pieces.{Ahead, ahead-none}
-use Rattle.tables.specs.Told.{boardOf, windowOf}
+use Rattle.tables.specs.Told.{windowOf}
 use Rattle.supply.specs.Positions.{opens, closes, Behind}
 use Rattle.supply.proofs.PositionLaws.{small, upto-is}
 use Rattle.supply.proofs.SupplyLaws.{Passed, Known, passed-none, still-behind, known, ends, here, passed-next}
@@ -27,13 +27,13 @@ use Rattle.supply.proofs.supply.start_after.Reads as start-after-reads
 use Rattle.tables.proofs.window.window_at.Reads as window-at-reads
 
 abbrev Inv-loop : tie.InvT-loop
-Inv-loop board windows t least frame count ahead₀ earlier₀ position₀ i₀ ahead earlier position i =
-    let b = boardOf board in
+Inv-loop frame windows t least frame count ahead₀ earlier₀ position₀ i₀ ahead earlier position i =
+    let b = framed frame in
     (ok : LegalTable b windows) × Passed b windows ok t i earlier position × (0 < ahead .rise) × (t + ahead .rise ≤ frame)
-    × Ahead (suppliedBy b windows) (board .frame) (endOf windows) t i (ahead .flat) (ahead .rise) × (i ≤ count)
+    × Ahead (suppliedBy b windows) (frame .frame) (endOf windows) t i (ahead .flat) (ahead .rise) × (i ≤ count)
 
 abbrev μ-loop : tie.MeasureT-loop
-μ-loop board windows t least frame count ahead₀ earlier₀ position₀ i₀ ahead earlier position i = count - i
+μ-loop frame windows t least frame count ahead₀ earlier₀ position₀ i₀ ahead earlier position i = count - i
 
 sub-t17 : tie.Need-sub-t17 Inv-loop μ-loop
 sub-t17 c = search needs
@@ -57,7 +57,7 @@ window-at-requires c κs = search needs
 
 -- what is known of the window that is read
 known-at : (c : tie.After-window-at Inv-loop μ-loop) →
-    Known (boardOf (c .before .before .before .before .before .args .board)) (c .before .before .loop .earlier) (windowOf (c .window-at .result))
+    Known (framed (c .before .before .before .before .before .args .frame)) (c .before .before .loop .earlier) (windowOf (c .window-at .result))
 known-at c = let l = c .before .before .loop in known _ _ (l .inv .0) _ (l .i) _ _ (l .inv .1) (omega arith) _ (c .window-at .ensures)
 
 start-after-requires : tie.Need-start-after-requires Inv-loop μ-loop
@@ -87,21 +87,21 @@ upto-requires c κs =
 record Held (c : tie.After-upto Inv-loop μ-loop) : Type 0 where
   pub behind : let w = c .before .before .before .before .before in
       let a = w .before .before .before .before .before .args in
-      Behind (boardOf (a .board)) (a .windows .now) (c .before .before .moved .result) (w .window-at .result .end + a .t)
+      Behind (framed (a .frame)) (a .windows .now) (c .before .before .moved .result) (w .window-at .result .end + a .t)
   pub after : let w = c .before .before .before .before .before in
       let a = w .before .before .before .before .before .args in
-      After (boardOf (a .board)) (a .windows .now) (endOf (a .windows .now) (w .before .before .loop .i) + a .t) (c .before .ticks-after .result)
+      After (framed (a .frame)) (a .windows .now) (endOf (a .windows .now) (w .before .before .loop .i) + a .t) (c .before .ticks-after .result)
   pub fits : c .before .before .before .before .start-after .result .before ≤ c .upto .result
   pub is : let w = c .before .before .before .before .before in
       let a = w .before .before .before .before .before .args in
-      c .upto .result - c .before .before .before .before .start-after .result .before ≡ supply (suppliedBy (boardOf (a .board)) (a .windows .now)) (endOf (a .windows .now) (w .before .before .loop .i)) (a .t)
+      c .upto .result - c .before .before .before .before .start-after .result .before ≡ supply (suppliedBy (framed (a .frame)) (a .windows .now)) (endOf (a .windows .now) (w .before .before .loop .i)) (a .t)
 
 held : (c : tie.After-upto Inv-loop μ-loop) → Held c
 held c =
     let w = c .before .before .before .before .before in
     let l = w .before .before .loop in
     let a = w .before .before .before .before .before .args in
-    let b = boardOf (a .board) in
+    let b = framed (a .frame) in
     let ws = a .windows .now in
     let m = c .before .before .moved in
     let start = c .before .before .before .before .start-after .ensures in
@@ -125,7 +125,7 @@ sub-joined c =
     let w = c .before .before .before .before .before .before in
     let l = w .before .before .loop in
     let e = w .before .before .before .before .before in
-    within-length (boardOf (e .args .board)) (e .args .windows .now) (l .inv .0) (e .args .t) (l .i) _ (e .args .least) (e .pre .2) (held (c .before) .is) .0
+    within-length (framed (e .args .frame)) (e .args .windows .now) (l .inv .0) (e .args .t) (l .i) _ (e .args .least) (e .pre .2) (held (c .before) .is) .0
 
 joined-requires : tie.Need-joined-requires Inv-loop μ-loop
 joined-requires c κs =
@@ -135,9 +135,9 @@ joined-requires c κs =
     let e = w .before .before .before .before .before in
     let ws = e .args .windows .now in
     let k = c .before .before .ticks-after in
-    let near : k .result .far ≤ opens ws (m .result) + closes ws (m .result) = rw (k .ensures) (ticks-near (boardOf (e .args .board)) ws (m .result) _) in
+    let near : k .result .far ≤ opens ws (m .result) + closes ws (m .result) = rw (k .ensures) (ticks-near (framed (e .args .frame)) ws (m .result) _) in
     let far : k .result .far ≤ 8 * mostFrame = omega (arith, near, small _ _ (m .result) (m .ensures .0 .stands)) in
-    let f = within-length (boardOf (e .args .board)) ws (l .inv .0) (e .args .t) (l .i) _ (e .args .least) (e .pre .2) (held (c .before) .is) in
+    let f = within-length (framed (e .args .frame)) ws (l .inv .0) (e .args .t) (l .i) _ (e .args .least) (e .pre .2) (held (c .before) .is) in
     omega (arith, far, f .1, e .pre .1, l .inv .0 .frame-most)
 
 add-i : tie.Need-add-i Inv-loop μ-loop
@@ -153,7 +153,7 @@ loop-again c =
     let l = w .before .before .loop in
     let e = w .before .before .before .before .before in
     let a = e .args in
-    let b = boardOf (a .board) in
+    let b = framed (a .frame) in
     let ws = a .windows .now in
     let h = held u in
     let k = u .before .ticks-after .result in

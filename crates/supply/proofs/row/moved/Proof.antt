@@ -1,8 +1,8 @@
 use mathlib.Core.Path.{ap}
 use native.Mathlib.Omega.{arith}
 use Prim.Native.Nat.{_+_, _-_, _*_, _≤_, _<_}
+use Rattle.scope.specs.Windows.{framed}
 use Rattle.scope.specs.Limits.{mostFrame}
-use Rattle.tables.specs.Told.{boardOf}
 use Rattle.supply.specs.Positions.{closes, following, Behind}
 use Rattle.supply.proofs.PositionLaws.{small, behind-next}
 use Rattle.supply.proofs.row.moved.Statement.{statement}
@@ -13,11 +13,11 @@ use Rattle.supply.proofs.row.end_at.Reads as end-at-reads
 use Rattle.supply.proofs.row.next.Reads as next-reads
 
 abbrev Inv-loop : tie.InvT-loop
-Inv-loop board windows x at₀ at = Behind (boardOf board) windows at x × (x ≤ 2 * mostFrame)
+Inv-loop frame windows x at₀ at = Behind (framed frame) windows at x × (x ≤ 2 * mostFrame)
 
 -- the end of the window falls short of x by less and less
 abbrev μ-loop : tie.MeasureT-loop
-μ-loop board windows x at₀ at = x + 1 - closes windows at
+μ-loop frame windows x at₀ at = x + 1 - closes windows at
 
 loop-holds : tie.Need-loop-holds Inv-loop μ-loop
 loop-holds c = c .before .pre
@@ -31,8 +31,8 @@ next-requires c κs = c .before .before .loop .inv .0 .stands
 on-next : (c : tie.After-next Inv-loop μ-loop) →
     let a = c .before .before .before .before .before .args in
     let p = c .before .before .before .loop .at in
-    let q = following (boardOf (a .board)) (a .windows .now) p in
-    Behind (boardOf (a .board)) (a .windows .now) q (a .x) × (closes (a .windows .now) p < closes (a .windows .now) q)
+    let q = following (framed (a .frame)) (a .windows .now) p in
+    Behind (framed (a .frame)) (a .windows .now) q (a .x) × (closes (a .windows .now) p < closes (a .windows .now) q)
 on-next c =
     let l = c .before .before .before .loop in
     behind-next _ _ (l .at) _ (l .inv .0) (omega (arith, c .before .before .end-at .ensures)) (l .inv .1)

@@ -3,9 +3,9 @@ use mathlib.Core.List.{List}
 use native.Mathlib.Omega.{arith}
 use Prim.Native.Nat.{ℕ, _-_}
 use borrow.Author.Needs.{needs}
-use Rattle.scope.specs.Windows.{Board, Window}
+use Rattle.scope.specs.Windows.{framed, Board, Window}
 use Rattle.theory.specs.Rows.{startOf, endOf}
-use Rattle.tables.specs.Told.{boardOf, windowOf}
+use Rattle.tables.specs.Told.{windowOf}
 use Rattle.supply.specs.declared.row.Position.{Position}
 use Rattle.supply.proofs.PositionLaws.{Small, small, next-here, next-round}
 use Rattle.supply.proofs.row.next.Statement.{statement}
@@ -21,7 +21,7 @@ record Known (b : Board) (ws : List ℕ) (p : Position) (w : Window) : Type 0 wh
   pub end : w .end ≡ endOf ws (p .index)
 
 known : (c : tie.After-window-of) → let a = c .before .before .args in
-    Known (boardOf (a .board)) (a .windows .now) (a .position) (windowOf (c .window-of .result))
+    Known (framed (a .frame)) (a .windows .now) (a .position) (windowOf (c .window-of .result))
 known c = record {
   numbers = small _ _ (c .before .before .args .position) (c .before .before .pre);
   start = ap (λ (w : Window). w .start) (c .window-of .ensures);

@@ -3,7 +3,7 @@ use Prim.Native.Nat.{ℕ, _/_}
 use native.Mathlib.Omega.{arith}
 use borrow.Author.Needs.{needs}
 use borrow.Author.Tests.{not-true, not-false}
-use Rattle.tables.specs.Told.{boardOf}
+use Rattle.scope.specs.Windows.{framed}
 use Rattle.supply.proofs.SummaryLaws.{Head, not-first, not-second, not-third, all-three}
 use Rattle.supply.proofs.summary.belongs.Statement.{statement}
 use Rattle.supply.proofs.summary.belongs.Tie as tie
@@ -22,7 +22,7 @@ measured-requires c κs = (c .before .before .before .pre, omega arith, c .least
 -- the first three numbers are those of a fresh making
 expected : (c : tie.After-measured) →
     let a = c .before .before .before .before .args in
-    Head (boardOf (a .board)) (a .windows .now) (c .before .least-at-ends .result .whole) (c .measured .result .delay) (c .measured .result .numbers / 2)
+    Head (framed (a .frame)) (a .windows .now) (c .before .least-at-ends .result .whole) (c .measured .result .delay) (c .measured .result .numbers / 2)
 expected c = record {
   whole = c .before .least-at-ends .ensures .1;
   delay = c .measured .ensures .delay;

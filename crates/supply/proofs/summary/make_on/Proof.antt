@@ -3,10 +3,10 @@ use Prim.Native.Nat.{ℕ, _/_}
 use native.Mathlib.Omega.{arith}
 use lib.ListN.{length, length-drop}
 use borrow.Author.Needs.{needs}
+use Rattle.scope.specs.Windows.{framed}
 use Rattle.scope.specs.Answers.{Answer.given, Answer.refused}
 use Rattle.scope.specs.Summary.{summaryOf, makeAnswer, makeOut}
 use Rattle.theory.specs.Answers.{table-legal}
-use Rattle.tables.specs.Told.{boardOf}
 use Rattle.tables.proofs.FaultLaws.{refused-by, given-by, kept-by, written-by}
 use Rattle.supply.proofs.SummaryLaws.{summary-numbers, make-short, make-fine, made}
 use Rattle.supply.proofs.summary.make_on.Statement.{statement}
@@ -61,7 +61,7 @@ unfolding makeAnswer makeOut
 returns c =
     let e = c .before .before .before .before .before .before .before .before .before .before in
     let a = e .args in
-    let b = boardOf (a .board) in
+    let b = framed (a .frame) in
     let n : _ ≡ length (summaryOf b (a .windows .now)) = summary-numbers b (a .windows .now) _ (c .before .before .before .before .before .measured .ensures .numbers) in
     let f = make-short b (a .windows .now) (length (a .out .now)) (e .pre) (omega (arith, n, c .before .before .before .before .if1 .taken)) in
     let x = c .before .before .refuse .ensures in
@@ -76,7 +76,7 @@ returns-2 c =
     let m = c .before .before .before .before .before .before .before .before .before in
     let e = m .before .before .before .before .before in
     let a = e .args in
-    let b = boardOf (a .board) in
+    let b = framed (a .frame) in
     let n : _ ≡ length (summaryOf b (a .windows .now)) = summary-numbers b (a .windows .now) _ (m .measured .ensures .numbers) in
     let left = c .before .before .before .before .before .before .before .before .if1 .left in
     let f = make-fine b (a .windows .now) (length (a .out .now)) (e .pre) (omega (arith, n, left)) in (

@@ -3,9 +3,9 @@ use native.Mathlib.Omega.{arith}
 use Prim.Native.Nat.{ℕ, _+_, _-_}
 use borrow.Author.Needs.{needs}
 use Rattle.scope.specs.Ticks.{supply}
-use Rattle.scope.specs.Windows.{suppliedBy}
+use Rattle.scope.specs.Windows.{framed, suppliedBy}
 use Rattle.theory.specs.Answers.{LegalTable}
-use Rattle.tables.specs.Told.{boardOf, windowOf}
+use Rattle.tables.specs.Told.{windowOf}
 use Rattle.supply.specs.Positions.{Behind}
 use Rattle.supply.proofs.PositionLaws.{small, upto-is}
 use Rattle.supply.proofs.SupplyLaws.{Tried, Known, tried-none, still-behind, known, here, passed-next, tried-next, all-tried}
@@ -21,11 +21,11 @@ use Rattle.supply.proofs.supply.start_after.Reads as start-after-reads
 use Rattle.tables.proofs.window.window_at.Reads as window-at-reads
 
 abbrev Inv-loop : tie.InvT-loop
-Inv-loop board windows length count least₀ earlier₀ position₀ i₀ least earlier position i =
-    (ok : LegalTable (boardOf board) windows) × Tried (boardOf board) windows ok length i least earlier position
+Inv-loop frame windows length count least₀ earlier₀ position₀ i₀ least earlier position i =
+    (ok : LegalTable (framed frame) windows) × Tried (framed frame) windows ok length i least earlier position
 
 abbrev μ-loop : tie.MeasureT-loop
-μ-loop board windows length count least₀ earlier₀ position₀ i₀ least earlier position i = count - i
+μ-loop frame windows length count least₀ earlier₀ position₀ i₀ least earlier position i = count - i
 
 first-requires : tie.Need-first-requires Inv-loop μ-loop
 first-requires c κs = search needs
@@ -38,7 +38,7 @@ window-at-requires c κs = search needs
 
 -- what is known of the window that is read
 known-at : (c : tie.After-window-at Inv-loop μ-loop) →
-    Known (boardOf (c .before .before .before .before .before .args .board)) (c .before .before .loop .earlier) (windowOf (c .window-at .result))
+    Known (framed (c .before .before .before .before .before .args .frame)) (c .before .before .loop .earlier) (windowOf (c .window-at .result))
 known-at c = let l = c .before .before .loop in known _ _ (l .inv .0) _ (l .i) _ _ (l .inv .1 .passed) (omega arith) _ (c .window-at .ensures)
 
 start-after-requires : tie.Need-start-after-requires Inv-loop μ-loop
@@ -63,12 +63,12 @@ upto-requires c κs =
 
 -- what the position tells
 all-is : (c : tie.After-upto Inv-loop μ-loop) → let a = c .before .before .before .before .before .before .before .before .before .args in
-    c .upto .result ≡ supply (suppliedBy (boardOf (a .board)) (a .windows .now)) 0 (c .before .before .before .before .window-at .result .end + a .length)
+    c .upto .result ≡ supply (suppliedBy (framed (a .frame)) (a .windows .now)) 0 (c .before .before .before .before .window-at .result .end + a .length)
 all-is c =
     let a = c .before .before .before .before .before .before .before .before .before .args in
     let m = c .before .moved in
     c .upto .ensures ∙ upto-is _ _ (m .result) _ (m .ensures .0) (m .ensures .1)
-    ∙ ap (λ (k : ℕ). supply (suppliedBy (boardOf (a .board)) (a .windows .now)) 0 (k + a .length)) (c .before .before .before .start-after .ensures .0)
+    ∙ ap (λ (k : ℕ). supply (suppliedBy (framed (a .frame)) (a .windows .now)) 0 (k + a .length)) (c .before .before .before .start-after .ensures .0)
 
 sub-lesser : tie.Need-sub-lesser Inv-loop μ-loop
 sub-lesser c =
@@ -101,7 +101,7 @@ loop-again c =
     let l = w .before .before .loop in
     let read = w .window-at .ensures in
     let a = w .before .before .before .before .before .args in
-    let behind : Behind (boardOf (a .board)) (a .windows .now) (u .before .moved .result) (w .window-at .result .end + a .length) =
+    let behind : Behind (framed (a .frame)) (a .windows .now) (u .before .moved .result) (w .window-at .result .end + a .length) =
     rw (← (s .start-after .ensures .0)) (u .before .moved .ensures .0) in
     let next = passed-next _ _ (l .inv .0) _ (l .i) _ _ (l .inv .1 .passed) (omega arith) _ read _ behind in (
       l .inv .0,

@@ -2,7 +2,7 @@ use Rattle.tables.proofs.FaultLaws.{breaks-at, breaks-nowhere}
 use Rattle.tables.specs.Told.{boardOf}
 use Rattle.theory.specs.Lists.{pieces-length}
 use Rattle.scope.specs.Answers.{windowFault}
-use Rattle.scope.specs.Windows.{window, windowsOf, windowLegal, badWindow}
+use Rattle.scope.specs.Windows.{framed, window, windowsOf, windowLegal, badWindow}
 use borrow.Author.Count.{below-none, below-more}
 use borrow.Author.Tests.{not-true, not-false}
 use mathlib.Core.Bool.{true}
@@ -18,11 +18,11 @@ use Rattle.tables.proofs.window.check_windows.Lts as lts
 use Rattle.tables.proofs.window.window_legal.Reads as window-legal-reads
 
 abbrev Inv-loop : tie.InvT-loop
-Inv-loop board windows count i₀ i =
-    (i ≤ count) × (count ≡ length windows / 2) × ((k : ℕ) → k < i → windowLegal (boardOf board) (windowsOf windows) k ≡ true)
+Inv-loop frame windows count i₀ i =
+    (i ≤ count) × (count ≡ length windows / 2) × ((k : ℕ) → k < i → windowLegal (framed frame) (windowsOf windows) k ≡ true)
 
 abbrev μ-loop : tie.MeasureT-loop
-μ-loop board windows count i₀ i = count - i
+μ-loop frame windows count i₀ i = count - i
 
 loop-holds : tie.Need-loop-holds Inv-loop μ-loop
 loop-holds c = (omega arith, refl, below-none _)
@@ -35,7 +35,7 @@ unfolding windowFault badWindow
 returns c =
     let a = c .before .before .before .before .before .args in
     let l = c .before .before .before .loop in
-    breaks-at 3 (windowLegal (boardOf (a .board)) (windowsOf (a .windows .now))) _ (l .i)
+    breaks-at 3 (windowLegal (framed (a .frame)) (windowsOf (a .windows .now))) _ (l .i)
     (omega (arith, pieces-length _ 2 window (a .windows .now))) (l .inv .2)
     (sym (c .before .window-legal .ensures) ∙ not-true _ (c .if1 .taken))
 
@@ -54,7 +54,7 @@ unfolding windowFault badWindow
 returns-2 c =
     let a = c .before .before .before .args in
     let l = c .before .loop in
-    breaks-nowhere 3 (windowLegal (boardOf (a .board)) (windowsOf (a .windows .now))) _
+    breaks-nowhere 3 (windowLegal (framed (a .frame)) (windowsOf (a .windows .now))) _
     (λ k h. l .inv .2 k (omega (arith, pieces-length _ 2 window (a .windows .now))))
 
 pub check-windows-spec : {M : Type 1} → statement M

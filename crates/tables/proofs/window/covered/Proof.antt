@@ -1,11 +1,10 @@
 use borrow.Author.Needs.{needs}
 use native.Mathlib.Omega.{arith}
-use Prim.Native.Nat.{_-_, _≤_}
+use Prim.Native.Nat.{ℕ, _-_, _≤_}
 use lib.ListN.{length}
 use mathlib.Core.Path.{_≡_, refl, sym, _∙_}
-use Rattle.scope.specs.Windows.{window, windowsOf, covers}
+use Rattle.scope.specs.Windows.{framed, window, windowsOf, covers}
 use Rattle.theory.specs.Lists.{pieces-length}
-use Rattle.tables.specs.Told.{boardOf}
 use Rattle.tables.proofs.WindowLaws.{coversFrom, covers-hit, covers-skip, covers-end}
 use Rattle.tables.proofs.window.covered.Statement.{statement}
 use Rattle.tables.proofs.window.covered.Tie as tie
@@ -15,14 +14,14 @@ use Rattle.tables.proofs.window.Window.holds.Reads as holds-reads
 use Rattle.tables.proofs.window.window_at.Reads as window-at-reads
 
 abbrev Inv-loop : tie.InvT-loop
-Inv-loop board windows k count i₀ i =
-    (i ≤ count) × (count ≡ length (windowsOf windows)) × (covers (boardOf board) (windowsOf windows) k ≡ coversFrom (boardOf board) (windowsOf windows) i k)
+Inv-loop windows k count i₀ i =
+    (i ≤ count) × (count ≡ length (windowsOf windows)) × ((P : ℕ) → covers (framed P) (windowsOf windows) k ≡ coversFrom (framed P) (windowsOf windows) i k)
 
 abbrev μ-loop : tie.MeasureT-loop
-μ-loop board windows k count i₀ i = count - i
+μ-loop windows k count i₀ i = count - i
 
 loop-holds : tie.Need-loop-holds Inv-loop μ-loop
-loop-holds c = (omega arith, sym (pieces-length _ 2 window _), refl)
+loop-holds c = (omega arith, sym (pieces-length _ 2 window _), λ P. refl)
 
 window-at-requires : tie.Need-window-at-requires Inv-loop μ-loop
 window-at-requires c κs = search needs
@@ -31,12 +30,12 @@ holds-requires : tie.Need-holds-requires Inv-loop μ-loop
 holds-requires c κs = search needs
 
 returns : tie.Need-returns Inv-loop μ-loop
-returns c =
+returns c P =
     let a = c .before .before .before .before .before .before .args in
     let l = c .before .before .before .before .loop in
     let ws = windowsOf (a .windows .now) in
-    sym (l .inv .2 ∙ covers-hit (boardOf (a .board)) ws (l .i) (a .k) (omega arith)
-    (c .before .before .window-at .ensures) (sym (c .before .holds .ensures) ∙ c .if1 .taken))
+    sym (l .inv .2 P ∙ covers-hit (framed P) ws (l .i) (a .k) (omega arith)
+    (c .before .before .window-at .ensures) (sym (c .before .holds .ensures P) ∙ c .if1 .taken))
 
 add-i : tie.Need-add-i Inv-loop μ-loop
 add-i c = search needs
@@ -51,14 +50,14 @@ loop-again c =
     let ws = windowsOf (a .windows .now) in (
       omega arith,
       l .inv .1,
-      l .inv .2 ∙ covers-skip (boardOf (a .board)) ws (l .i) (a .k) (omega arith)
-          (c .before .before .window-at .ensures) (sym (c .before .holds .ensures) ∙ c .if1 .left),
+      λ P. l .inv .2 P ∙ covers-skip (framed P) ws (l .i) (a .k) (omega arith)
+          (c .before .before .window-at .ensures) (sym (c .before .holds .ensures P) ∙ c .if1 .left),
     )
 
 returns-2 : tie.Need-returns-2 Inv-loop μ-loop
-returns-2 c =
+returns-2 c P =
     let a = c .before .before .before .args in
-    sym (c .before .loop .inv .2 ∙ covers-end (boardOf (a .board)) (windowsOf (a .windows .now)) (c .before .loop .i) (a .k) (omega arith))
+    sym (c .before .loop .inv .2 P ∙ covers-end (framed P) (windowsOf (a .windows .now)) (c .before .loop .i) (a .k) (omega arith))
 
 pub covered-spec : {M : Type 1} → statement M
 covered-spec =

@@ -2,9 +2,9 @@ use mathlib.Core.Path.{_≡_, sym, ap, ap₂, _∙_}
 use borrow.Author.Needs.{needs}
 use mathlib.Core.Bool.{true}
 use lib.Dec.{ltb}
-use Rattle.scope.specs.Windows.{Window, windowsOf, windowAt, windowFits}
+use Rattle.scope.specs.Windows.{framed, Window, windowsOf, windowAt, windowFits}
 use Rattle.scope.specs.Answers.{Answer.given, windowAnswer}
-use Rattle.tables.specs.Told.{boardOf, windowOf, toldWindow}
+use Rattle.tables.specs.Told.{windowOf, toldWindow}
 use Rattle.tables.proofs.WindowLaws.{misfit, first-window, next-window, fitting, unfitting}
 use Rattle.tables.proofs.window.window_legal.Statement.{statement}
 use Rattle.tables.proofs.window.window_legal.Tie as tie
@@ -27,12 +27,12 @@ enum-known-window c = search needs
 
 -- the window that was made is window i of the list, and fits
 fits : (c : tie.After-new) → let a = c .before .before .before .args in
-    (v : Window) → given v ≡ windowAnswer (boardOf (a .board)) (windowOf (c .before .window-at .result)) →
-    (windowFits (boardOf (a .board)) (windowAt (windowsOf (a .windows .now)) (a .i)) ≡ true) × (v ≡ windowAt (windowsOf (a .windows .now)) (a .i))
+    (v : Window) → given v ≡ windowAnswer (framed (a .frame)) (windowOf (c .before .window-at .result)) →
+    (windowFits (framed (a .frame)) (windowAt (windowsOf (a .windows .now)) (a .i)) ≡ true) × (v ≡ windowAt (windowsOf (a .windows .now)) (a .i))
 fits c v e =
     let read = c .before .window-at .ensures in
-    let f = fitting (boardOf (c .before .before .before .args .board)) _ _ e in
-    (sym (ap (windowFits (boardOf (c .before .before .before .args .board))) read) ∙ f .0, f .1 ∙ read)
+    let f = fitting (framed (c .before .before .before .args .frame)) _ _ e in
+    (sym (ap (windowFits (framed (c .before .before .before .args .frame))) read) ∙ f .0, f .1 ∙ read)
 
 returns : tie.Need-returns
 returns c =
@@ -48,7 +48,7 @@ window-at-requires-2 c κs = search needs
 returns-2 : tie.Need-returns-2
 returns-2 c =
     let x = c .before .before in
-    misfit _ _ _ (sym (ap (windowFits (boardOf (x .before .before .before .args .board))) (x .before .window-at .ensures)) ∙ unfitting (boardOf (x .before .before .before .args .board)) _ _ _ (sym (ap toldWindow (c .enum-told .given .1)) ∙ x .new .ensures))
+    misfit _ _ _ (sym (ap (windowFits (framed (x .before .before .before .args .frame))) (x .before .window-at .ensures)) ∙ unfitting (framed (x .before .before .before .args .frame)) _ _ _ (sym (ap toldWindow (c .enum-told .given .1)) ∙ x .new .ensures))
 
 returns-3 : tie.Need-returns-3
 returns-3 c =

@@ -1,7 +1,7 @@
 use mathlib.Core.Bool.{true, false}
 use mathlib.Core.Path.{refl, sym, ap, _∙_}
 use borrow.Author.Tests.{lt-ltb, le-ltb}
-use Rattle.scope.specs.Windows.{Window}
+use Rattle.scope.specs.Windows.{framed, Window}
 use Rattle.scope.specs.Answers.{Answer.given}
 use Rattle.scope.specs.Shared.{owned}
 use Rattle.tables.specs.Told.{boardOf, toldWindow}
@@ -30,20 +30,20 @@ enum-known-window c = search needs
 returns : tie.Need-returns
 returns c =
     let x = c .before .before .before .before in
-    let f = fitting (boardOf (x .before .args .board)) _ _ (sym (ap toldWindow (c .before .before .window .given .1)) ∙ x .new .ensures) in
+    let f = fitting (framed (x .before .args .board .frame)) _ _ (sym (ap toldWindow (c .before .before .window .given .1)) ∙ x .new .ensures) in
     owned-alone _ _ _ true false (f .0) (le-ltb _ _ (c .if1 .taken))
 
 returns-2 : tie.Need-returns-2
 returns-2 c =
     let x = c .before .before in
     let a = x .before .args in
-    let f = unfitting (boardOf (a .board)) _ _ _ (sym (ap toldWindow (c .enum-told .given .1)) ∙ x .new .ensures) in
+    let f = unfitting (framed (a .board .frame)) _ _ _ (sym (ap toldWindow (c .enum-told .given .1)) ∙ x .new .ensures) in
     owned-alone (a .owners) (boardOf (a .board)) (owned (a .start) (a .end) (a .owner)) false _ f refl
 
 returns-3 : tie.Need-returns-3
 returns-3 c =
     let x = c .before .before .before .before in
-    let f = fitting (boardOf (x .before .args .board)) _ _ (sym (ap toldWindow (c .before .before .window .given .1)) ∙ x .new .ensures) in
+    let f = fitting (framed (x .before .args .board .frame)) _ _ (sym (ap toldWindow (c .before .before .window .given .1)) ∙ x .new .ensures) in
     let a = x .before .args in
     ap (λ (w : Window). given (record { window = w; owner = a .owner })) (f .1)
     ∙ owned-alone (a .owners) (boardOf (a .board)) (owned (a .start) (a .end) (a .owner)) true true (f .0) (lt-ltb _ _ (c .if1 .left))

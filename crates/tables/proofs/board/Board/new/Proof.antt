@@ -1,6 +1,6 @@
 use mathlib.Core.Path.{_≡_, sym, ap, ap₂, _∙_}
 use Rattle.scope.specs.Windows.{Board}
-use Rattle.scope.specs.Answers.{_orElse_, frameFault, shortestFault, boardAnswer}
+use Rattle.scope.specs.Answers.{_orElse_, frameFault, shortestFault, ruleFault, boardAnswer}
 use Rattle.tables.specs.Told.{faultOf}
 use Rattle.tables.proofs.FaultLaws.{refused-by, given-by}
 use borrow.Author.Needs.{needs}
@@ -11,18 +11,29 @@ use Rattle.tables.proofs.board.Board.new.Lts as lts
 use Rattle.tables.proofs.answer.Checked.or_else.Reads as or-else-reads
 use Rattle.tables.proofs.board.check_frame.Reads as check-frame-reads
 use Rattle.tables.proofs.board.check_shortest.Reads as check-shortest-reads
+use Rattle.tables.proofs.board.check_rule.Reads as check-rule-reads
 
--- the two checks together
-faulted : (c : tie.After-or-else) → let a = c .before .before .before .args in
-    let b : Board = record { frame = a .frame; owner = a .owner; shortest = a .shortest } in
-    faultOf (c .or-else .result) ≡ (frameFault b orElse shortestFault b)
-faulted c = c .or-else .ensures ∙ ap₂ _orElse_ (c .before .before .check-frame .ensures) (c .before .check-shortest .ensures)
+-- the three checks together
+faulted : (c : tie.After-or-else2) → let a = c .before .before .before .before .before .args in
+    let b : Board = record { frame = a .frame; owner = a .owner; shortest = a .shortest; rule = a .rule; lost = a .lost } in
+    faultOf (c .or-else2 .result) ≡ (frameFault b orElse shortestFault b orElse ruleFault b)
+unfolding frameFault
+faulted c =
+    let d = c .before .before in
+    c .or-else2 .ensures
+    ∙ ap₂ _orElse_ (d .before .before .check-frame .ensures) (c .before .or-else .ensures ∙ ap₂ _orElse_ (d .before .check-shortest .ensures) (d .check-rule .ensures))
 
 check-frame-requires : tie.Need-check-frame-requires
 check-frame-requires c κs = search needs
 
 check-shortest-requires : tie.Need-check-shortest-requires
 check-shortest-requires c κs = search needs
+
+check-rule-requires : tie.Need-check-rule-requires
+check-rule-requires c κs = search needs
+
+or-else-requires-2 : tie.Need-or-else-requires-2
+or-else-requires-2 c κs = search needs
 
 or-else-requires : tie.Need-or-else-requires
 or-else-requires c κs = search needs
@@ -47,7 +58,9 @@ new-spec =
     (tie.spec
     check-frame-requires
     check-shortest-requires
+    check-rule-requires
     or-else-requires
+    or-else-requires-2
     enum-told
     enum-known-r
     returns

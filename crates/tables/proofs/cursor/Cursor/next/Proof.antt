@@ -33,8 +33,8 @@ end-is : (c : tie.After-window-at) → let a = c .before .before .before .before
     c .window-at .result .end ≡ (windowAt (windowsOf (a .windows .now)) (a .self .window)) .end
 end-is c = ap (λ (w : Window). w .end) (c .window-at .ensures)
 
-add-t9 : tie.Need-add-t9
-add-t9 c =
+add-t8 : tie.Need-add-t8
+add-t8 c =
     let a = c .before .before .before .before .before .before .before .before .args in
     omega (arith, is-there (a .windows .now) (a .self .window) (a .self .tick) (sym (end-is (c .before .before)) ∙ c .if3 .taken))
 
@@ -54,6 +54,6 @@ next-spec =
     new-requires-2
     returns-2
     window-at-requires
-    add-t9
+    add-t8
     returns-3
     returns-4)
