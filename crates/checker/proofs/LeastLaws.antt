@@ -6,10 +6,10 @@ use native.Mathlib.Omega.{arith}
 use borrow.Author.Tests.{le-ltb}
 use Rattle.scope.specs.Limits.{mostLength}
 use Rattle.scope.specs.Ticks.{leastSupply}
-use Rattle.scope.specs.Windows.{Board, suppliedBy}
+use Rattle.scope.specs.Windows.{Board, suppliedBy, windowsOf}
 use Rattle.scope.specs.Answers.{Fault.fine, Answer.given, Answer.refused, _orElse_, tableFault, lengthFault, leastSupplyAnswer}
-use Rattle.theory.specs.Answers.{table-legal}
-use Rattle.theory.specs.Rows.{table-row}
+use Rattle.theory.specs.Answers.{table-frame}
+use Rattle.theory.specs.Windows.{supplied-periodic}
 use Rattle.tables.proofs.FaultLaws.{or-fine, given-by, if-false}
 use Rattle.supply.proofs.SupplyLaws.{least-at-most}
 
@@ -24,7 +24,7 @@ module _ (b : Board) (ws : List ℕ) (t : ℕ) (e : tableFault b ws ≡ fine) (h
   least-told n told =
       let same : given n ≡ given (leastSupply (suppliedBy b ws) (b .frame) t) = told ∙ sym answered in
       let is : n ≡ leastSupply (suppliedBy b ws) (b .frame) t = cc in
-      (is, omega (arith, least-at-most (suppliedBy b ws) (b .frame) (table-row b ws (table-legal b ws e) .repeats) t))
+      (is, omega (arith, least-at-most (suppliedBy b ws) (b .frame) (supplied-periodic b (windowsOf ws) (table-frame b ws e)) t))
 
   pub least-not-refused : (n p : ℕ) → refused n p ≡ leastSupplyAnswer b ws t → ⊥
   least-not-refused n p told =

@@ -29,7 +29,7 @@ margins-same b ws summary ts lengths out left r n promised wrote is j h m told =
 
 -- W6 misses by one tick at length 6
 abbrev x-board : Board
-x-board = record { frame = 8; owner = 0; shortest = 1 }
+x-board = record { frame = 8; owner = 0; shortest = 1; rule = 1; lost = 0 }
 
 w6-same : (left : List ℤ) → left ≡ marginsOutFor (boardOf x-board) XShared XSummary (1 ∷ 4 ∷ 4 ∷ 2 ∷ 8 ∷ 6 ∷ []) (6 ∷ []) (pos 9 ∷ []) →
     (m : Margin) → toldMargin m ≡ marginFor (boardOf x-board) XShared (1 ∷ 4 ∷ 4 ∷ 2 ∷ 8 ∷ 6 ∷ []) 6 → m ≡ margin.Of (getD left 0 (pos 0))

@@ -24,8 +24,8 @@ margins-refused b ws summary ts lengths out left r =
     amount-refused (boardOf b) ws _ _ out left r (λ n p l. margins-kept n p (boardOf b) l summary ts lengths out)
 
 -- two margins of X have no room in one number
-x-crowded : (left : List ℤ) → left ≡ marginsOutFor (boardOf (record { frame = 8; owner = 0; shortest = 1 })) XShared XSummary [] (3 ∷ 6 ∷ []) (pos 9 ∷ []) →
+x-crowded : (left : List ℤ) → left ≡ marginsOutFor (boardOf (record { frame = 8; owner = 0; shortest = 1; rule = 1; lost = 0 })) XShared XSummary [] (3 ∷ 6 ∷ []) (pos 9 ∷ []) →
     left ≡ pos 9 ∷ []
 unfolding everything
 x-crowded left wrote =
-    margins-refused (record { frame = 8; owner = 0; shortest = 1 }) XShared XSummary [] (3 ∷ 6 ∷ []) (pos 9 ∷ []) left (Refused (Room 2)) refl wrote (Room 2) refl
+    margins-refused (record { frame = 8; owner = 0; shortest = 1; rule = 1; lost = 0 }) XShared XSummary [] (3 ∷ 6 ∷ []) (pos 9 ∷ []) left (Refused (Room 2)) refl wrote (Room 2) refl

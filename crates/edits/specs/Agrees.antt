@@ -35,7 +35,7 @@ module _ (b : Board) (count : ℕ) (windows summary left held : List ℕ) (edit 
 -- of X among two teams, whose first window loses a tick
 module _ (left held : List ℕ) where
   abbrev x-board : Board
-  x-board = record { frame = 8; owner = 0; shortest = 1 }
+  x-board = record { frame = 8; owner = 0; shortest = 1; rule = 1; lost = 0 }
 
   x-edited-same : left ≡ editWindows teams (boardOf x-board) 4 XShared XSummary (editOf (Move 0 0 1)) →
       held ≡ editSummary teams (boardOf x-board) 4 XShared XSummary (editOf (Move 0 0 1)) → (from plain : Amount) →

@@ -27,7 +27,7 @@ edit-refused b count windows summary left held edit r told wrote kept e is =
 
 -- X among two teams has no fifth window
 abbrev x-board : Board
-x-board = record { frame = 8; owner = 0; shortest = 1 }
+x-board = record { frame = 8; owner = 0; shortest = 1; rule = 1; lost = 0 }
 
 x-no-fifth : (left held : List ℕ) → left ≡ editWindows teams (boardOf x-board) 4 XShared XSummary (editOf (Remove 4)) →
     held ≡ editSummary teams (boardOf x-board) 4 XShared XSummary (editOf (Remove 4)) → (left ≡ XShared) × (held ≡ XSummary)

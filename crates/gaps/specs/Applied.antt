@@ -14,7 +14,7 @@ use Rattle.gaps.specs.Outage.{no-supply, some-supply, no-greater, starts
 
 -- who asks: owner 0 of X's table, owner 1 of the lab's
 abbrev board : ℕ → Board
-board o = record { frame = 8; owner = o; shortest = 1 }
+board o = record { frame = 8; owner = o; shortest = 1; rule = 1; lost = 0 }
 
 x-outage : outageFor (boardOf (board 0)) XShared ≡ given 3
 unfolding reply table

@@ -33,7 +33,7 @@ use Rattle.machine.specs.Demands.{verdict-meets, meets-runs, meets-every
 
 -- the owner whose windows are X, and beside it another, who has the rest of the frame
 abbrev board : Board
-board = record { frame = 8; owner = 0; shortest = 1 }
+board = record { frame = 8; owner = 0; shortest = 1; rule = 1; lost = 0 }
 
 shared-fine : sharedFault teams (boardOf board) XShared ≡ fine
 unfolding everything
@@ -81,7 +81,7 @@ turned-away v p =
 -- ---- the other owner, whose windows are (2,5) and (7,8)
 
 abbrev second : Board
-second = record { frame = 8; owner = 1; shortest = 1 }
+second = record { frame = 8; owner = 1; shortest = 1; rule = 1; lost = 0 }
 
 abbrev w5 : List ℕ
 w5 = 1 ∷ 4 ∷ 3 ∷ []

@@ -36,7 +36,7 @@ use Rattle.machine.specs.Demands.{verdict-meets, verdict-miss, meets-runs, meet
 
 -- the board of a plan, and its windows as the entries take them: its pairs are owner 0's
 abbrev pub askedBoard : Plan → Board
-askedBoard p = record { frame = p .frame; owner = 0; shortest = getD (p .settings) 0 1 }
+askedBoard p = record { frame = p .frame; owner = 0; shortest = getD (p .settings) 0 1; rule = 1; lost = 0 }
 
 abbrev pub askedWindows : Plan → List ℕ
 askedWindows p = asOwned 0 (p .windows)

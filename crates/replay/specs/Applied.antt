@@ -26,7 +26,7 @@ use Rattle.replay.specs.Determined.{replayed-determined}
 use Rattle.replay.specs.Demands.{same-says, meets-never-missed, shifted-same, own-same, own-met, own-missed}
 
 abbrev board : Board
-board = record { frame = 8; owner = 0; shortest = 1 }
+board = record { frame = 8; owner = 0; shortest = 1; rule = 1; lost = 0 }
 
 -- owner 0's windows are X, whatever owner 1's are
 x-shared : (ts bytes : List ℕ) → replayFor (boardOf board) XShared ts bytes ≡ replayAnswer (boardOf board) X ts bytes

@@ -29,7 +29,7 @@ module _ (b : Board) (ws : List ℕ) (t : ℕ) (from plain : Amount) (plainly : 
 
 -- of X among two teams: from its summary, and from what making it leaves in room for two numbers more
 abbrev x-board : Board
-x-board = record { frame = 8; owner = 0; shortest = 1 }
+x-board = record { frame = 8; owner = 0; shortest = 1; rule = 1; lost = 0 }
 
 module _ (from plain : Amount) (plainly : toldAmount plain ≡ leastSupplyFor (boardOf x-board) XShared 15) where
   x-same : toldAmount from ≡ leastFromFor (boardOf x-board) XShared XSummary 15 → from ≡ plain

@@ -21,7 +21,7 @@ unfolding makeFor makeOutFor
 make-refused b ws out left r = amount-refused (boardOf b) ws _ _ out left r (λ n p l. make-kept n p (boardOf b) l out)
 
 -- X's summary has 7 numbers
-x-short : (left : List ℕ) → left ≡ makeOutFor (boardOf (record { frame = 8; owner = 0; shortest = 1 })) XShared (replicate 6 9) → left ≡ replicate 6 9
+x-short : (left : List ℕ) → left ≡ makeOutFor (boardOf (record { frame = 8; owner = 0; shortest = 1; rule = 1; lost = 0 })) XShared (replicate 6 9) → left ≡ replicate 6 9
 unfolding everything
 x-short left wrote =
-    make-refused (record { frame = 8; owner = 0; shortest = 1 }) XShared (replicate 6 9) left (Refused (Room 7)) refl wrote (Room 7) refl
+    make-refused (record { frame = 8; owner = 0; shortest = 1; rule = 1; lost = 0 }) XShared (replicate 6 9) left (Refused (Room 7)) refl wrote (Room 7) refl

@@ -35,7 +35,7 @@ one-owner-answered b c ws k x y framed told is told′ is′ =
     one-owner-a-tick teams (boardOf b) (boardOf c) ws (whole b ws k x told is) framed k (on b ws k x told is) (on c ws k y told′ is′)
 
 -- tick 2 of X's table is owner 1's
-tick-two : (x : Supplied) → toldSupplied x ≡ suppliedFor (boardOf (record { frame = 8; owner = 0; shortest = 1 })) XShared 2 → x ≡ Is true → _≡_ {A = ℕ} 0 1
+tick-two : (x : Supplied) → toldSupplied x ≡ suppliedFor (boardOf (record { frame = 8; owner = 0; shortest = 1; rule = 1; lost = 0 })) XShared 2 → x ≡ Is true → _≡_ {A = ℕ} 0 1
 unfolding everything
 tick-two x told is =
-    one-owner-answered (record { frame = 8; owner = 0; shortest = 1 }) (record { frame = 8; owner = 1; shortest = 1 }) XShared 2 x (Is true) refl told is refl refl
+    one-owner-answered (record { frame = 8; owner = 0; shortest = 1; rule = 1; lost = 0 }) (record { frame = 8; owner = 1; shortest = 1; rule = 1; lost = 0 }) XShared 2 x (Is true) refl told is refl refl

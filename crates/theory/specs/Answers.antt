@@ -10,7 +10,7 @@ use lib.ListN.{length, getD}
 use borrow.Author.Tests.{ltb-false, leb-false, lt-ltb, le-ltb, eqb-false, ne-eqb}
 use Rattle.scope.specs.Numbers.{badCount}
 use Rattle.scope.specs.Limits.{mostFrame, mostWindows, mostTasks, mostCycle, mostLength, mostTicks, mostJobs}
-use Rattle.scope.specs.Windows.{Board, windowsOf, suppliedBy, badWindow}
+use Rattle.scope.specs.Windows.{Board, framed, windowsOf, suppliedBy, badWindow}
 use Rattle.scope.specs.Tasks.{tasksOf, badTask}
 use Rattle.scope.specs.Cycle.{cycle}
 use Rattle.scope.specs.Verdict.{Verdict, verdict}
@@ -131,6 +131,10 @@ table-legal b ws e whole =
       few = l .2;
       windows = faultAt-fine 3 (badWindow b (windowsOf ws)) (c .2);
     }
+
+-- pairs in a frame alone, of which nothing is lost
+pub pairs-legal : (P : ℕ) (ws : List ℕ) → tableFault (framed P) ws ≡ fine → LegalTable (framed P) ws
+pairs-legal P ws e = table-legal (framed P) ws e refl
 
 pub record LegalGroup (ts : List ℕ) : Type 0 where
   pub threes : length ts % 3 ≡ 0

@@ -4,7 +4,7 @@ use Rattle.scope.specs.Windows.{framed, suppliedBy}
 use Rattle.scope.specs.Tasks.{Task, task, tasksOf, taskAt}
 use Rattle.scope.specs.Answers.{Answer.given}
 use Rattle.theory.specs.Lists.{pieces-length}
-use Rattle.theory.specs.Answers.{table-legal}
+use Rattle.theory.specs.Answers.{pairs-legal}
 use Rattle.theory.specs.Rows.{table-row}
 use Rattle.tables.proofs.TaskLaws.{read-rule}
 use Rattle.checker.proofs.BoundLaws.{Short, short-first, short-next, bound-found, no-bound-found, asked-at-most}
@@ -21,7 +21,7 @@ use Rattle.tables.proofs.task.task_at.Reads as task-at-reads
 
 abbrev Inv-loop : tie.InvT-loop
 Inv-loop frame windows tasks index deadline length₀ length =
-    (1 ≤ length) × Short (suppliedBy (framed frame) windows) (frame .frame) (tasksOf tasks) index length
+    (1 ≤ length) × Short (suppliedBy (framed frame) windows) (frame) (tasksOf tasks) index length
 
 abbrev μ-loop : tie.MeasureT-loop
 μ-loop frame windows tasks index deadline length₀ length = deadline + 1 - length
@@ -86,7 +86,7 @@ loop-again c =
     let l = c .before .before .before .before .loop in
     let e = c .before .before .before .before .before .before .before .before .before in (
       omega arith,
-      short-next _ _ _ _ (table-row _ _ (table-legal _ _ (e .pre .0)) .repeats) (l .length) _ _
+      short-next _ _ _ _ (table-row _ _ (pairs-legal _ _ (e .pre .0)) .repeats) (l .length) _ _
           (c .before .before .least-of .ensures) (c .before .asked-of .ensures) (c .if1 .left) (l .inv .1),
     )
 

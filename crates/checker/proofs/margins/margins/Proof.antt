@@ -2,10 +2,10 @@ use mathlib.Core.Path.{sym, ap, _∙_}
 use native.Mathlib.Omega.{arith}
 use lib.Seq.{length-take-le}
 use Rattle.scope.specs.Limits.{teams}
-use Rattle.scope.specs.Answers.{Answer.refused}
-use Rattle.scope.specs.Shared.{kept}
-use Rattle.scope.specs.Summary.{marginsAnswer, marginsOut, marginsFor, marginsOutFor}
-use Rattle.theory.specs.Shared.{Taken, taken, asked-taken, asked-not}
+
+use Rattle.scope.specs.Summary.{marginsFor, marginsOutFor}
+use Rattle.theory.specs.Alone.{margins-entry, margins-out-entry}
+use Rattle.theory.specs.Lent.{Taken, taken, asked-taken, asked-not}
 use Rattle.tables.specs.Told.{boardOf, toldAmount}
 use borrow.Author.Needs.{needs}
 use Rattle.checker.proofs.margins.margins.Statement.{statement}
@@ -60,8 +60,8 @@ returns c =
     let e = sym (r .ensures .0) ∙ ap toldAmount (y .r .given .1) in
     let a = y .before .before .before .before .before .before .before .before .before .args in
     let x = c .before .refuse-signed .ensures in (
-      x .0 ∙ asked-not _ _ _ refused (λ l. marginsAnswer _ l _ _ _ _) _ _ _ (omega arith) e,
-      x .1 ∙ asked-not _ _ _ (kept (a .out .now)) (λ l. marginsOut _ l _ _ _ _) _ _ _ (omega arith) e,
+      x .0 ∙ asked-not _ _ _ (margins-entry _ _ _ _) _ _ _ (omega arith) e,
+      x .1 ∙ asked-not _ _ _ (margins-out-entry _ _ _ _) _ _ _ (omega arith) e,
     )
 
 same-length-2 : tie.Need-same-length-2
@@ -74,8 +74,8 @@ returns-2 c =
     let t = own-at y in
     let a = y .before .before .before .before .before .before .before .before .before .before .args in
     let x = c .before .margins-on .ensures in (
-      x .0 ∙ asked-taken _ _ _ refused (λ l. marginsAnswer _ l _ _ _ _) t,
-      x .1 ∙ asked-taken _ _ _ (kept (a .out .now)) (λ l. marginsOut _ l _ _ _ _) t,
+      x .0 ∙ asked-taken _ _ _ (margins-entry _ _ _ _) t,
+      x .1 ∙ asked-taken _ _ _ (margins-out-entry _ _ _ _) t,
     )
 
 pub margins-spec : {M : Type 1} → statement M

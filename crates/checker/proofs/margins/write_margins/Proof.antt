@@ -18,7 +18,7 @@ Inv-loop frame summary tasks lengths out₀ i₀ out i =
     (i ≤ length lengths)
     × (length out ≡ length out₀)
     × (length lengths ≤ length out₀)
-    × (out ≡ marginsTo (marginFrom (frame .frame) summary (tasksOf tasks)) lengths out₀ i)
+    × (out ≡ marginsTo (marginFrom (frame) summary (tasksOf tasks)) lengths out₀ i)
 
 abbrev μ-loop : tie.MeasureT-loop
 μ-loop frame summary tasks lengths out₀ i₀ out i = length lengths - i

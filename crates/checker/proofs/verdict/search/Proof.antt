@@ -10,7 +10,7 @@ use Rattle.scope.specs.Ticks.{Periodic}
 use Rattle.scope.specs.Windows.{framed, suppliedBy}
 use Rattle.scope.specs.Tasks.{Task, tasksOf}
 use Rattle.scope.specs.Answers.{Answer.given}
-use Rattle.theory.specs.Answers.{LegalTable, table-legal}
+use Rattle.theory.specs.Answers.{LegalTable, pairs-legal}
 use Rattle.theory.specs.Rows.{table-row}
 use Rattle.tables.specs.declared.answer.Verdict.the-variants.{Meets}
 use Rattle.tables.specs.Told.{toldVerdict}
@@ -31,19 +31,19 @@ use Rattle.checker.proofs.stretch.slid.Reads as slid-reads
 use Rattle.checker.proofs.verdict.known_or_least.Reads as known-or-least-reads
 
 abbrev Inv-loop : tie.InvT-loop
-Inv-loop frame windows tasks cycle frame found₀ due demand supply length risen rest least stretch₀ start₀ found stretch start =
-    (start ≤ frame .frame) × (found ≡ Meets cycle) × Spans (framed frame) windows start rest stretch
-    × Above (suppliedBy (framed frame) windows) (frame .frame) rest start
+Inv-loop frame windows tasks cycle found₀ due demand supply length risen rest least stretch₀ start₀ found stretch start =
+    (start ≤ frame) × (found ≡ Meets cycle) × Spans (framed frame) windows start rest stretch
+    × Above (suppliedBy (framed frame) windows) (frame) rest start
 
 abbrev μ-loop : tie.MeasureT-loop
-μ-loop frame windows tasks cycle frame found₀ due demand supply length risen rest least stretch₀ start₀ found stretch start = frame .frame - start
+μ-loop frame windows tasks cycle found₀ due demand supply length risen rest least stretch₀ start₀ found stretch start = frame - start
 
 abbrev Inv-search : tie.InvT-search
-Inv-search frame windows tasks cycle frame found₀ due₀ demand₀ supply₀ length₀ found due demand supply length =
-    (found ≡ Meets cycle) × Reached (suppliedBy (framed frame) windows) (frame .frame) (tasksOf tasks) length demand supply due
+Inv-search frame windows tasks cycle found₀ due₀ demand₀ supply₀ length₀ found due demand supply length =
+    (found ≡ Meets cycle) × Reached (suppliedBy (framed frame) windows) (frame) (tasksOf tasks) length demand supply due
 
 abbrev μ-search : tie.MeasureT-search
-μ-search frame windows tasks cycle frame found₀ due₀ demand₀ supply₀ length₀ found due demand supply length = cycle + 1 - length
+μ-search frame windows tasks cycle found₀ due₀ demand₀ supply₀ length₀ found due demand supply length = cycle + 1 - length
 
 slice-aggregate-first-due : tie.Need-slice-aggregate-first-due Inv-loop μ-loop Inv-search μ-search
 slice-aggregate-first-due c = search needs
@@ -60,7 +60,7 @@ rise-at-requires c κs = (c .before .before .before .before .before .before .pre
 search-holds : tie.Need-search-holds Inv-loop μ-loop Inv-search μ-search
 search-holds c =
     let e = c .before .before .before .before .before .before .before .before in
-    (refl, reached-first _ _ (table-row _ _ (table-legal _ _ (e .pre .0)) .repeats) _ (e .pre .1 .rules) _ _ (c .before .rise-at .ensures))
+    (refl, reached-first _ _ (table-row _ _ (pairs-legal _ _ (e .pre .0)) .repeats) _ (e .pre .1 .rules) _ _ (c .before .rise-at .ensures))
 
 slice-aggregate-rise-at-2 : tie.Need-slice-aggregate-rise-at-2 Inv-loop μ-loop Inv-search μ-search
 slice-aggregate-rise-at-2 c = search needs
@@ -106,7 +106,7 @@ ts c = tasksOf (began c .args .tasks .now)
 
 -- what is known of the table
 legal-at : (c : Asks) → LegalTable (framed (began c .args .frame)) (began c .args .windows .now)
-legal-at c = table-legal _ _ (began c .pre .0)
+legal-at c = pairs-legal _ _ (began c .pre .0)
 
 per-at : (c : Asks) → Periodic (σ c) (P c)
 per-at c = table-row _ _ (legal-at c) .repeats
@@ -194,7 +194,7 @@ returns : tie.Need-returns Inv-loop μ-loop Inv-search μ-search
 returns c =
     let e = c .before .before .before .before .before .before .before .before .before .before in
     let l = c .before .search in
-    let per = table-row _ _ (table-legal _ _ (e .pre .0)) .repeats in
+    let per = table-row _ _ (pairs-legal _ _ (e .pre .0)) .repeats in
     ap toldVerdict (l .inv .0) ∙ ap given (search-meets _ _ per _ _ (l .length) (c .search-test .left) (l .inv .1 .past))
 
 returns-2 : tie.Need-returns-2 Inv-loop μ-loop Inv-search μ-search

@@ -4,7 +4,7 @@ use lib.Seq.{length-take-le}
 use borrow.Author.Needs.{needs}
 use Rattle.scope.specs.Limits.{teams}
 use Rattle.scope.specs.Answers.{Fault.fault, _orElse_}
-use Rattle.theory.specs.Shared.{Taken, taken, asked-taken, asked-not}
+use Rattle.theory.specs.Lent.{Taken, taken, asked-taken, asked-not}
 use Rattle.tables.specs.Told.{boardOf, toldAmount}
 use Rattle.edits.proofs.EditLaws.{readied, ready-asked}
 use Rattle.edits.proofs.edit.check_ready.Statement.{statement}

@@ -9,7 +9,7 @@ use Rattle.scope.specs.Limits.{teams}
 use Rattle.scope.specs.Answers.{Fault.fault, Answer.given, _orElse_, roomFault}
 use Rattle.scope.specs.Summary.{summaryOf, makeAnswer, makeOut}
 use Rattle.theory.specs.Answers.{unless-given}
-use Rattle.theory.specs.Shared.{Taken, taken, asked-not}
+use Rattle.theory.specs.Lent.{Taken, taken, asked-not}
 use Rattle.tables.specs.Told.{boardOf, toldAmount}
 use Rattle.tables.proofs.FaultLaws.{refused-by, given-by, kept-by, written-by, fault-of}
 use Rattle.edits.specs.Stored.{storeAnswer, storeWindows, storeSummary}

@@ -2,11 +2,12 @@ use mathlib.Core.Path.{sym, ap, _∙_}
 use native.Mathlib.Omega.{arith}
 use lib.Seq.{length-take-le}
 use Rattle.scope.specs.Limits.{teams}
-use Rattle.scope.specs.Answers.{Answer.refused, Answer.given, tableFault, outageAnswer}
+use Rattle.scope.specs.Answers.{Answer.given, tableFault, outageAnswer}
 use Rattle.scope.specs.Shared.{outageFor}
-use Rattle.theory.specs.Shared.{Taken, taken, asked-taken, asked-not}
+use Rattle.theory.specs.Alone.{outage-entry}
+use Rattle.theory.specs.Lent.{Taken, taken, asked-taken, asked-not}
 use Rattle.tables.specs.Told.{boardOf, toldAmount}
-use Rattle.theory.specs.Answers.{table-legal}
+use Rattle.theory.specs.Answers.{pairs-legal}
 use Rattle.tables.proofs.FaultLaws.{given-by}
 use borrow.Author.Needs.{needs}
 use Rattle.gaps.proofs.outage.outage.Statement.{statement}
@@ -44,7 +45,7 @@ slice-aggregate-outage-of : tie.Need-slice-aggregate-outage-of
 slice-aggregate-outage-of c = sym (length-take-le _ _ (array-share-prefix-own (c .before)))
 
 outage-of-requires : tie.Need-outage-of-requires
-outage-of-requires c κs = table-legal _ _ (own-at (c .before) .fine-front)
+outage-of-requires c κs = pairs-legal _ _ (own-at (c .before) .fine-front)
 
 cast-t14 : tie.Need-cast-t14
 cast-t14 c = search needs
@@ -53,13 +54,13 @@ returns : tie.Need-returns
 unfolding outageFor
 returns c =
     let r = c .before .before .before .before .own-windows in
-    asked-not _ _ _ refused (outageAnswer _) _ _ _ (omega arith) (sym (r .ensures .0) ∙ ap toldAmount (c .before .r .given .1))
+    asked-not _ _ _ outage-entry _ _ _ (omega arith) (sym (r .ensures .0) ∙ ap toldAmount (c .before .r .given .1))
 
 returns-2 : tie.Need-returns-2
 unfolding outageFor outageAnswer
 returns-2 c =
     let t = own-at (c .before .before) in
-    ap given (c .outage-of .ensures) ∙ given-by (tableFault _ _) _ (t .fine-front) ∙ asked-taken _ _ _ refused (outageAnswer _) t
+    ap given (c .outage-of .ensures) ∙ given-by (tableFault _ _) _ (t .fine-front) ∙ asked-taken _ _ _ outage-entry t
 
 pub outage-spec : {M : Type 1} → statement M
 outage-spec =

@@ -32,7 +32,7 @@ turn : (c : tie.After-struct-known Inv-loop μ-loop) →
 turn c =
     let s = c .before .before .before .before .before .before in
     let w = c .before .window-at2 in
-    passed-next _ _ (s .pre .windows) _ _ _ _ (c .before .before .before .loop .inv) (windowOf (w .result))
+    passed-next _ _ (s .pre .whole) (s .pre .windows) _ _ _ _ (c .before .before .before .loop .inv) (windowOf (w .result))
     (omega (arith, pieces-length Window 2 window (s .args .windows .now))) (w .ensures)
 
 -- after the loop: the gap to the first window of the next frame
@@ -45,7 +45,7 @@ round : (c : tie.After-loop Inv-loop μ-loop) →
 round c =
     let s = c .before .before .before .before in
     let l = c .before .loop in
-    passed-last _ _ (s .pre .windows) _ _ _ _ (l .inv) (omega (arith, l .inv .few, pieces-length Window 2 window (s .args .windows .now)))
+    passed-last _ _ (s .pre .whole) (s .pre .windows) _ _ _ _ (l .inv) (omega (arith, l .inv .few, pieces-length Window 2 window (s .args .windows .now)))
     (ap (λ (w : Window). w .start) (c .before .before .window-at .ensures))
 
 window-at-requires : tie.Need-window-at-requires Inv-loop μ-loop
@@ -54,7 +54,7 @@ window-at-requires c κs = search needs
 loop-holds : tie.Need-loop-holds Inv-loop μ-loop
 loop-holds c =
     let s = c .before .before in
-    passed-first _ _ (s .pre .windows) (windowOf (c .window-at .result))
+    passed-first _ _ (s .pre .whole) (s .pre .windows) (windowOf (c .window-at .result))
     (omega (arith, s .pre .even, s .pre .some, pieces-length Window 2 window (s .args .windows .now))) (c .window-at .ensures)
 
 window-at-requires-2 : tie.Need-window-at-requires-2 Inv-loop μ-loop

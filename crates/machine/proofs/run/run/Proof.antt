@@ -3,7 +3,7 @@ use native.Mathlib.Omega.{arith}
 use lib.Seq.{length-take-le}
 use borrow.Author.Needs.{needs}
 use Rattle.scope.specs.Limits.{teams}
-use Rattle.theory.specs.Shared.{Taken, taken}
+use Rattle.theory.specs.Lent.{Taken, taken}
 use Rattle.tables.specs.Told.{boardOf, toldAmount}
 use Rattle.machine.proofs.RunLaws.{run-taken, run-not}
 use Rattle.machine.proofs.run.run.Statement.{statement}

@@ -2,9 +2,9 @@ use mathlib.Core.Path.{sym, ap, _∙_}
 use native.Mathlib.Omega.{arith}
 use lib.Seq.{length-take-le}
 use Rattle.scope.specs.Limits.{teams}
-use Rattle.scope.specs.Answers.{Answer.refused}
-use Rattle.scope.specs.Summary.{leastFromAnswer, leastFromFor}
-use Rattle.theory.specs.Shared.{Taken, taken, asked-taken, asked-not}
+use Rattle.scope.specs.Summary.{leastFromFor}
+use Rattle.theory.specs.Alone.{least-from-entry}
+use Rattle.theory.specs.Lent.{Taken, taken, asked-taken, asked-not}
 use Rattle.tables.specs.Told.{boardOf, toldAmount}
 use borrow.Author.Needs.{needs}
 use Rattle.summaries.proofs.summary.least_supply.Statement.{statement}
@@ -48,11 +48,11 @@ returns : tie.Need-returns
 unfolding leastFromFor
 returns c =
     let r = c .before .before .before .before .own-windows in
-    asked-not _ _ _ refused (λ l. leastFromAnswer _ l _ _) _ _ _ (omega arith) (sym (r .ensures .0) ∙ ap toldAmount (c .before .r .given .1))
+    asked-not _ _ _ (least-from-entry _ _) _ _ _ (omega arith) (sym (r .ensures .0) ∙ ap toldAmount (c .before .r .given .1))
 
 returns-2 : tie.Need-returns-2
 unfolding leastFromFor
-returns-2 c = c .least-from-in .ensures ∙ asked-taken _ _ _ refused (λ l. leastFromAnswer _ l _ _) (own-at (c .before .before))
+returns-2 c = c .least-from-in .ensures ∙ asked-taken _ _ _ (least-from-entry _ _) (own-at (c .before .before))
 
 pub least-supply-spec : {M : Type 1} → statement M
 least-supply-spec =

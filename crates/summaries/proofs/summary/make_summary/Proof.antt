@@ -2,10 +2,10 @@ use mathlib.Core.Path.{sym, ap, _∙_}
 use native.Mathlib.Omega.{arith}
 use lib.Seq.{length-take-le}
 use Rattle.scope.specs.Limits.{teams}
-use Rattle.scope.specs.Answers.{Answer.refused}
-use Rattle.scope.specs.Shared.{kept}
-use Rattle.scope.specs.Summary.{makeAnswer, makeOut, makeFor, makeOutFor}
-use Rattle.theory.specs.Shared.{Taken, taken, asked-taken, asked-not}
+
+use Rattle.scope.specs.Summary.{makeFor, makeOutFor}
+use Rattle.theory.specs.Alone.{make-entry, make-out-entry}
+use Rattle.theory.specs.Lent.{Taken, taken, asked-taken, asked-not}
 use Rattle.tables.specs.Told.{boardOf, toldAmount}
 use borrow.Author.Needs.{needs}
 use Rattle.summaries.proofs.summary.make_summary.Statement.{statement}
@@ -59,8 +59,8 @@ returns c =
     let r = x .before .before .before .before .before .before .own-windows in
     let e = sym (r .ensures .0) ∙ ap toldAmount (x .before .before .before .r .given .1) in
     let a = x .before .before .before .before .before .before .before .before .before .before .args in (
-      x .refuse .ensures .0 ∙ asked-not _ _ _ refused (λ l. makeAnswer _ l _) _ _ _ (omega arith) e,
-      x .refuse .ensures .1 ∙ asked-not _ _ _ (kept (a .out .now)) (λ l. makeOut _ l _) _ _ _ (omega arith) e,
+      x .refuse .ensures .0 ∙ asked-not _ _ _ (make-entry _) _ _ _ (omega arith) e,
+      x .refuse .ensures .1 ∙ asked-not _ _ _ (make-out-entry _) _ _ _ (omega arith) e,
     )
 
 same-length-2 : tie.Need-same-length-2
@@ -72,8 +72,8 @@ returns-2 c =
     let x = c .before .before in
     let t = own-at (x .before .before .before) in
     let a = x .before .before .before .before .before .before .before .before .before .before .before .args in (
-      x .make-in .ensures .0 ∙ asked-taken _ _ _ refused (λ l. makeAnswer _ l _) t,
-      x .make-in .ensures .1 ∙ asked-taken _ _ _ (kept (a .out .now)) (λ l. makeOut _ l _) t,
+      x .make-in .ensures .0 ∙ asked-taken _ _ _ (make-entry _) t,
+      x .make-in .ensures .1 ∙ asked-taken _ _ _ (make-out-entry _) t,
     )
 
 pub make-summary-spec : {M : Type 1} → statement M

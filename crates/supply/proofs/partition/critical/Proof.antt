@@ -2,9 +2,9 @@ use mathlib.Core.Path.{sym, ap, _∙_}
 use native.Mathlib.Omega.{arith}
 use lib.Seq.{length-take-le}
 use Rattle.scope.specs.Limits.{teams}
-use Rattle.scope.specs.Answers.{Answer.refused, criticalAnswer, criticalOut}
-use Rattle.scope.specs.Shared.{kept, criticalFor, criticalOutFor}
-use Rattle.theory.specs.Shared.{Taken, taken, asked-taken, asked-not}
+use Rattle.scope.specs.Shared.{criticalFor, criticalOutFor}
+use Rattle.theory.specs.Alone.{critical-entry, critical-out-entry}
+use Rattle.theory.specs.Lent.{Taken, taken, asked-taken, asked-not}
 use Rattle.tables.specs.Told.{boardOf, toldAmount}
 use borrow.Author.Needs.{needs}
 use Rattle.supply.proofs.partition.critical.Statement.{statement}
@@ -58,8 +58,8 @@ returns c =
     let r = x .before .before .before .before .before .before .own-windows in
     let e = sym (r .ensures .0) ∙ ap toldAmount (x .before .before .before .r .given .1) in
     let a = x .before .before .before .before .before .before .before .before .before .before .args in (
-      x .refuse .ensures .0 ∙ asked-not _ _ _ refused (λ l. criticalAnswer _ l _) _ _ _ (omega arith) e,
-      x .refuse .ensures .1 ∙ asked-not _ _ _ (kept (a .out .now)) (λ l. criticalOut _ l _) _ _ _ (omega arith) e,
+      x .refuse .ensures .0 ∙ asked-not _ _ _ (critical-entry _) _ _ _ (omega arith) e,
+      x .refuse .ensures .1 ∙ asked-not _ _ _ (critical-out-entry _) _ _ _ (omega arith) e,
     )
 
 same-length-2 : tie.Need-same-length-2
@@ -71,8 +71,8 @@ returns-2 c =
     let x = c .before .before in
     let t = own-at (x .before .before .before) in
     let a = x .before .before .before .before .before .before .before .before .before .before .before .args in (
-      x .critical-on .ensures .0 ∙ asked-taken _ _ _ refused (λ l. criticalAnswer _ l _) t,
-      x .critical-on .ensures .1 ∙ asked-taken _ _ _ (kept (a .out .now)) (λ l. criticalOut _ l _) t,
+      x .critical-on .ensures .0 ∙ asked-taken _ _ _ (critical-entry _) t,
+      x .critical-on .ensures .1 ∙ asked-taken _ _ _ (critical-out-entry _) t,
     )
 
 pub critical-spec : {M : Type 1} → statement M

@@ -5,7 +5,7 @@ use lib.ListN.{length}
 use borrow.Author.Needs.{needs}
 use Rattle.scope.specs.Windows.{framed}
 use Rattle.scope.specs.Answers.{Answer.given, Answer.refused, criticalOf, criticalAnswer, criticalOut}
-use Rattle.theory.specs.Answers.{table-legal}
+use Rattle.theory.specs.Answers.{pairs-legal}
 use Rattle.tables.proofs.FaultLaws.{refused-by, given-by, kept-by, written-by}
 use Rattle.supply.proofs.PartitionLaws.{critical-short, critical-fine}
 use Rattle.supply.proofs.partition.critical_on.Statement.{statement}
@@ -18,13 +18,13 @@ use Rattle.supply.proofs.supply.least_at_ends.Reads as least-at-ends-re
 use Rattle.tables.proofs.answer.refuse.Reads as refuse-reads
 
 least-at-ends-requires : tie.Need-least-at-ends-requires
-least-at-ends-requires c κs = (table-legal _ _ (c .before .before .pre), omega arith)
+least-at-ends-requires c κs = (pairs-legal _ _ (c .before .before .pre), omega arith)
 
 slice-aggregate-measured : tie.Need-slice-aggregate-measured
 slice-aggregate-measured c = search needs
 
 measured-requires : tie.Need-measured-requires
-measured-requires c κs = (table-legal _ _ (c .before .before .before .before .pre), omega arith, c .before .least-at-ends .ensures .1)
+measured-requires c κs = (pairs-legal _ _ (c .before .before .before .before .pre), omega arith, c .before .least-at-ends .ensures .1)
 
 cast-numbers : tie.Need-cast-numbers
 cast-numbers c = search needs
@@ -35,7 +35,7 @@ refuse-requires c κs = search needs
 write-edges-requires : tie.Need-write-edges-requires
 write-edges-requires c κs =
     let e = c .before .before .before .before .before .before .before .before in
-    (table-legal _ _ (e .pre), omega (arith, c .before .before .before .measured .ensures .numbers, c .before .if1 .left))
+    (pairs-legal _ _ (e .pre), omega (arith, c .before .before .before .measured .ensures .numbers, c .before .if1 .left))
 
 same-length : tie.Need-same-length
 same-length c = search needs

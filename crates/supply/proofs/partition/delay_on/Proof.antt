@@ -3,7 +3,7 @@ use Prim.Native.Nat.{ℕ}
 use native.Mathlib.Omega.{arith}
 use borrow.Author.Needs.{needs}
 use Rattle.scope.specs.Answers.{Answer.given, delayAnswer}
-use Rattle.theory.specs.Answers.{table-legal}
+use Rattle.theory.specs.Answers.{pairs-legal}
 use Rattle.tables.proofs.FaultLaws.{given-by}
 use Rattle.supply.proofs.partition.delay_on.Statement.{statement}
 use Rattle.supply.proofs.partition.delay_on.Tie as tie
@@ -13,13 +13,13 @@ use Rattle.supply.proofs.partition.measured.Reads as measured-reads
 use Rattle.supply.proofs.supply.least_at_ends.Reads as least-at-ends-reads
 
 least-at-ends-requires : tie.Need-least-at-ends-requires
-least-at-ends-requires c κs = (table-legal _ _ (c .before .pre), omega arith)
+least-at-ends-requires c κs = (pairs-legal _ _ (c .before .pre), omega arith)
 
 slice-aggregate-measured : tie.Need-slice-aggregate-measured
 slice-aggregate-measured c = search needs
 
 measured-requires : tie.Need-measured-requires
-measured-requires c κs = (table-legal _ _ (c .before .before .before .pre), omega arith, c .before .least-at-ends .ensures .1)
+measured-requires c κs = (pairs-legal _ _ (c .before .before .before .pre), omega arith, c .before .least-at-ends .ensures .1)
 
 cast-delay : tie.Need-cast-delay
 cast-delay c = search needs

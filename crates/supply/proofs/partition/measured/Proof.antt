@@ -24,14 +24,14 @@ use Rattle.supply.proofs.partition.greater.Reads as greater-reads
 use Rattle.supply.proofs.pieces.piece_from.Reads as piece-from-reads
 
 abbrev Inv-loop : tie.InvT-loop
-Inv-loop frame windows whole held from frame met₀ delay₀ before₀ least₀ t₀ met delay before least t =
+Inv-loop frame windows whole held from met₀ delay₀ before₀ least₀ t₀ met delay before least t =
     let b = framed frame in
     let σ = suppliedBy b windows in
-    (t ≤ frame) × (before ≡ rose b windows t) × (least ≡ leastSupply σ (frame .frame) t) × Counted held from (edges b windows t) met
-    × (delay ≡ greatest (lag σ (frame .frame)) (t + 1))
+    (t ≤ frame) × (before ≡ rose b windows t) × (least ≡ leastSupply σ (frame) t) × Counted held from (edges b windows t) met
+    × (delay ≡ greatest (lag σ (frame)) (t + 1))
 
 abbrev μ-loop : tie.MeasureT-loop
-μ-loop frame windows whole held from frame met₀ delay₀ before₀ least₀ t₀ met delay before least t = frame - t
+μ-loop frame windows whole held from met₀ delay₀ before₀ least₀ t₀ met delay before least t = frame - t
 
 loop-holds : tie.Need-loop-holds Inv-loop μ-loop
 loop-holds c =
@@ -107,8 +107,8 @@ edge-met-requires-2 c κs =
     let l = c .before .loop in
     (e .pre .1, omega (arith, l .inv .0, l .inv .3 .count, edges-few (framed (e .args .frame)) (e .args .windows .now) (l .t), e .pre .0 .frame-most))
 
-cast-t17 : tie.Need-cast-t17 Inv-loop μ-loop
-cast-t17 c =
+cast-t16 : tie.Need-cast-t16 Inv-loop μ-loop
+cast-t16 c =
     let e = c .before .before .before .before .before in
     omega (arith, delay-is (c .before), delay-fits _ _ (table-row (framed (e .args .frame)) (e .args .windows .now) (e .pre .0) .repeats) (e .pre .0 .frame-most))
 
@@ -140,5 +140,5 @@ measured-spec =
     loop-less
     loop-again
     edge-met-requires-2
-    cast-t17
+    cast-t16
     returns)

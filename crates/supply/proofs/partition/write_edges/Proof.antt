@@ -17,18 +17,18 @@ use Rattle.supply.proofs.partition.write_edges.Lts as lts
 use Rattle.supply.proofs.pieces.piece_from.Reads as piece-from-reads
 
 abbrev Inv-loop : tie.InvT-loop
-Inv-loop frame windows from out₀ frame at₀ before₀ least₀ t₀ out at before least t =
+Inv-loop frame windows from out₀ at₀ before₀ least₀ t₀ out at before least t =
     let b = framed frame in
     (t ≤ frame)
     × (before ≡ rose b windows t)
-    × (least ≡ leastSupply (suppliedBy b windows) (frame .frame) t)
+    × (least ≡ leastSupply (suppliedBy b windows) (frame) t)
     × (at ≡ from + length (edges b windows t))
     × (length out ≡ length out₀)
     × (from + length (criticalOf b windows) ≤ length out₀)
     × (out ≡ writtenAfter from out₀ (edges b windows t))
 
 abbrev μ-loop : tie.MeasureT-loop
-μ-loop frame windows from out₀ frame at₀ before₀ least₀ t₀ out at before least t = frame - t
+μ-loop frame windows from out₀ at₀ before₀ least₀ t₀ out at before least t = frame - t
 
 loop-holds : tie.Need-loop-holds Inv-loop μ-loop
 loop-holds c =

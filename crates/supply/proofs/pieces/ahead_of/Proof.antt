@@ -27,16 +27,16 @@ use Rattle.supply.proofs.supply.start_after.Reads as start-after-reads
 use Rattle.tables.proofs.window.window_at.Reads as window-at-reads
 
 abbrev Inv-loop : tie.InvT-loop
-Inv-loop frame windows t least frame count ahead₀ earlier₀ position₀ i₀ ahead earlier position i =
+Inv-loop frame windows t least count ahead₀ earlier₀ position₀ i₀ ahead earlier position i =
     let b = framed frame in
     (ok : LegalTable b windows) × Passed b windows ok t i earlier position × (0 < ahead .rise) × (t + ahead .rise ≤ frame)
-    × Ahead (suppliedBy b windows) (frame .frame) (endOf windows) t i (ahead .flat) (ahead .rise) × (i ≤ count)
+    × Ahead (suppliedBy b windows) (frame) (endOf windows) t i (ahead .flat) (ahead .rise) × (i ≤ count)
 
 abbrev μ-loop : tie.MeasureT-loop
-μ-loop frame windows t least frame count ahead₀ earlier₀ position₀ i₀ ahead earlier position i = count - i
+μ-loop frame windows t least count ahead₀ earlier₀ position₀ i₀ ahead earlier position i = count - i
 
-sub-t17 : tie.Need-sub-t17 Inv-loop μ-loop
-sub-t17 c = search needs
+sub-t16 : tie.Need-sub-t16 Inv-loop μ-loop
+sub-t16 c = search needs
 
 first-requires : tie.Need-first-requires Inv-loop μ-loop
 first-requires c κs = search needs
@@ -180,7 +180,7 @@ ahead-of-spec =
     (tie.spec
     Inv-loop
     μ-loop
-    sub-t17
+    sub-t16
     first-requires
     loop-holds
     window-at-requires

@@ -37,8 +37,8 @@ add-t12 c = search needs
 
 returns-2 : tie.Need-returns-2
 returns-2 c =
-    let r = c .before .before .before .ahead-of in
-    let e = c .before .before .before .before .before in
+    let r = c .before .before .ahead-of in
+    let e = c .before .before .before .before in
     rw (c .lesser .ensures) (told-flat _ _ _ _ (r .result) (e .pre .2) (r .ensures) _ (omega arith) (omega arith) (omega arith))
 
 pub piece-from-spec : {M : Type 1} → statement M

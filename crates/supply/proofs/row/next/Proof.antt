@@ -40,16 +40,16 @@ add-before c = omega (arith, known (c .before))
 add-if1 : tie.Need-add-if1
 add-if1 c = search needs
 
-add-t15 : tie.Need-add-t15
-add-t15 c = search needs
+add-t14 : tie.Need-add-t14
+add-t14 c = search needs
 
 returns : tie.Need-returns
 returns c =
     let a = c .before .before .before .before .args in
     next-here _ _ (a .position) _ (c .before .before .window-of .ensures) (c .if1 .taken)
 
-add-t10 : tie.Need-add-t10
-add-t10 c = omega (arith, known (c .before .before))
+add-t9 : tie.Need-add-t9
+add-t9 c = omega (arith, known (c .before .before))
 
 returns-2 : tie.Need-returns-2
 returns-2 c =
@@ -59,4 +59,4 @@ returns-2 c =
 pub next-spec : {M : Type 1} → statement M
 next-spec =
     tie.close
-    (tie.spec window-of-requires sub-before add-before add-if1 add-t15 returns add-t10 returns-2)
+    (tie.spec window-of-requires sub-before add-before add-if1 add-t14 returns add-t9 returns-2)

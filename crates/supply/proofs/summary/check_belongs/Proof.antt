@@ -1,5 +1,5 @@
 use mathlib.Core.Path.{sym, _∙_}
-use Rattle.theory.specs.Answers.{table-legal}
+use Rattle.theory.specs.Answers.{pairs-legal}
 use Rattle.theory.specs.Summaries.{begins-fine, begins-not}
 use Rattle.supply.proofs.summary.check_belongs.Statement.{statement}
 use Rattle.supply.proofs.summary.check_belongs.Tie as tie
@@ -8,7 +8,7 @@ use Rattle.supply.proofs.summary.check_belongs.Lts as lts
 use Rattle.supply.proofs.summary.belongs.Reads as belongs-reads
 
 belongs-requires : tie.Need-belongs-requires
-belongs-requires c κs = table-legal _ _ (c .before .before .pre)
+belongs-requires c κs = pairs-legal _ _ (c .before .before .pre)
 
 returns : tie.Need-returns
 returns c = sym (begins-fine _ _ _ (sym (c .before .belongs .ensures) ∙ c .if1 .taken))

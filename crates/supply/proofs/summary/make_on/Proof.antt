@@ -6,7 +6,7 @@ use borrow.Author.Needs.{needs}
 use Rattle.scope.specs.Windows.{framed}
 use Rattle.scope.specs.Answers.{Answer.given, Answer.refused}
 use Rattle.scope.specs.Summary.{summaryOf, makeAnswer, makeOut}
-use Rattle.theory.specs.Answers.{table-legal}
+use Rattle.theory.specs.Answers.{pairs-legal}
 use Rattle.tables.proofs.FaultLaws.{refused-by, given-by, kept-by, written-by}
 use Rattle.supply.proofs.SummaryLaws.{summary-numbers, make-short, make-fine, made}
 use Rattle.supply.proofs.summary.make_on.Statement.{statement}
@@ -20,13 +20,13 @@ use Rattle.supply.proofs.supply.least_at_ends.Reads as least-at-ends-re
 use Rattle.tables.proofs.answer.refuse.Reads as refuse-reads
 
 least-at-ends-requires : tie.Need-least-at-ends-requires
-least-at-ends-requires c κs = (table-legal _ _ (c .before .before .pre), omega arith)
+least-at-ends-requires c κs = (pairs-legal _ _ (c .before .before .pre), omega arith)
 
 slice-aggregate-measured : tie.Need-slice-aggregate-measured
 slice-aggregate-measured c = search needs
 
 measured-requires : tie.Need-measured-requires
-measured-requires c κs = (table-legal _ _ (c .before .before .before .before .pre), omega arith, c .before .least-at-ends .ensures .1)
+measured-requires c κs = (pairs-legal _ _ (c .before .before .before .before .pre), omega arith, c .before .least-at-ends .ensures .1)
 
 cast-needed : tie.Need-cast-needed
 cast-needed c = search needs
@@ -43,7 +43,7 @@ write-head-requires c κs = search needs
 write-edges-requires : tie.Need-write-edges-requires
 write-edges-requires c κs =
     let e = c .before .before .before .before .before .before .before .before .before .before .before in (
-      table-legal _ _ (e .pre),
+      pairs-legal _ _ (e .pre),
       omega (
         arith,
         c .before .before .before .before .before .before .measured .ensures .numbers,

@@ -1,6 +1,6 @@
 use mathlib.Core.Path.{_≡_, sym, ap, _∙_}
 use Rattle.scope.specs.Answers.{Fault.fine, Answer.given, tableFault, lengthFault, _orElse_, leastSupplyAnswer}
-use Rattle.theory.specs.Answers.{table-legal, length-legal}
+use Rattle.theory.specs.Answers.{pairs-legal, length-legal}
 use Rattle.tables.specs.Told.{faultOf}
 use Rattle.tables.proofs.FaultLaws.{or-fine, refused-by, given-by}
 use borrow.Author.Needs.{needs}
@@ -24,7 +24,7 @@ enum-told : tie.Need-enum-told
 enum-told c = search needs
 
 least-of-requires : tie.Need-least-of-requires
-least-of-requires c κs = (table-legal _ _ (c .before .before .before .before .pre), length-legal _ (length-fine c))
+least-of-requires c κs = (pairs-legal _ _ (c .before .before .before .before .pre), length-legal _ (length-fine c))
 
 cast-t8 : tie.Need-cast-t8
 cast-t8 c = search needs

@@ -2,9 +2,9 @@ use mathlib.Core.Path.{sym, ap, _∙_}
 use native.Mathlib.Omega.{arith}
 use lib.Seq.{length-take-le}
 use Rattle.scope.specs.Limits.{teams}
-use Rattle.scope.specs.Answers.{Answer.refused, leastSupplyAnswer}
 use Rattle.scope.specs.Shared.{leastSupplyFor}
-use Rattle.theory.specs.Shared.{Taken, taken, asked-taken, asked-not}
+use Rattle.theory.specs.Alone.{least-supply-entry}
+use Rattle.theory.specs.Lent.{Taken, taken, asked-taken, asked-not}
 use Rattle.tables.specs.Told.{boardOf, toldAmount}
 use borrow.Author.Needs.{needs}
 use Rattle.supply.proofs.supply.least_supply.Statement.{statement}
@@ -48,11 +48,11 @@ returns : tie.Need-returns
 unfolding leastSupplyFor
 returns c =
     let r = c .before .before .before .before .own-windows in
-    asked-not _ _ _ refused (λ l. leastSupplyAnswer _ l _) _ _ _ (omega arith) (sym (r .ensures .0) ∙ ap toldAmount (c .before .r .given .1))
+    asked-not _ _ _ (least-supply-entry _) _ _ _ (omega arith) (sym (r .ensures .0) ∙ ap toldAmount (c .before .r .given .1))
 
 returns-2 : tie.Need-returns-2
 unfolding leastSupplyFor
-returns-2 c = c .least-on .ensures ∙ asked-taken _ _ _ refused (λ l. leastSupplyAnswer _ l _) (own-at (c .before .before))
+returns-2 c = c .least-on .ensures ∙ asked-taken _ _ _ (least-supply-entry _) (own-at (c .before .before))
 
 pub least-supply-spec : {M : Type 1} → statement M
 least-supply-spec =

@@ -2,9 +2,10 @@ use mathlib.Core.Path.{sym, ap, _∙_}
 use native.Mathlib.Omega.{arith}
 use lib.Seq.{length-take-le}
 use Rattle.scope.specs.Limits.{teams}
-use Rattle.scope.specs.Answers.{Answer.refused, Answer.given, tableFault, suppliedAnswer}
+use Rattle.scope.specs.Answers.{Answer.given, tableFault, suppliedAnswer}
 use Rattle.scope.specs.Shared.{suppliedFor}
-use Rattle.theory.specs.Shared.{Taken, taken, asked-taken, asked-not}
+use Rattle.theory.specs.Alone.{supplied-entry}
+use Rattle.theory.specs.Lent.{Taken, taken, asked-taken, asked-not}
 use Rattle.tables.specs.Told.{boardOf, toldAmount}
 use Rattle.tables.proofs.FaultLaws.{given-by}
 use borrow.Author.Needs.{needs}
@@ -49,13 +50,13 @@ returns : tie.Need-returns
 unfolding suppliedFor
 returns c =
     let r = c .before .before .before .before .own-windows in
-    asked-not _ _ _ refused (λ l. suppliedAnswer _ l _) _ _ _ (omega arith) (sym (r .ensures .0) ∙ ap toldAmount (c .before .r .given .1))
+    asked-not _ _ _ (supplied-entry _) _ _ _ (omega arith) (sym (r .ensures .0) ∙ ap toldAmount (c .before .r .given .1))
 
 returns-2 : tie.Need-returns-2
 unfolding suppliedFor suppliedAnswer
 returns-2 c =
     let t = own-at (c .before .before) in
-    ap given (c .is-on .ensures) ∙ given-by (tableFault _ _) _ (t .fine-front) ∙ asked-taken _ _ _ refused (λ l. suppliedAnswer _ l _) t
+    ap given (c .is-on .ensures) ∙ given-by (tableFault _ _) _ (t .fine-front) ∙ asked-taken _ _ _ (supplied-entry _) t
 
 pub supplied-spec : {M : Type 1} → statement M
 supplied-spec =
