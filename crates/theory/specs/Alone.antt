@@ -15,14 +15,14 @@ use Rattle.scope.specs.Numbers.{first, pieces, piecesFrom, badCount}
 use Rattle.scope.specs.Limits.{teams, mostFrame, mostWindows}
 use Rattle.scope.specs.Windows.{Board, framed, Window, window, windowsOf, windowAt, gives, covers, supplied, suppliedBy, windowLegal, badWindow}
 use Rattle.scope.specs.Answers.{Fault, Fault.fine, Fault.fault, Answer, Answer.given, Answer.refused, faultIf, faultAt, _orElse_}
-use Rattle.scope.specs.Answers.{windowListFault, frameFault, windowFault, tableFault, ruleFault, cycleFault, criticalFault, runFault}
+use Rattle.scope.specs.Answers.{windowListFault, frameFault, windowFault, tableFault, shortestFault, ruleFault, cycleFault, criticalFault, runFault}
 use Rattle.scope.specs.Answers.{suppliedAnswer, leastSupplyAnswer, criticalAnswer, criticalOut, delayAnswer, outageAnswer}
 use Rattle.scope.specs.Answers.{marginAnswer, verdictAnswer, boundAnswer, runAnswer, runOut}
 use Rattle.scope.specs.Plan.{Read, Read.read, Read.bad, orNine}
 use Rattle.scope.specs.Trace.{Stamped, Record, traceOf, timed}
 use Rattle.scope.specs.Replay.{Replayed, replayFault, recordsAnswer, replayAnswer}
 use Rattle.scope.specs.Shared.{Owned, owned, ownedOf, ownedAt, windowsFor, own, leftOf, ownLeft, asOwned, follows, ownedLegal, badOwned, ownedListFault, ownedFault}
-use Rattle.scope.specs.Shared.{wholeFault, absentOwnerFault, sliverFault, lostFault, sharedFault, ownFault, ownAnswer, ownOut, unlessRefused, askedFor, kept, recordsFor, replayFor}
+use Rattle.scope.specs.Shared.{wholeFault, absentOwnerFault, sliver, firstSliver, sliverFault, lostFault, sharedFault, ownFault, ownAnswer, ownOut, unlessRefused, askedFor, kept, recordsFor, replayFor}
 use Rattle.scope.specs.Summary.{summaryOf, makeFault, makeAnswer, makeOut, summaryFault, leastFromAnswer, marginsFault, marginsAnswer, marginsOut}
 use Rattle.theory.specs.Numbers.{first-equal, first-some}
 use Rattle.theory.specs.Shared.{asked-fine, asked-refused, asked-given}
@@ -50,6 +50,15 @@ supplied-same b c ws e l =
 pub table-same : (b c : Board) (ws : List ℕ) → b .frame ≡ c .frame → tableFault b ws ≡ tableFault c ws
 unfolding tableFault frameFault windowFault badWindow windowLegal
 table-same b c ws e = ap (λ (P : ℕ). tableFault (framed P) ws) e
+
+-- 1, 2 and 3 are by the frame, and 12 by the shortest window, whatever else a board has
+pub whole-same : (owners : ℕ) (b c : Board) (ws : List ℕ) → b .frame ≡ c .frame → wholeFault owners b ws ≡ wholeFault owners c ws
+unfolding wholeFault frameFault ownedFault badOwned ownedLegal
+whole-same owners b c ws e = ap (λ (P : ℕ). wholeFault owners (framed P) ws) e
+
+pub sliver-same : (b c : Board) (ws : List ℕ) → b .shortest ≡ c .shortest → sliverFault b ws ≡ sliverFault c ws
+unfolding sliverFault shortestFault firstSliver sliver
+sliver-same b c ws e = ap (λ (m : ℕ). sliverFault (record { frame = 0; owner = 0; shortest = m; rule = 0; lost = 0 }) ws) e
 
 -- boards that differ in nothing but the owner that is asked for and the shortest window
 pub record Alike (b c : Board) : Type 0 where

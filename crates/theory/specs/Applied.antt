@@ -10,8 +10,8 @@ use lib.Dec.{ltb}
 use lib.IntN.{ℤ, pos, ℤ.negsuc}
 use lib.ListN.{length, getD, take, replicate, length-append}
 use Rattle.scope.specs.Numbers.{least, piecesFrom, pieces, badCount, greatest, lexically, written}
-use Rattle.scope.specs.Ticks.{supply, leastSupply}
-use Rattle.scope.specs.Windows.{suppliedBy}
+use Rattle.scope.specs.Ticks.{supply, perFrame, leastSupply}
+use Rattle.scope.specs.Windows.{windowsOf, suppliedBy}
 use Rattle.scope.specs.Tasks.{tasksOf, taskAt, demand, margin}
 use Rattle.scope.specs.Verdict.{Verdict.meets, Verdict.miss}
 use Rattle.scope.specs.Bound.{Bound.bound, asked}
@@ -25,11 +25,11 @@ use Rattle.scope.specs.Answers.{Fault.fine, Fault.fault, Answer.given, Answer.r
 use Rattle.scope.specs.Answers.{groupFault, criticalOf, criticalOut, leastSupplyAnswer, outageAnswer}
 use Rattle.scope.specs.Trace.{Stamped, traceOf, Record, timed, ticksOf, releases, completion, completions, traceBytes, stampedFrom}
 use Rattle.scope.specs.Replay.{endedFrom, recorded, Replayed.same, Replayed.differs, Replayed.missed, replayAnswer}
-use Rattle.scope.specs.Shared.{own, asOwned, sharedFault, ownAnswer, leastSupplyFor, marginFor, verdictFor, runOutFor, replayFor, planAnswer}
+use Rattle.scope.specs.Shared.{ownedOf, own, ownLeft, asOwned, sharedFault, ownAnswer, ownOut, leastSupplyFor, marginFor, verdictFor, runOutFor, replayFor, planAnswer}
 use Rattle.scope.specs.Summary.{summaryOf, makeAnswer, makeOut, begins, summaryFault, ticksBefore, leastFrom, marginFrom, marginsAnswer, marginsOut, makeFor, makeOutFor}
 use Rattle.scope.specs.Summary.{leastFromFor, marginsFor, marginsOutFor, Edit, Edit.move, Edit.add, Edit.remove, tableIn, editedList, editAnswer, editWindows, editSummary}
 use Rattle.scope.specs.Demands.{Silent, LeastMiss, Way, Served}
-use Rattle.scope.specs.Examples.{Reply.amounts, Reply.windows, Reply.bytesIn, Reply.aVerdict, Reply.bounds, Reply.aRun, X, lab, XShared, on, onFor, onAtLeast, reply, table, examples, row}
+use Rattle.scope.specs.Examples.{Reply.amounts, Reply.windows, Reply.bytesIn, Reply.aVerdict, Reply.bounds, Reply.aRun, X, lab, XShared, on, onFor, onAtLeast, onRule, losing, reply, table, examples, row}
 use Rattle.scope.specs.Examples.{XSummary}
 use Rattle.scope.specs.Examples.{Reply.aReplay}
 use Rattle.scope.specs.Computing.{everything}
@@ -50,7 +50,8 @@ use Rattle.theory.specs.Plan.{mostPlanBytes, first-answer, longest-plan}
 use Rattle.theory.specs.Traces.{shift-answer}
 use Rattle.theory.specs.Replays.{replay-given, same-completions, FirstPair, machineEnded, replayed-differs, meets-no-miss}
 use Rattle.theory.specs.Recorded.{recorded-same, recorded-met, recorded-missed}
-use Rattle.theory.specs.Shared.{one-owner-a-tick, no-such-owner}
+use Rattle.theory.specs.Shared.{one-owner-a-tick, no-such-owner, Gives}
+use Rattle.theory.specs.Losses.{Cause.no-such-rule, Cause.too-many-lost, Cause.lost-under-one, Cause.none-left, Ruled}
 use Rattle.theory.specs.Alone.{Alike, itself, verdict-entry, run-out-entry, make-out-entry, margins-out-entry, teamsFault, alone, WholeRefusal, whole-refusal, Told, told-apart, own-alone, one-owner, replay-alone, replay-one-owner}
 use Rattle.theory.specs.Shortest.{verdict-known, least-from-known, Twelve, exactly-twelve, one-answer, never-twelve, smaller-same, replay-smaller, TraceTwelve, replay-twelve, PlanTwelve, plan-twelve}
 use Rattle.theory.specs.Shortest.{own-twelve, own-smaller, smaller-plan, old-form, old-refused}
@@ -61,6 +62,11 @@ use Rattle.theory.specs.Forms.{withSettings, refused-behind}
 use Rattle.theory.specs.Edits.{edit-parts, Left, edit-leaves, edit-as-made, new-refused, count-answered, add-then-remove, remove-then-add, move-back, other-owner, edit-own}
 use Rattle.theory.specs.Edits.{EditRefusal, edit-refusal, refusal-edit, Fourteen, exactly-fourteen, Absent, exactly-seven, fourteen-own, EditTold, edit-told-apart}
 use Rattle.theory.specs.PlanBytes.{Writable, plan-length, round-trip, left-over, only-bytes}
+use Rattle.theory.specs.Lost.{supplied-exactly, asked-left, rule-one, left-table, own-rule-one, replay-left, replay-rule-one}
+use Rattle.theory.specs.Lost.{NoLoss, no-loss-fault, no-loss, replay-no-loss, own-no-loss, edit-no-loss}
+use Rattle.theory.specs.Thirteen.{Thirteen, shared-thirteen, exactly-thirteen, own-thirteen, no-tick-left, TraceThirteen, replay-thirteen, PlanThirteen, plan-thirteen, EditThirteen, edit-thirteen}
+use Rattle.theory.specs.MoreLost.{more-meets, more-lost-tick, more-lost-supply, more-lost-frame, more-lost-least, more-lost-fine, more-lost-meets, more-lost-thirteen, less-lost-not-thirteen}
+use Rattle.theory.specs.RulePlans.{oldest-form, oldest-refused, m-first-form, m-first-refused, m-first-plan, no-loss-plan}
 
 abbrev pub w6 : List ℕ
 w6 = 1 ∷ 4 ∷ 4 ∷ 2 ∷ 8 ∷ 6 ∷ []
@@ -888,3 +894,219 @@ pair-stale : editAnswer teams (on 8) 2 pair-memory stale-summary (move 9 0 1) �
 unfolding everything
 pair-stale =
     fourteen-own teams (on 8) (on 8) 4 2 edit-memory pair-memory stale-summary (remove 0) (move 9 0 1) (omega arith) refl (omega arith) refl (itself (on 8)) refl .0 refl
+
+-- ---- boards that pay for a switch: of X's windows a board that loses one tick leaves (1,2) and (6,7)
+
+abbrev w4 : List ℕ
+w4 = 1 ∷ 4 ∷ 4 ∷ []
+
+pub lost-misses : verdictFor (losing 8 0 1) XShared w4 ≡ given (miss 4 2 1 0)
+unfolding reply table
+lost-misses = let e : aVerdict (verdictFor (losing 8 0 1) XShared w4) ≡ aVerdict (given (miss 4 2 1 0)) = row table examples "W4's task after a loss" in cc
+
+-- a task of one tick that is due in 5
+abbrev in-five : List ℕ
+in-five = 1 ∷ 8 ∷ 5 ∷ []
+
+lost-meets : verdictFor (losing 8 0 1) XShared in-five ≡ given (meets 8)
+unfolding reply table
+lost-meets = let e : aVerdict (verdictFor (losing 8 0 1) XShared in-five) ≡ aVerdict (given (meets 8)) = row table examples "a task that meets after a loss" in cc
+
+abbrev lost-trace : List ℕ
+lost-trace = 0 ∷ 0 ∷ 1 ∷ 100 ∷ 1 ∷ 0 ∷ 102 ∷ []
+
+lost-trace-same : replayFor (losing 8 0 1) XShared in-five lost-trace ≡ given same
+unfolding reply table
+lost-trace-same = let e : aReplay (replayFor (losing 8 0 1) XShared in-five lost-trace) ≡ aReplay (given same) = row table examples "the trace of that board" in cc
+
+lost-fine-list : sharedFault teams (losing 8 0 1) XShared ≡ fine
+unfolding everything
+lost-fine-list = refl
+
+-- tick 9 is the second of X's first window, a frame later; tick 8 is lost
+lost-tick : Gives teams (losing 8 0 1) 0 (ownedOf XShared) 1
+unfolding everything
+lost-tick = supplied-exactly teams (losing 8 0 1) XShared 9 .0 refl
+
+lost-tick-back : suppliedBy (losing 8 0 1) (own (losing 8 0 1) XShared) 9 ≡ true
+lost-tick-back = supplied-exactly teams (losing 8 0 1) XShared 9 .1 lost-tick
+
+lost-tick-not : suppliedBy (losing 8 0 1) (own (losing 8 0 1) XShared) 8 ≡ false
+unfolding everything
+lost-tick-not = refl
+
+-- W4's task misses on (1,2) and (6,7) alone, and as owner 1's under rule 1
+left-misses : verdictAnswer (on 8) (1 ∷ 2 ∷ 6 ∷ 7 ∷ []) w4 ≡ given (miss 4 2 1 0)
+unfolding everything
+left-misses = sym (asked-left (verdict-entry w4) teams (losing 8 0 1) XShared lost-fine-list) ∙ lost-misses
+
+left-as-owner : verdictFor (onFor 8 1) (1 ∷ 2 ∷ 1 ∷ 6 ∷ 7 ∷ 1 ∷ []) w4 ≡ given (miss 4 2 1 0)
+unfolding everything
+left-as-owner = sym (rule-one (verdict-entry w4) teams (losing 8 0 1) XShared lost-fine-list 1 (omega arith)) ∙ lost-misses
+
+left-fine-list : sharedFault teams (onFor 8 1) (1 ∷ 2 ∷ 1 ∷ 6 ∷ 7 ∷ 1 ∷ []) ≡ fine
+unfolding everything
+left-fine-list = left-table teams (losing 8 0 1) XShared lost-fine-list 1 (omega arith)
+
+-- its summary is made of what is left
+left-made : makeOutFor (losing 8 0 1) XShared (replicate 9 9) ≡ makeOutFor (onFor 8 1) (1 ∷ 2 ∷ 1 ∷ 6 ∷ 7 ∷ 1 ∷ []) (replicate 9 9)
+unfolding everything
+left-made = rule-one (make-out-entry (replicate 9 9)) teams (losing 8 0 1) XShared lost-fine-list 1 (omega arith)
+
+-- and what is left of that is all of it
+left-own : ownAnswer teams (losing 8 0 1) XShared 4 ≡ ownAnswer teams (onFor 8 1) (1 ∷ 2 ∷ 1 ∷ 6 ∷ 7 ∷ 1 ∷ []) 4
+unfolding everything
+left-own = own-rule-one teams (losing 8 0 1) XShared lost-fine-list 1 (omega arith) 4 [] .0
+
+left-trace : replayAnswer (on 8) (1 ∷ 2 ∷ 6 ∷ 7 ∷ []) in-five lost-trace ≡ given same
+unfolding everything
+left-trace = sym (replay-left (losing 8 0 1) XShared in-five lost-trace lost-fine-list) ∙ lost-trace-same
+
+left-trace-as-owner : replayFor (onFor 8 1) (1 ∷ 2 ∷ 1 ∷ 6 ∷ 7 ∷ 1 ∷ []) in-five lost-trace ≡ given same
+unfolding everything
+left-trace-as-owner = sym (replay-rule-one (losing 8 0 1) XShared in-five lost-trace lost-fine-list 1 (omega arith)) ∙ lost-trace-same
+
+-- ---- rule 2 without a loss: X is answered as under rule 1, and refused so
+
+by-rule-two : (o : ℕ) → NoLoss (onFor 8 o) (losing 8 o 0)
+by-rule-two o = record { frame = refl; owner = refl; shortest = refl; one = refl; two = refl; whole = refl; nothing = refl }
+
+w6-by-rule-two : verdictFor (losing 8 0 0) XShared w6 ≡ given (miss 6 2 3 2)
+unfolding verdictFor
+w6-by-rule-two = sym (no-loss (on 8) (losing 8 0 0) (by-rule-two 0) (verdict-entry w6) teams XShared) ∙ w6-shared
+
+third-by-rule-two : sharedFault teams (losing 8 2 0) XShared ≡ fault 1 0
+third-by-rule-two = sym (no-loss-fault (onFor 8 2) (losing 8 2 0) (by-rule-two 2) teams XShared) ∙ third-refused
+
+trace-by-rule-two : replayFor (losing 8 0 0) XShared w7 trace ≡ given same
+trace-by-rule-two = sym (replay-no-loss (on 8) (losing 8 0 0) (by-rule-two 0) XShared w7 trace) ∙ trace-alone
+
+own-by-rule-two : ownOut teams (on 8) XShared (9 ∷ 9 ∷ 9 ∷ 9 ∷ 9 ∷ []) ≡ ownOut teams (losing 8 0 0) XShared (9 ∷ 9 ∷ 9 ∷ 9 ∷ 9 ∷ [])
+own-by-rule-two = own-no-loss (on 8) (losing 8 0 0) (by-rule-two 0) teams XShared 5 (9 ∷ 9 ∷ 9 ∷ 9 ∷ 9 ∷ []) .1
+
+moved-by-rule-two : editAnswer teams (losing 8 0 0) 4 edit-memory edit-summary (move 0 0 1) ≡ given (record { windows = 4; numbers = 7 })
+moved-by-rule-two = sym (edit-no-loss (on 8) (losing 8 0 0) (by-rule-two 0) teams 4 edit-memory edit-summary (move 0 0 1) .0) ∙ x-moved
+
+-- ---- more lost ticks: none, one and two of each of X's windows
+
+rule-one-board : Ruled (on 8)
+rule-one-board = record { known = λ u. absurd (u refl); few = omega arith; whole = λ e. refl }
+
+lost-no-new-tick : suppliedBy (on 8) X 9 ≡ true
+unfolding everything
+lost-no-new-tick = more-lost-tick (on 8) (losing 8 0 1) refl (omega arith) (windowsOf X) 9 refl
+
+lost-no-more : supply (suppliedBy (losing 8 0 1) X) 3 5 ≤ supply (suppliedBy (on 8) X) 3 5
+lost-no-more = more-lost-supply (on 8) (losing 8 0 1) refl (omega arith) (windowsOf X) 3 5
+
+lost-fewer : perFrame (suppliedBy (losing 8 0 1) X) 8 ≤ perFrame (suppliedBy (on 8) X) 8
+lost-fewer = more-lost-frame (on 8) (losing 8 0 1) refl (omega arith) (windowsOf X)
+
+lost-least : (t : ℕ) → leastSupply (suppliedBy (losing 8 0 1) X) 8 t ≤ leastSupply (suppliedBy (on 8) X) 8 t
+lost-least = more-lost-least (on 8) (losing 8 0 1) refl (omega arith) (windowsOf X)
+
+less-fine : sharedFault teams (on 8) XShared ≡ fine
+less-fine = more-lost-fine (on 8) (losing 8 0 1) refl (omega arith) refl refl rule-one-board teams XShared lost-fine-list
+
+-- the task that meets with one tick lost meets with none lost
+less-meets : verdictFor (on 8) XShared in-five ≡ given (meets 8)
+less-meets = more-lost-meets (on 8) (losing 8 0 1) refl (omega arith) refl refl rule-one-board XShared in-five 8 lost-meets
+
+-- and W7's group, which meets on X, on a table that supplies every tick
+full-meets : verdictAnswer (on 8) (0 ∷ 8 ∷ []) w7 ≡ given (meets 8)
+unfolding everything
+full-meets = more-meets (on 8) (on 8) (0 ∷ 8 ∷ []) X w7 refl refl (λ k e. full-supplied k) 8 w7-meets
+
+-- ---- 13: with two ticks lost nothing is left of X, and so with three
+
+x-thirteen : Thirteen teams (losing 8 0 2) XShared
+unfolding everything
+x-thirteen = exactly-thirteen teams (losing 8 0 2) XShared _ (verdict-known (losing 8 0 2) []) 0 .0 refl .0
+
+x-thirteen-back : verdictFor (losing 8 0 2) XShared w6 ≡ refused 13 0
+unfolding verdictFor
+x-thirteen-back = exactly-thirteen teams (losing 8 0 2) XShared _ (verdict-known (losing 8 0 2) w6) 0 .1 (x-thirteen, refl)
+
+-- nor is rule 3 a rule, are 65,536 ticks lost, or any under rule 1
+x-no-rule : verdictFor (onRule 8 0 1 3 0) XShared w6 ≡ refused 13 0
+unfolding everything
+x-no-rule =
+    exactly-thirteen teams (onRule 8 0 1 3 0) XShared _ (verdict-known (onRule 8 0 1 3 0) w6) 0 .1
+    (record { whole = refl; present = refl; long = refl; cause = no-such-rule (λ z. omega arith) (λ z. omega arith) }, refl)
+
+x-too-many-lost : verdictFor (losing 8 0 65536) XShared w6 ≡ refused 13 0
+unfolding everything
+x-too-many-lost =
+    exactly-thirteen teams (losing 8 0 65536) XShared _ (verdict-known (losing 8 0 65536) w6) 0 .1
+    (record { whole = refl; present = refl; long = refl; cause = too-many-lost (omega arith) }, refl)
+
+x-lost-under-one : verdictFor (onRule 8 0 1 1 1) XShared w6 ≡ refused 13 0
+unfolding everything
+x-lost-under-one =
+    exactly-thirteen teams (onRule 8 0 1 1 1) XShared _ (verdict-known (onRule 8 0 1 1 1) w6) 0 .1
+    (record { whole = refl; present = refl; long = refl; cause = lost-under-one refl (omega arith) }, refl)
+
+x-three-lost : sharedFault teams (losing 8 0 3) XShared ≡ fault 13 0
+x-three-lost =
+    shared-thirteen teams (losing 8 0 3) XShared 0 .1 (more-lost-thirteen (losing 8 0 2) (losing 8 0 3) refl (omega arith) refl refl refl teams XShared x-thirteen, refl)
+
+x-spared : (p : ℕ) → verdictFor (losing 8 0 0) XShared w4 ≡ refused 13 p → ⊥
+unfolding verdictFor
+x-spared =
+    less-lost-not-thirteen (losing 8 0 0) (losing 8 0 1) refl (omega arith) refl refl refl teams XShared _ _ (verdict-known (losing 8 0 0) w4) (verdict-known (losing 8 0 1) w4)
+    (λ p e. let f = sym lost-misses ∙ e in let z : _≡_ {A = ℕ} 0 1 = cc in omega arith)
+
+x-own-thirteen : Thirteen teams (losing 8 0 2) XShared
+unfolding everything
+x-own-thirteen = own-thirteen teams (losing 8 0 2) XShared 9 0 .0 refl .0
+
+x-no-tick : (k : ℕ) → suppliedBy (losing 8 0 2) X k ≡ false
+unfolding everything
+x-no-tick = no-tick-left (losing 8 0 2) X refl .0 refl
+
+x-none-left : ownLeft (losing 8 0 2) XShared ≡ []
+unfolding everything
+x-none-left = no-tick-left (losing 8 0 2) X refl .1 x-no-tick
+
+trace-thirteen : TraceThirteen (losing 8 0 2) XShared trace
+unfolding everything
+trace-thirteen = replay-thirteen (losing 8 0 2) XShared w7 trace 0 .0 refl .0
+
+-- W6's file, behind m = 1, rule 2 and two lost ticks
+w6-plan-thirteen : PlanThirteen 3 (1 ∷ 2 ∷ 2 ∷ w6-file)
+unfolding everything
+w6-plan-thirteen = plan-thirteen 3 (1 ∷ 2 ∷ 2 ∷ w6-file) 0 .0 refl .0
+
+-- a removal that leaves a window of one tick on a board that loses one; and on a board that loses three a window of three
+removal-thirteen : EditThirteen teams (losing 8 0 1) 2 (0 ∷ 2 ∷ 0 ∷ 5 ∷ 6 ∷ 0 ∷ []) (1 ∷ 7 ∷ 1 ∷ 7 ∷ 8 ∷ []) (remove 0)
+unfolding everything
+removal-thirteen = edit-thirteen teams (losing 8 0 1) 2 (0 ∷ 2 ∷ 0 ∷ 5 ∷ 6 ∷ 0 ∷ []) (1 ∷ 7 ∷ 1 ∷ 7 ∷ 8 ∷ []) (remove 0) 0 .0 refl .0
+
+old-table-thirteen : editAnswer teams (losing 4 0 3) 1 (0 ∷ 3 ∷ 0 ∷ []) [] (move 0 0 4) ≡ refused 13 0
+unfolding everything
+old-table-thirteen =
+    edit-thirteen teams (losing 4 0 3) 1 (0 ∷ 3 ∷ 0 ∷ []) [] (move 0 0 4) 0 .1
+    (EditThirteen.old-thirteen (omega arith) (record { whole = refl; present = refl; long = refl; cause = none-left refl }), refl)
+
+-- ---- W6's file in all forms: with its settings told, a byte left over, m told, and rule 2 without a loss
+
+w6-oldest-form : planAnswer 3 (1 ∷ 1 ∷ 0 ∷ w6-file) ≡ planAnswer 0 w6-file
+w6-oldest-form = oldest-form w6-file w6-plan w6-reads
+
+w6-oldest-left-over : (b : ℕ) (rest : List ℕ) → planAnswer 3 (1 ∷ 1 ∷ 0 ∷ (w6-file ++ (b ∷ rest))) ≡ refused 9 16
+w6-oldest-left-over b rest = oldest-refused (w6-file ++ (b ∷ rest)) 9 13 (w6-left-over b rest)
+
+-- m = 200 takes two bytes, and X's windows are shorter
+w6-m-first : planAnswer 3 (200 ∷ 1 ∷ 1 ∷ 0 ∷ w6-file) ≡ planAnswer 1 (200 ∷ 1 ∷ w6-file)
+unfolding numberBytes numberBytesWithin
+w6-m-first = m-first-form w6-file 200 (omega arith) w6-plan w6-reads
+
+w6-m-left-over : (b : ℕ) (rest : List ℕ) → planAnswer 3 (200 ∷ 1 ∷ 1 ∷ 0 ∷ (w6-file ++ (b ∷ rest))) ≡ refused 9 17
+unfolding numberBytes numberBytesWithin
+w6-m-left-over b rest = m-first-refused (w6-file ++ (b ∷ rest)) 200 (omega arith) 9 13 (w6-left-over b rest) .1
+
+w6-m-plan : planAnswer 1 (planBytes (withSettings (2 ∷ []) w6-plan)) ≡ planAnswer 3 (planBytes (withSettings (2 ∷ 1 ∷ 0 ∷ []) w6-plan))
+w6-m-plan = m-first-plan w6-plan w6-writable 2 (omega arith)
+
+w6-two-plan : planAnswer 3 (planBytes (withSettings (2 ∷ 1 ∷ 0 ∷ []) w6-plan)) ≡ planAnswer 3 (planBytes (withSettings (2 ∷ 2 ∷ 0 ∷ []) w6-plan))
+w6-two-plan = no-loss-plan w6-plan w6-writable 2 (omega arith)

@@ -25,11 +25,11 @@ use Rattle.theory.specs.Shared.{whole, shared-parts, own-few, for-rising
 module _ (b : Board) where
   -- ---- one window and what is left of it
 
-  left-kept : (w : Window) (ws : List Window) → b .lost < w .end - w .start → leftOf b (w ∷ ws) ≡ (b .lost + w .start) ∷ w .end ∷ leftOf b ws
+  pub left-kept : (w : Window) (ws : List Window) → b .lost < w .end - w .start → leftOf b (w ∷ ws) ≡ (b .lost + w .start) ∷ w .end ∷ leftOf b ws
   unfolding leftOf
   left-kept w ws h = rw (lt-ltb (b .lost) (w .end - w .start) h)
 
-  left-out : (w : Window) (ws : List Window) → w .end - w .start ≤ b .lost → leftOf b (w ∷ ws) ≡ leftOf b ws
+  pub left-out : (w : Window) (ws : List Window) → w .end - w .start ≤ b .lost → leftOf b (w ∷ ws) ≡ leftOf b ws
   unfolding leftOf
   left-out w ws h = rw (le-ltb (b .lost) (w .end - w .start) h)
 

@@ -48,8 +48,11 @@ pub mod Lost
 pub mod Lent
 pub mod Forms
 pub mod Shortest
+pub mod RulePlans
 pub mod Summaries
 pub mod Refused
 pub mod Edits
+pub mod Thirteen
+pub mod MoreLost
 pub mod Applied
 pub mod Sharp

@@ -187,6 +187,12 @@ least-le f zero i h = absurd (omega arith)
 least-le f (suc n) i h =
     elim (ℕ-discrete i n) [ yes e ↦ omega (arith, ap f e) | no q ↦ omega (arith, least-le f n i (omega arith)) ]
 
+-- of a function that is nowhere more the least is no more
+pub least-over : (f g : ℕ → ℕ) (n : ℕ) → ((i : ℕ) → f i ≤ g i) → least f n ≤ least g n
+unfolding least
+least-over f g zero h = h 0
+least-over f g (suc n) h = omega (arith, least-over f g n h, h n)
+
 pub least-met : (f : ℕ → ℕ) (n : ℕ) → 0 < n → (i : ℕ) × (i < n) × (f i ≡ least f n)
 unfolding least
 least-met f zero p = absurd (omega arith)

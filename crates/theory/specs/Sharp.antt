@@ -1,9 +1,9 @@
 -- How sharp the theorems are: stronger claims, each refuted by an example
 use mathlib.Core.Path.{_≡_, refl, sym, _∙_}
-use mathlib.Core.Bool.{Bool, true}
+use mathlib.Core.Bool.{Bool, true, false≢true}
 use mathlib.Core.Option.{none, some}
 use mathlib.Core.List.{List, [], _∷_}
-use Prim.Native.Nat.{ℕ, zero, suc, _*_, _/_, _≤_, _<_, _∣_}
+use Prim.Native.Nat.{ℕ, zero, suc, _+_, _*_, _/_, _%_, _≤_, _<_, _∣_}
 use native.Mathlib.Omega.{arith}
 use native.Mathlib.Nat.{dvd-refl}
 use lib.ListN.{length, getD}
@@ -17,15 +17,16 @@ use Rattle.scope.specs.Machine.{edf}
 use Rattle.scope.specs.Run.{counts}
 use Rattle.scope.specs.Limits.{teams}
 use Rattle.scope.specs.Answers.{Fault.fine, Answer, Answer.given, Answer.refused, verdictAnswer}
-use Rattle.scope.specs.Shared.{ownedOf, own, ownedFault, wholeFault, sharedFault, verdictFor}
+use Rattle.scope.specs.Shared.{ownedOf, ownedAt, own, asOwned, ownedFault, wholeFault, sharedFault, verdictFor}
 use Rattle.scope.specs.Summary.{summaryOf, summaryFault, Edit, Edit.move, Edit.add, Edit.remove, edited, tableIn, editedList, Edited, editAnswer}
 use Rattle.scope.specs.Demands.{Way, givenTo}
-use Rattle.scope.specs.Examples.{X, others, on, onAtLeast}
+use Rattle.scope.specs.Examples.{X, others, labShared, on, onFor, onAtLeast, losing}
 use Rattle.scope.specs.Computing.{numbers·compute, tables·compute, tableFaults·compute, constructors·compute, sharedFaults·compute, everything}
 use Rattle.theory.specs.Tasks.{TaskRules, Periods}
 use Rattle.theory.specs.Answers.{LegalTable, table-legal}
 use Rattle.theory.specs.Buffers.{written-begins, begins-length}
 use Rattle.theory.specs.Summaries.{begins-fine}
+use Rattle.theory.specs.Shared.{startAt, endAt}
 use Rattle.theory.specs.Edits.{Ready, parts-given, new-refused}
 use Rattle.theory.specs.Rows.{endOf}
 use Rattle.theory.specs.Applied.{w6, w7, w13, w6-misses, w7-meets}
@@ -144,6 +145,42 @@ not-to-zero claim =
     let e : given (meets 8) ≡ refused 12 64 = claim 8 0 2 0 (0 ∷ 2 ∷ 0 ∷ []) [] refl (omega arith) in
     let z : _≡_ {A = ℕ} 0 1 = cc in
     omega arith
+
+-- ---- boards that pay for a switch
+
+-- 13 is not asked of both teams: with two ticks lost owner 1 is left nothing of its (3,5), and owner 0 is answered all the same
+pub not-both-left : ((P q : ℕ) (ws ts : List ℕ) → verdictFor (losing P 1 q) ws ts ≡ refused 13 0 → verdictFor (losing P 0 q) ws ts ≡ refused 13 0) → ⊥
+unfolding everything
+not-both-left claim =
+    let e : given (meets 8) ≡ refused 13 0 = claim 8 2 labShared [] refl in
+    let z : _≡_ {A = ℕ} 0 1 = cc in
+    omega arith
+
+-- rule 2 with a loss does not answer as rule 1, where neither refuses: W4's task, which meets on X, misses with one tick lost
+pub not-as-rule-one : ((P o q : ℕ) (ws ts : List ℕ) → sharedFault teams (losing P o q) ws ≡ fine → sharedFault teams (onFor P o) ws ≡ fine → 1 ≤ q →
+    verdictFor (losing P o q) ws ts ≡ verdictFor (onFor P o) ws ts) → ⊥
+unfolding everything
+not-as-rule-one claim =
+    let e : given (miss 4 2 1 0) ≡ given (meets 8) = claim 8 0 1 (asOwned 0 X) (1 ∷ 4 ∷ 4 ∷ []) refl refl (omega arith) in
+    let z : _≡_ {A = ℕ} 0 1 = cc in
+    omega arith
+
+-- it is not the last ticks that are lost: with one tick lost the window (0,2) gives tick 1, and not tick 0
+pub not-last-lost : ((P o q : ℕ) (ws : List ℕ) (k : ℕ) → suppliedBy (losing P o q) (own (losing P o q) ws) k ≡ true →
+    (i : ℕ) × (i < length (ownedOf ws)) × (startAt (ownedOf ws) i ≤ k % P) × (k % P + q < endAt (ownedOf ws) i)) → ⊥
+unfolding everything
+not-last-lost claim =
+    let c = claim 8 0 1 (0 ∷ 2 ∷ 0 ∷ []) 1 refl in
+    go (c .0) (c .1) (c .3)
+  where
+    go : (i : ℕ) → i < 1 → 1 + 1 < endAt (ownedOf (0 ∷ 2 ∷ 0 ∷ [])) i → ⊥
+    go zero l h = omega arith
+    go (suc i) l h = omega arith
+
+pub not-first-kept : ((P o q : ℕ) (ws : List ℕ) (k i : ℕ) → i < length (ownedOf ws) → (ownedAt (ownedOf ws) i) .owner ≡ o → startAt (ownedOf ws) i ≤ k % P →
+    k % P + q < endAt (ownedOf ws) i → suppliedBy (losing P o q) (own (losing P o q) ws) k ≡ true) → ⊥
+unfolding everything
+not-first-kept claim = false≢true (claim 8 0 1 (0 ∷ 2 ∷ 0 ∷ []) 0 0 (omega arith) refl (omega arith) (omega arith))
 
 -- ---- edits (request 6) depend on the other team. The claim that a refusal of an edit depends on the owner's windows alone, before and after it, where the
 -- tables and the summary have no fault and the memories are of one length, is false of each refusal below; but for an owner's absence, after which it has none

@@ -11,7 +11,7 @@ use lib.Dec.{leb, ltb, eqb}
 use lib.ListN.{length}
 use Rattle.scope.specs.Numbers.{badCount, greatest}
 use Rattle.scope.specs.Limits.{teams, mostFrame, mostWindows, mostTasks, mostCycle, mostLength, mostTicks, mostJobs, mostNumber}
-use Rattle.scope.specs.Windows.{Board, framed, windowsOf, badWindow}
+use Rattle.scope.specs.Windows.{Board, windowsOf, badWindow}
 use Rattle.scope.specs.Tasks.{Task, tasksOf, badTask}
 use Rattle.scope.specs.Cycle.{cycle}
 use Rattle.scope.specs.Jobs.{Job, jobsOf, badJob}
@@ -23,14 +23,14 @@ use Rattle.scope.specs.Plan.{Read, Read.read, Read.bad, readNumber, readNumbers
 use Rattle.scope.specs.Plan.{numbersBytes, planBytes}
 use Rattle.scope.specs.Trace.{Stamped, Record, timed, traceOf, ticksOf, releases, badRecord}
 use Rattle.scope.specs.Replay.{extentFault, recordFault, replayFault, recordsAnswer}
-use Rattle.scope.specs.Shared.{ownedOf, windowsFor, own, ownLeft, ownedListFault, ownedFault, badOwned, ownedLegal, wholeFault, absentOwnerFault, sliverFault, lostFault, sharedFault}
+use Rattle.scope.specs.Shared.{ownedOf, windowsFor, own, ownLeft, ownedListFault, ownedFault, badOwned, wholeFault, absentOwnerFault, sliverFault, lostFault, sharedFault}
 use Rattle.scope.specs.Shared.{ownFault, ownAnswer, ownOut, asOwned, unlessRefused, askedFor, verdictFor, recordsFor, replayFor, planBoard, planAnswer}
 use Rattle.scope.specs.Summary.{summaryOf, makeFault, makeAnswer, begins, summaryFault, leastFromAnswer, lengthsFault, marginsFault, marginsAnswer}
 use Rattle.theory.specs.Answers.{fault-not-fine, unless-refused}
 use Rattle.theory.specs.Shared.{asked-refused}
 use Rattle.theory.specs.Losses.{lost-thirteen}
 use Rattle.theory.specs.Slivers.{Sliver, sliver-exactly, sliver-twelve, one-tick, smaller-fine}
-use Rattle.theory.specs.Alone.{Entry, Alike, on-alike, left-same, lost-same, absent-same, records-entry, verdict-entry, or-nine}
+use Rattle.theory.specs.Alone.{Entry, Alike, on-alike, left-same, lost-same, whole-same, absent-same, records-entry, verdict-entry, or-nine}
 use Rattle.theory.specs.Seven.{UpTo, up-to-greatest}
 use Rattle.theory.specs.Forms.{withSettings, refused-behind, judged-behind}
 use Rattle.theory.specs.PlanBytes.{Writable, round-trip, read-settings}
@@ -241,7 +241,7 @@ module _ (b : Board) where
 
 -- ---- 12, exactly when: the list has no fault 1, 2 or 3, the owner has a window, and m is out of its range or some window shorter than m
 
-whole-base : (owners : ℕ) (b : Board) (ws : List ℕ) → Base (wholeFault owners b ws orElse absentOwnerFault b ws)
+pub whole-base : (owners : ℕ) (b : Board) (ws : List ℕ) → Base (wholeFault owners b ws orElse absentOwnerFault b ws)
 unfolding wholeFault ownedListFault ownedFault absentOwnerFault
 whole-base owners b ws =
     base-else (wholeFault owners b ws) (absentOwnerFault b ws)
@@ -325,15 +325,11 @@ module _ (owners : ℕ) (b : Board) (ws : List ℕ) where
 
 module _ (owners : ℕ) (b c : Board) (ws : List ℕ) (alike : Alike b c) (owner : b .owner ≡ c .owner)
     (least : 1 ≤ c .shortest) (less : c .shortest ≤ b .shortest) where
-  whole-same : wholeFault owners b ws ≡ wholeFault owners c ws
-  unfolding wholeFault frameFault ownedFault badOwned ownedLegal
-  whole-same = ap (λ (P : ℕ). wholeFault owners (framed P) ws) (alike .frame)
-
   smaller-fault : ((p : ℕ) → sharedFault owners b ws ≡ fault 12 p → ⊥) → sharedFault owners b ws ≡ sharedFault owners c ws
   unfolding sharedFault
   smaller-fault spared =
       let mine : own b ws ≡ own c ws = ap (λ (o : ℕ). windowsFor o (ownedOf ws)) owner in
-      rw (← whole-same, ← absent-same b c ws ws mine, ← mine, ← lost-same b c (own b ws) (alike .rule) (alike .lost))
+      rw (← whole-same owners b c ws (alike .frame), ← absent-same b c ws ws mine, ← mine, ← lost-same b c (own b ws) (alike .rule) (alike .lost))
       (go (wholeFault owners b ws) (absentOwnerFault b ws) (sliverFault b ws) refl refl refl)
     where
       go : (f g h : Fault) → wholeFault owners b ws ≡ f → absentOwnerFault b ws ≡ g → sliverFault b ws ≡ h →
@@ -416,7 +412,7 @@ replay-twelve b ws ts bytes p = (go (traceOf bytes) refl, λ t. rw (t .reads) (e
 -- ---- plan files
 
 -- a file's own refusals, before its plan is judged, are document 01's
-plan-base : (k : ℕ) (bytes : List ℕ) (n p : ℕ) → planOf k bytes ≡ refused n p → n ≤ 11
+pub plan-base : (k : ℕ) (bytes : List ℕ) (n p : ℕ) → planOf k bytes ≡ refused n p → n ≤ 11
 unfolding planOf planFrom listsFrom countedFrom restFault
 plan-base k bytes n p =
     read-base (readNumbers bytes k 0) _ (λ settings next. read-base (readNumber bytes next) _ (λ P after.
@@ -466,7 +462,7 @@ plan-twelve k bytes p = (
     go (refused m o) r e = let x : m ≡ 12 = cc in absurd (omega (arith, plan-base k bytes m o r))
 
 module _ (p : Plan) (w : Writable p) where
-  writable-with : (l : List ℕ) → UpTo mostNumber l → Writable (withSettings l p)
+  pub writable-with : (l : List ℕ) → UpTo mostNumber l → Writable (withSettings l p)
   writable-with l u = record { settings = u; frame = w .frame; windows = w .windows; tasks = w .tasks; windowList = w .windowList; taskList = w .taskList }
 
   -- what is not refused by 12 with m first is answered the same with every smaller m from 1 on

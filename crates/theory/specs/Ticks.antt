@@ -1,6 +1,6 @@
 -- Laws of supply and of the least supply, over any pattern σ of supplied ticks
 use mathlib.Core.Path.{_≡_, refl, sym, ap, _∙_}
-use mathlib.Core.Bool.{Bool}
+use mathlib.Core.Bool.{Bool, true, false}
 use mathlib.Core.Option.{Option, none, some}
 use Prim.Native.Nat.{ℕ, zero, suc, _+_, _-_, _*_, _%_, _/_, _≤_, _<_, _∣_}
 use native.Mathlib.Omega.{arith}
@@ -9,7 +9,7 @@ use lib.Dec.{eqb}
 use borrow.Author.Tests.{eqb-true, eqb-false}
 use Rattle.scope.specs.Numbers.{bit, first, orZero}
 use Rattle.scope.specs.Ticks.{Periodic, supply, perFrame, leastSupply, leastStart}
-use Rattle.theory.specs.Numbers.{bit-le, least-le, least-met, first-none, first-some}
+use Rattle.theory.specs.Numbers.{bit-le, least-le, least-over, least-met, first-none, first-some}
 
 -- ---- supply
 
@@ -40,6 +40,22 @@ module _ (σ : ℕ → Bool) where
 
   pub supply-up : (s t u : ℕ) → t ≤ u → supply σ s t ≤ supply σ s u
   supply-up s t u h = let e : t + (u - t) ≡ u = omega arith in omega (arith, supply-split s t (u - t), ap (supply σ s) e)
+
+-- ---- two patterns, of which τ supplies every tick that σ does
+
+module _ (σ τ : ℕ → Bool) (more : (k : ℕ) → σ k ≡ true → τ k ≡ true) where
+  pub supply-more : (s t : ℕ) → supply σ s t ≤ supply τ s t
+  unfolding supply
+  supply-more s zero = omega arith
+  supply-more s (suc t) = omega (arith, supply-more s t, go (σ (s + t)) (τ (s + t)) (more (s + t)))
+    where
+      go : (a b : Bool) → (a ≡ true → b ≡ true) → bit a ≤ bit b
+      go true b h = omega (arith, ap bit (h refl))
+      go false b h = omega arith
+
+  pub least-more : (P t : ℕ) → leastSupply σ P t ≤ leastSupply τ P t
+  unfolding leastSupply
+  least-more P t = least-over (λ s. supply σ s t) (λ s. supply τ s t) P (λ s. supply-more s t)
 
 -- ---- a pattern that repeats with P
 

@@ -1,0 +1,205 @@
+-- Document 02, request 7: 13 is given exactly when the table passes 1, 2, 3, has a window of the owner and no sliver, and has one of 13's four causes, of which
+-- the last is that no tick is left; of every entry, of traces, of plan files and of edits
+use mathlib.Core.Path.{_≡_, refl, sym, ap, _∙_}
+use mathlib.Core.Bool.{Bool, true, false, true≢false}
+use mathlib.Core.Logic.{_⊎_, inl, inr, _↔_}
+use mathlib.Core.List.{List, [], _∷_}
+use Prim.Native.Nat.{ℕ, suc, _+_, _-_, _*_, _%_, _≤_, _<_}
+use native.Mathlib.Omega.{arith}
+use native.Mathlib.Nat.{mod-eq-of-lt}
+use native.Mathlib.Decide.{decLt}
+use lib.Dec.{ltb}
+use lib.ListN.{length}
+use Rattle.scope.specs.Numbers.{pieces, piecesFrom}
+use Rattle.scope.specs.Limits.{teams}
+use Rattle.scope.specs.Windows.{Board, framed, Window, windowsOf, windowAt, covers, supplied, suppliedBy}
+use Rattle.scope.specs.Answers.{Fault, Fault.fine, Fault.fault, Answer, Answer.given, Answer.refused, faultIf, _orElse_, unless, tableFault, roomFault}
+use Rattle.scope.specs.Plan.{Read, Read.read, Read.bad, orNine, andThen, Plan, planOf}
+use Rattle.scope.specs.Trace.{Stamped, timed, traceOf}
+use Rattle.scope.specs.Replay.{recordsAnswer}
+use Rattle.scope.specs.Shared.{own, leftOf, ownLeft, asOwned, wholeFault, absentOwnerFault, sliverFault, lostFault, sharedFault, ownFault, ownAnswer, unlessRefused, askedFor, verdictFor, recordsFor, replayFor, planBoard, planAnswer}
+use Rattle.scope.specs.Summary.{Edit, tableIn, editedList, editAnswer}
+use Rattle.theory.specs.Windows.{gives-in, covers-at}
+use Rattle.theory.specs.Gaps.{fits}
+use Rattle.theory.specs.Answers.{table-legal}
+use Rattle.theory.specs.Shared.{asked-refused}
+use Rattle.theory.specs.Slivers.{sliver-twelve}
+use Rattle.theory.specs.Left.{left-out, left-supplied}
+use Rattle.theory.specs.Losses.{Cause, lost-thirteen, lost-exactly}
+use Rattle.theory.specs.Alone.{table-same, WholeRefusal, WholeRefusal.by-count, WholeRefusal.by-frame, WholeRefusal.by-window, WholeRefusal.by-range, WholeRefusal.by-sliver}
+use Rattle.theory.specs.Shortest.{Known, verdict-known, records-known, whole-base, plan-base}
+use Rattle.theory.specs.Edits.{Ready, Allowed, NewRefusal, EditRefusal, edit-refusal, refusal-edit, new-refused}
+
+-- ---- of lists of windows and every entry
+
+module _ (owners : ℕ) (b : Board) (ws : List ℕ) where
+  -- everything before it passed, and one of its causes
+  pub record Thirteen : Type 0 where
+    pub whole : wholeFault owners b ws ≡ fine
+    pub present : absentOwnerFault b ws ≡ fine
+    pub long : sliverFault b ws ≡ fine
+    pub cause : Cause b (own b ws)
+
+  -- a list is refused by 13 exactly then, at place 0
+  pub shared-thirteen : (p : ℕ) → (sharedFault owners b ws ≡ fault 13 p) ↔ (Thirteen × (p ≡ 0))
+  unfolding sharedFault
+  shared-thirteen p = (go (wholeFault owners b ws) (absentOwnerFault b ws) (sliverFault b ws) refl refl refl (whole-base owners b ws 13 p), so)
+    where
+      mine : Fault
+      mine = lostFault b (own b ws)
+
+      go : (f g h : Fault) → wholeFault owners b ws ≡ f → absentOwnerFault b ws ≡ g → sliverFault b ws ≡ h →
+          ((wholeFault owners b ws orElse absentOwnerFault b ws) ≡ fault 13 p → 13 ≤ 11) → (f orElse g orElse h orElse mine) ≡ fault 13 p → Thirteen × (p ≡ 0)
+      go (fault n q) g h e a s base z = absurd (omega (arith, base (rw e z)))
+      go fine (fault n q) h e a s base z = absurd (omega (arith, base (rw (e, a) z)))
+      go fine fine (fault n q) e a s base z = let x : n ≡ 13 = cc in absurd (omega (arith, sliver-twelve b ws n q s))
+      go fine fine fine e a s base z =
+          let t = lost-thirteen b (own b ws) 13 p z in
+          let y : 0 ≡ p = cc in
+          (record { whole = e; present = a; long = s; cause = lost-exactly b (own b ws) .0 (z ∙ sym t) }, sym y)
+
+      so : Thirteen × (p ≡ 0) → sharedFault owners b ws ≡ fault 13 p
+      so (t, z) = rw (t .whole, t .present, t .long, z) (lost-exactly b (own b ws) .1 (t .cause))
+
+  -- and so does every entry refuse that does not give 13 itself
+  pub exactly-thirteen : {A : Type 0} (entry : List ℕ → Answer A) → Known entry → (p : ℕ) → (askedFor owners b ws refused entry ≡ refused 13 p) ↔ (Thirteen × (p ≡ 0))
+  unfolding askedFor
+  exactly-thirteen entry is p = (go (sharedFault owners b ws) refl, λ t. asked-refused owners b ws refused entry (shared-thirteen p .1 t))
+    where
+      go : (f : Fault) → sharedFault owners b ws ≡ f → unlessRefused f refused (entry (own b ws)) ≡ refused 13 p → Thirteen × (p ≡ 0)
+      go fine s e = absurd (is 13 (omega arith) (omega arith) (own b ws) p e)
+      go (fault n q) s e = let x : n ≡ 13 = cc in let y : q ≡ p = cc in shared-thirteen p .0 (rw (← x, ← y) s)
+
+  -- what is left of an owner's windows by itself, whose memory may be too short
+  pub own-thirteen : (room p : ℕ) → (ownAnswer owners b ws room ≡ refused 13 p) ↔ (Thirteen × (p ≡ 0))
+  unfolding ownAnswer ownFault roomFault
+  own-thirteen room p = (go (sharedFault owners b ws) refl, λ t. rw (shared-thirteen p .1 t))
+    where
+      short : (t : Bool) → unless (faultIf t 8 (length (ownLeft b ws))) (length (ownLeft b ws)) ≡ refused 13 p → ⊥
+      short true e = let z : _≡_ {A = ℕ} 8 13 = cc in omega arith
+      short false e = let z : _≡_ {A = ℕ} 0 1 = cc in omega arith
+
+      go : (f : Fault) → sharedFault owners b ws ≡ f → unless (f orElse faultIf (ltb room (length (ownLeft b ws))) 8 (length (ownLeft b ws))) (length (ownLeft b ws)) ≡ refused 13 p →
+          Thirteen × (p ≡ 0)
+      go fine s e = absurd (short (ltb room (length (ownLeft b ws))) e)
+      go (fault n q) s e = let x : n ≡ 13 = cc in let y : q ≡ p = cc in shared-thirteen p .0 (rw (← x, ← y) s)
+
+-- ---- the fourth cause: of a list of windows without a fault nothing is left exactly when no tick is supplied
+
+module _ (b : Board) where
+  left-or : (ws : List Window) → (leftOf b ws ≡ []) ⊎ ((i : ℕ) × (i < length ws) × (b .lost < (windowAt ws i) .end - (windowAt ws i) .start))
+  unfolding leftOf
+  left-or [] = inl refl
+  left-or (w ∷ ws) =
+      elim (decLt (b .lost) (w .end - w .start)) [
+        | yes h ↦ inr (0, omega arith, h)
+        | no h ↦ later (omega arith) (left-or ws)
+      ]
+    where
+      later : w .end - w .start ≤ b .lost → (leftOf b ws ≡ []) ⊎ ((i : ℕ) × (i < length ws) × (b .lost < (windowAt ws i) .end - (windowAt ws i) .start)) →
+          (leftOf b (w ∷ ws) ≡ []) ⊎ ((i : ℕ) × (i < length (w ∷ ws)) × (b .lost < (windowAt (w ∷ ws) i) .end - (windowAt (w ∷ ws) i) .start))
+      later h (inl e) = inl (left-out b w ws h ∙ e)
+      later h (inr (i, l, u)) = inr (suc i, omega arith, u)
+
+  pub no-tick-left : (mine : List ℕ) → tableFault b mine ≡ fine → (leftOf b (windowsOf mine) ≡ []) ↔ ((k : ℕ) → suppliedBy b mine k ≡ false)
+  unfolding supplied covers pieces piecesFrom
+  no-tick-left mine fine-list = (only, so (left-or (windowsOf mine)))
+    where
+      only : leftOf b (windowsOf mine) ≡ [] → (k : ℕ) → suppliedBy b mine k ≡ false
+      only e k = ap (λ (σ : ℕ → Bool). σ k) (left-supplied b (windowsOf mine)) ∙ ap (λ (l : List ℕ). suppliedBy (framed (b .frame)) l k) e
+
+      so : (leftOf b (windowsOf mine) ≡ []) ⊎ ((i : ℕ) × (i < length (windowsOf mine)) × (b .lost < (windowAt (windowsOf mine) i) .end - (windowAt (windowsOf mine) i) .start)) →
+          ((k : ℕ) → suppliedBy b mine k ≡ false) → leftOf b (windowsOf mine) ≡ []
+      so (inl e) h = e
+      so (inr (i, l, u)) h =
+          let w : Window = windowAt (windowsOf mine) i in
+          let whole = table-legal (framed (b .frame)) mine (table-same (framed (b .frame)) b mine refl ∙ fine-list) refl in
+          let f = fits (framed (b .frame)) (windowsOf mine) (whole .windows) i l in
+          let k : ℕ = b .lost + w .start in
+          let place : k % b .frame ≡ k = mod-eq-of-lt (omega (arith, f .1)) in
+          let given-tick : suppliedBy b mine k ≡ true = rw place (covers-at b k (windowsOf mine) i l (gives-in b w k (omega arith) (omega arith))) in
+          absurd (true≢false (sym given-tick ∙ h k))
+
+-- ---- traces and plan files
+
+-- a trace is refused by 13 exactly when its bytes read to records and the list of windows is
+pub record TraceThirteen (b : Board) (ws bytes : List ℕ) : Type 0 where
+  pub records : List Stamped
+  pub end : ℕ
+  pub reads : traceOf bytes ≡ read records end
+  pub thirteen : Thirteen teams b ws
+
+pub replay-thirteen : (b : Board) (ws ts bytes : List ℕ) (p : ℕ) → (replayFor b ws ts bytes ≡ refused 13 p) ↔ (TraceThirteen b ws bytes × (p ≡ 0))
+unfolding replayFor recordsFor
+replay-thirteen b ws ts bytes p = (go (traceOf bytes) refl, λ t. rw (t .0 .reads) (exactly (t .0 .records) .1 (t .0 .thirteen, t .1)))
+  where
+    exactly : (rs : List Stamped) → (askedFor teams b ws refused (λ l. recordsAnswer b l ts (timed rs)) ≡ refused 13 p) ↔ (Thirteen teams b ws × (p ≡ 0))
+    exactly rs = exactly-thirteen teams b ws _ (records-known b ts (timed rs)) p
+
+    go : (r : Read (List Stamped)) → traceOf bytes ≡ r → orNine r (λ rs end. askedFor teams b ws refused (λ l. recordsAnswer b l ts (timed rs))) ≡ refused 13 p →
+        TraceThirteen b ws bytes × (p ≡ 0)
+    go (read rs end) e f = let t = exactly rs .0 f in (record { records = rs; end = end; reads = e; thirteen = t .0 }, t .1)
+    go (bad o) e f = let z : _≡_ {A = ℕ} 9 13 = cc in absurd (omega arith)
+
+-- a file is refused by 13 exactly when it reads to a plan whose windows are
+pub record PlanThirteen (k : ℕ) (bytes : List ℕ) : Type 0 where
+  pub plan : Plan
+  pub reads : planOf k bytes ≡ given plan
+  pub thirteen : Thirteen teams (planBoard plan) (asOwned 0 (plan .windows))
+
+pub plan-thirteen : (k : ℕ) (bytes : List ℕ) (p : ℕ) → (planAnswer k bytes ≡ refused 13 p) ↔ (PlanThirteen k bytes × (p ≡ 0))
+unfolding planAnswer verdictFor
+plan-thirteen k bytes p = (go (planOf k bytes) refl, λ t. rw (t .0 .reads) (exactly (t .0 .plan) .1 (t .0 .thirteen, t .1)))
+  where
+    exactly : (q : Plan) → (verdictFor (planBoard q) (asOwned 0 (q .windows)) (q .tasks) ≡ refused 13 p) ↔ (Thirteen teams (planBoard q) (asOwned 0 (q .windows)) × (p ≡ 0))
+    exactly q = exactly-thirteen teams (planBoard q) (asOwned 0 (q .windows)) _ (verdict-known (planBoard q) (q .tasks)) p
+
+    go : (a : Answer Plan) → planOf k bytes ≡ a → andThen a (λ q. verdictFor (planBoard q) (asOwned 0 (q .windows)) (q .tasks)) ≡ refused 13 p → PlanThirteen k bytes × (p ≡ 0)
+    go (given q) r e = let t = exactly q .0 e in (record { plan = q; reads = r; thirteen = t .0 }, t .1)
+    go (refused m o) r e = let x : m ≡ 13 = cc in absurd (omega (arith, plan-base k bytes m o r))
+
+-- ---- edits
+
+-- an edit is refused by 13 exactly when the table as it is is, or everything before passed and the table as it would be is, and then because no tick is left
+module _ (owners : ℕ) (b : Board) (count : ℕ) (memory summary : List ℕ) (edit : Edit) where
+  pub data EditThirteen : Type 0 where
+    old-thirteen : 3 * count ≤ length memory → Thirteen owners b (tableIn count memory) → EditThirteen
+    new-thirteen : Ready owners b count memory summary → Allowed edit count → Thirteen owners b (editedList count memory edit) →
+        ownLeft b (editedList count memory edit) ≡ [] → EditThirteen
+
+  pub edit-thirteen : (p : ℕ) → (editAnswer owners b count memory summary edit ≡ refused 13 p) ↔ (EditThirteen × (p ≡ 0))
+  edit-thirteen p = (λ e. only 13 p (edit-refusal owners b count memory summary edit 13 p e) refl, so)
+    where
+      not-whole : (windows n q : ℕ) → WholeRefusal windows n q → n ≡ 13 → ⊥
+      not-whole windows n q by-count z = omega arith
+      not-whole windows n q by-frame z = omega arith
+      not-whole windows n q (by-window i h) z = omega arith
+      not-whole windows n q by-range z = omega arith
+      not-whole windows n q (by-sliver i h) z = omega arith
+
+      only-loss : (windows n q : ℕ) → NewRefusal b (editedList count memory edit) windows n q → n ≡ 13 → ownLeft b (editedList count memory edit) ≡ []
+      only-loss windows n q (NewRefusal.too-few h) z = absurd (omega arith)
+      only-loss windows n q (NewRefusal.too-many h) z = absurd (omega arith)
+      only-loss windows n q (NewRefusal.new-window i h) z = absurd (omega arith)
+      only-loss windows n q (NewRefusal.new-absent h) z = absurd (omega arith)
+      only-loss windows n q (NewRefusal.new-sliver i h) z = absurd (omega arith)
+      only-loss windows n q (NewRefusal.new-loss u h) z = h
+
+      only : (n q : ℕ) → EditRefusal owners b count memory summary edit n q → n ≡ 13 → EditThirteen × (q ≡ 0)
+      only n q (EditRefusal.short-memory h) z = absurd (omega arith)
+      only n q (EditRefusal.old-table c f r) z = absurd (not-whole count n q r z)
+      only n q (EditRefusal.old-absent c f h) z = absurd (omega arith)
+      only n q (EditRefusal.old-loss c f h) z = (old-thirteen c (shared-thirteen owners b (tableIn count memory) 0 .0 f .0), refl)
+      only n q (EditRefusal.not-its-summary h) z = absurd (omega arith)
+      only n q (EditRefusal.absent-index r h) z = absurd (omega arith)
+      only n q (EditRefusal.new-table r a f x) z =
+          let t = shared-thirteen owners b (editedList count memory edit) q .0 (rw z at f) in
+          (new-thirteen r a (t .0) (only-loss _ n q x z), t .1)
+      only n q (EditRefusal.no-room c h) z = absurd (omega arith)
+      only n q (EditRefusal.no-summary-room c h k) z = absurd (omega arith)
+
+      so : EditThirteen × (p ≡ 0) → editAnswer owners b count memory summary edit ≡ refused 13 p
+      so (old-thirteen c t, z) =
+          rw z (refusal-edit owners b count memory summary edit 13 0 (EditRefusal.old-loss c (shared-thirteen owners b (tableIn count memory) 0 .1 (t, refl)) (t .cause)))
+      so (new-thirteen r a t h, z) =
+          rw z (new-refused owners b count memory summary edit r a 13 0 (shared-thirteen owners b (editedList count memory edit) 0 .1 (t, refl)))
