@@ -50,7 +50,7 @@ fn asked_of(tasks: &[u32], index: usize, length: u32) -> u64
 // more: as many ticks as are missing are needed at least, and the lengths between are passed over.
 fn response_of(frame: u32, windows: &[u32], tasks: &[u32], index: usize) -> Bound
     requires { ⌜ (tableFault (framed frame) (now windows) ≡ fine) × LegalGroup (now tasks) × (index < lengthOf (tasksOf (now tasks))) ⌝ }
-    ensures { λ r. ⌜ toldBound r ≡ given (response (suppliedBy (framed frame) (now (windows .entry))) (frame) (tasksOf (now (tasks .entry))) index) ⌝ }
+    ensures { λ r. ⌜ toldBound r ≡ given (response (suppliedBy (framed frame) (now (windows .entry))) frame (tasksOf (now (tasks .entry))) index) ⌝ }
 {
     let task = task_at(tasks, index);
     let deadline = task.deadline as u64;

@@ -27,7 +27,7 @@ impl Cycle {
 // The cycle of a legal board and group, or that it is over its limit, as soon as the least common multiple passes it.
 pub(crate) fn cycle_of(frame: u32, tasks: &[u32]) -> Cycle
     requires { ⌜ (0 < frame) × (frame ≤ mostFrame) × LegalGroup (now tasks) ⌝ }
-    ensures { λ r. ⌜ r ≡ foundCycle (cycle (frame) (tasksOf (now (tasks .entry)))) ⌝ }
+    ensures { λ r. ⌜ r ≡ foundCycle (cycle frame (tasksOf (now (tasks .entry)))) ⌝ }
 {
     let count = tasks.len() / 3;
     let mut h = frame as u64;

@@ -63,7 +63,7 @@ fn check_margins(
 // The margin of a length that is in its range, as a summary's numbers tell it, whatever they are.
 fn margin_from(frame: u32, summary: &[u32], tasks: &[u32], length: u32) -> i64
     requires { ⌜ (frameFault (framed frame) ≡ fine) × LegalGroup (now tasks) × (length ≤ mostLength) ⌝ }
-    ensures { λ r. ⌜ r ≡ marginFrom (frame) (now (summary .entry)) (tasksOf (now (tasks .entry))) length ⌝ }
+    ensures { λ r. ⌜ r ≡ marginFrom frame (now (summary .entry)) (tasksOf (now (tasks .entry))) length ⌝ }
 {
     match least_from(frame, summary, length) {
         Amount::Refused(_) => 0,
@@ -79,7 +79,7 @@ fn write_margins(frame: u32, summary: &[u32], tasks: &[u32], lengths: &[u32], ou
     requires { ⌜ (frameFault (framed frame) ≡ fine) × LegalGroup (now tasks)
         × (lengthsFault (now lengths) ≡ fine) × (length (now lengths) ≤ length (now out)) ⌝ }
     ensures { λ _. ⌜ now (out .exit)
-        ≡ written (map (marginFrom (frame) (now (summary .entry)) (tasksOf (now (tasks .entry)))) (now (lengths .entry))) (now (out .entry)) ⌝ }
+        ≡ written (map (marginFrom frame (now (summary .entry)) (tasksOf (now (tasks .entry)))) (now (lengths .entry))) (now (out .entry)) ⌝ }
 {
     let mut i = 0;
     while i < lengths.len() {

@@ -1,7 +1,7 @@
 // A stretch of ticks whose start moves on tick by tick.
 use tables::cursor::Cursor;
 ghost use mathlib.Core.Path.{_≡_};
-ghost use Prim.Native.Nat.{_≤_};
+ghost use Prim.Native.Nat.{ℕ, _≤_};
 ghost use Rattle.scope.specs.Windows.{framed};
 ghost use Rattle.scope.specs.Limits.{mostFrame};
 ghost use Rattle.theory.specs.Answers.{LegalTable};
@@ -15,10 +15,10 @@ pub(crate) struct Stretch {
 }
 
 // 1 for a supplied tick, 0 for another.
-fn tick_at(frame: u32, windows: &[u32], at: Cursor) -> u32
-    ensures { λ r. ⌜ r ≡ onAt (framed frame) (now (windows .entry)) at ⌝ }
+fn tick_at(windows: &[u32], at: Cursor) -> u32
+    ensures { λ r. ⌜ ((P : ℕ) → r ≡ onAt (framed P) (now (windows .entry)) at) ⌝ }
 {
-    if at.is_on(frame, windows) { 1 } else { 0 }
+    if at.is_on(windows) { 1 } else { 0 }
 }
 
 // The first `length` ticks.
@@ -30,7 +30,7 @@ pub(crate) fn first_ticks(frame: u32, windows: &[u32], length: u32) -> Stretch
     let mut supply = 0;
     let mut i = 0;
     while i < length {
-        supply += tick_at(frame, windows, to);
+        supply += tick_at(windows, to);
         to = to.next(frame, windows);
         i += 1;
     }
@@ -46,8 +46,8 @@ pub(crate) fn slid(frame: u32, windows: &[u32], stretch: Stretch) -> Stretch
     let from = stretch.from;
     let to = stretch.to;
     let held = stretch.supply;
-    let comes = tick_at(frame, windows, to);
-    let goes = tick_at(frame, windows, from);
+    let comes = tick_at(windows, to);
+    let goes = tick_at(windows, from);
     Stretch {
         from: from.next(frame, windows),
         to: to.next(frame, windows),

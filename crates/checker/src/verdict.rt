@@ -32,7 +32,7 @@ ghost use Rattle.tables.specs.Told.{boardOf, toldVerdict};
 // `known` where it is enough for the demand, else the least supply of the length.
 fn known_or_least(frame: u32, windows: &[u32], length: u32, known: u32, demand: u64) -> u32
     requires { ⌜ (tableFault (framed frame) (now windows) ≡ fine) × (length ≤ mostLength) ⌝ }
-    ensures { λ r. ⌜ r ≡ cond (leb demand known) known (leastSupply (suppliedBy (framed frame) (now (windows .entry))) (frame) length) ⌝ }
+    ensures { λ r. ⌜ r ≡ cond (leb demand known) known (leastSupply (suppliedBy (framed frame) (now (windows .entry))) frame length) ⌝ }
 {
     if demand <= known as u64 {
         return known;
@@ -45,7 +45,7 @@ fn known_or_least(frame: u32, windows: &[u32], length: u32, known: u32, demand: 
 fn search(frame: u32, windows: &[u32], tasks: &[u32], cycle: u32) -> Verdict
     requires { ⌜ (tableFault (framed frame) (now windows) ≡ fine) × LegalGroup (now tasks) × (cycle ≤ mostCycle) ⌝ }
     ensures { λ r. ⌜ toldVerdict r ≡ given (verdictBy (suppliedBy (framed frame) (now (windows .entry)))
-        (frame) (tasksOf (now (tasks .entry))) cycle) ⌝ }
+        frame (tasksOf (now (tasks .entry))) cycle) ⌝ }
 {
     let mut found = Verdict::Meets { cycle };
     let mut due = [0; Task::MOST];

@@ -26,7 +26,7 @@ fn last_gap(frame: u32, end: u32, start: u32) -> u32
 // The longest run of unsupplied ticks over endless frames: the longest gap between two windows, or between the last one and the next frame's first.
 fn outage_of(frame: u32, windows: &[u32]) -> u32
     requires { ⌜ LegalTable (framed frame) (now windows) ⌝ }
-    ensures { λ r. ⌜ r ≡ outageBy (suppliedBy (framed frame) (now (windows .entry))) (frame) ⌝ }
+    ensures { λ r. ⌜ r ≡ outageBy (suppliedBy (framed frame) (now (windows .entry))) frame ⌝ }
 {
     let count = windows.len() / 2;
     let first = window_at(windows, 0);

@@ -96,7 +96,7 @@ fn step(
     let fed = release(s, tasks, jobs, places);
     let counted = fed.counted();
     let cursor = s.cursor;
-    let on = cursor.is_on(frame, windows);
+    let on = cursor.is_on(windows);
     let next = cursor.next(frame, windows);
     let i = goes_to(on, Pending { bits: fed.pending }, places);
     let done = serve(places, i);

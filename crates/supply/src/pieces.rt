@@ -59,7 +59,7 @@ fn joined(ahead: Ahead, ticks: Ticks, over: u32) -> Ahead
 // What lies ahead of length t, whose least supply is `least`, over the starts where a window ends.
 fn ahead_of(frame: u32, windows: &[u32], t: u32, least: u32) -> Ahead
     requires { ⌜ LegalTable (framed frame) (now windows) × (t < frame)
-        × (least ≡ leastSupply (suppliedBy (framed frame) (now windows)) (frame) t) ⌝ }
+        × (least ≡ leastSupply (suppliedBy (framed frame) (now windows)) frame t) ⌝ }
     ensures { λ r. ⌜ Foreseen (framed frame) (now (windows .entry)) t r ⌝ }
 {
     let count = windows.len() / 2;
@@ -87,8 +87,8 @@ fn ahead_of(frame: u32, windows: &[u32], t: u32, least: u32) -> Ahead
 // The piece from length t on, whose least supply is `least`.
 pub(crate) fn piece_from(frame: u32, windows: &[u32], t: u32, least: u32) -> Piece
     requires { ⌜ LegalTable (framed frame) (now windows) × (t < frame)
-        × (least ≡ leastSupply (suppliedBy (framed frame) (now windows)) (frame) t) ⌝ }
-    ensures { λ r. ⌜ Told (suppliedBy (framed frame) (now (windows .entry))) (frame) t r ⌝ }
+        × (least ≡ leastSupply (suppliedBy (framed frame) (now windows)) frame t) ⌝ }
+    ensures { λ r. ⌜ Told (suppliedBy (framed frame) (now (windows .entry))) frame t r ⌝ }
 {
     let ahead = ahead_of(frame, windows, t, least);
     let flat = ahead.flat;

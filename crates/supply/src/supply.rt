@@ -49,7 +49,7 @@ pub(crate) fn start_after(window: Window, earlier: u32) -> Start
 // before its start is the sum of the windows so far, what is supplied before its end is told by a position in the row.
 pub(crate) fn least_at_ends(frame: u32, windows: &[u32], length: u32) -> Least
     requires { ⌜ LegalTable (framed frame) (now windows) × (length ≤ frame) ⌝ }
-    ensures { λ r. ⌜ (r .supply ≡ leastSupply (suppliedBy (framed frame) (now (windows .entry))) (frame) length)
+    ensures { λ r. ⌜ (r .supply ≡ leastSupply (suppliedBy (framed frame) (now (windows .entry))) frame length)
         × (r .whole ≡ perFrame (suppliedBy (framed frame) (now (windows .entry))) (frame)) ⌝ }
 {
     let count = windows.len() / 2;
@@ -75,7 +75,7 @@ pub(crate) fn least_at_ends(frame: u32, windows: &[u32], length: u32) -> Least
 // The least supply of a length: A for each whole frame, and the least supply of the rest.
 fn least_of(frame: u32, windows: &[u32], length: u32) -> u32
     requires { ⌜ LegalTable (framed frame) (now windows) × (length ≤ mostLength) ⌝ }
-    ensures { λ r. ⌜ r ≡ leastSupply (suppliedBy (framed frame) (now (windows .entry))) (frame) length ⌝ }
+    ensures { λ r. ⌜ r ≡ leastSupply (suppliedBy (framed frame) (now (windows .entry))) frame length ⌝ }
 {
     let rest = least_at_ends(frame, windows, length % frame);
     length / frame * rest.whole + rest.supply

@@ -35,7 +35,7 @@ response-of-requires : tie.Need-response-of-requires
 response-of-requires c κs =
     let e = group-fine (c .before) in
     let there = pieces-length _ 3 task (c .before .before .before .before .before .before .args .tasks .now) in
-    (orElse-fine (tableFault _ _) (groupFault _) e .0, checked-legal _ _ _ e .1, omega arith)
+    (orElse-fine (tableFault _ _) (groupFault _) e .0, checked-legal _ _ _ e .2, omega arith)
 
 returns : tie.Need-returns
 returns c =

@@ -17,14 +17,11 @@ use Rattle.checker.proofs.cycle.gcd.Reads as gcd-reads
 use Rattle.tables.proofs.task.task_at.Reads as task-at-reads
 
 abbrev Inv-loop : tie.InvT-loop
-Inv-loop tasks frame count h₀ i₀ h i =
+Inv-loop frame tasks count h₀ i₀ h i =
     (i ≤ count) × (count ≡ length tasks / 3) × (h ≤ mostCycle) × (cycle frame (tasksOf tasks) ≡ cycle h (drop i (tasksOf tasks)))
 
 abbrev μ-loop : tie.MeasureT-loop
-μ-loop tasks frame count h₀ i₀ h i = count - i
-
-cast-h : tie.Need-cast-h Inv-loop μ-loop
-cast-h c = search needs
+μ-loop frame tasks count h₀ i₀ h i = count - i
 
 loop-holds : tie.Need-loop-holds Inv-loop μ-loop
 loop-holds c = (omega arith, refl, omega arith, refl)
@@ -75,8 +72,8 @@ loop-less c = search needs
 loop-again : tie.Need-loop-again Inv-loop μ-loop
 loop-again c = (omega arith, refl, c .if1 .left, turn (c .before))
 
-cast-t13 : tie.Need-cast-t13 Inv-loop μ-loop
-cast-t13 c = search needs
+cast-t12 : tie.Need-cast-t12 Inv-loop μ-loop
+cast-t12 c = search needs
 
 returns-2 : tie.Need-returns-2 Inv-loop μ-loop
 returns-2 c =
@@ -90,7 +87,6 @@ cycle-of-spec =
     (tie.spec
     Inv-loop
     μ-loop
-    cast-h
     loop-holds
     task-at-requires
     cast-period
@@ -101,5 +97,5 @@ cycle-of-spec =
     add-i
     loop-less
     loop-again
-    cast-t13
+    cast-t12
     returns-2)

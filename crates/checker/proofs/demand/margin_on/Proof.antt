@@ -50,7 +50,7 @@ least-of-requires c κs =
 
 demand-of-requires : tie.Need-demand-of-requires
 demand-of-requires c κs =
-    (checked-legal _ _ _ (group-fine (c .before .before .before .before)) .1, length-legal _ (length-fine (c .before)))
+    (checked-legal _ _ _ (group-fine (c .before .before .before .before)) .2, length-legal _ (length-fine (c .before)))
 
 cast-difference : tie.Need-cast-difference
 cast-difference c = search needs

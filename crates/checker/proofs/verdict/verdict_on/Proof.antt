@@ -42,7 +42,7 @@ cycle-fine : (c : tie.After-known-told2) → let a = c .before .before .before .
 cycle-fine c = was-found _ _ (sym (c .before .before .before .cycle-of .ensures) ∙ c .before .cycle .given .1)
 
 cycle-of-requires : tie.Need-cycle-of-requires
-cycle-of-requires c κs = let k = checked-legal _ _ _ (group-fine c) in (k .0 .frame, k .0 .frame-most, k .1)
+cycle-of-requires c κs = let k = checked-legal _ _ _ (group-fine c) in (k .0, k .1, k .2)
 
 enum-told-2 : tie.Need-enum-told-2
 enum-told-2 c = search needs
@@ -54,7 +54,7 @@ search-requires : tie.Need-search-requires
 search-requires c κs =
     let e = group-fine (c .before .before .before .before) in
     let h = cycle-fine c in
-    (orElse-fine (tableFault _ _) (groupFault _) e .0, checked-legal _ _ _ e .1, omega (arith, h))
+    (orElse-fine (tableFault _ _) (groupFault _) e .0, checked-legal _ _ _ e .2, omega (arith, h))
 
 returns : tie.Need-returns
 returns c =

@@ -1,4 +1,4 @@
-use mathlib.Core.Path.{_≡_, ap, _∙_}
+use mathlib.Core.Path.{_≡_, refl, ap, _∙_}
 use lib.ListN.{length}
 use borrow.Author.Needs.{needs}
 use Rattle.scope.specs.Windows.{framed}
@@ -41,7 +41,7 @@ enum-told c = search needs
 run-legal-requires : tie.Need-run-legal-requires
 run-legal-requires c κs =
     let a = c .before .before .before .before .before .before .before .before .args in
-    legal-run _ _ _ _ (framed (a .frame)) _ (run-fine (c .before))
+    legal-run _ _ _ _ (framed (a .frame)) _ refl (run-fine (c .before))
 
 same-length : tie.Need-same-length
 same-length c = search needs

@@ -51,12 +51,10 @@ use denote.Triple.Table.{entered, cited}
 use denote.Triple.Walked.{says, needs, Stays, stay-none, stay-none-slice, gave-slice, walkOf, AllGo, goes-none, goes-none-slice, goes-gave-slice, Walks}
 use denote.Triple.Walked.{ends-at, walked, walk-meets}
 use denote.Exit.{yes}
-use Rattle.tables.proofs.board.Board as B
-use Rattle.tables.proofs.board.Board.Laws as B′
 use Rattle.machine.specs.declared.state.RunState.{RunState}
 use Rattle.machine.proofs.Said.{NewFor, BeginsFor, GoingFor, OverFor, at-first, is-ready, goes-next, is-over}
-use Rattle.machine.proofs.Passed.{numbers-val, list-mir, buffer-mir, Buffer, BufferOwn, buffer-val, Token, Last, board-vals, board-val, board-mir}
-use Rattle.machine.proofs.Passed.{GoodBoard, Inputs, six-lfts}
+use Rattle.machine.proofs.Passed.{numbers-val, list-mir, buffer-mir, Buffer, BufferOwn, buffer-val, Token, Last, frame-vals, frame-val, frame-mir}
+use Rattle.machine.proofs.Passed.{GoodFrame, Inputs, six-lfts}
 use Rattle.machine.proofs.Passed.{six-shares, six-args, six-vals, Six, Lists, Three, Tokens}
 use Rattle.machine.proofs.Passed.{After, Ready, Ticked, SameLength, SameLengths, Lasts, Cells, Opened, anew, LentBuffer, lists-twice, six-out, six-in}
 use Rattle.machine.proofs.Passed.{tokens-out, tokens-in, lasted}
@@ -93,7 +91,7 @@ module _ {M : Type 1} (𝓤 : URA M) (H : Heap 𝓤) (A : Atoms 𝓤) (W : Given
   abbrev Asked : List (Item 𝓤)
   Asked = ‵ (flft (α ∷ []) fullShare) ∷ ‵ (Ref (α ∷ []) l γ h) ∷ ‵ (Three i) ∷ ‵ (Token p) ∷ ‵ (Token c) ∷ ‵ (Lists i) ∷ ‵ (BufferOwn p) ∷ ‵ (BufferOwn c) ∷ []
 
-  goes-tick : GoodBoard (i .board) → Ready i p c h → ent 𝓤 (⋆ 𝓤 H A Asked) (Tick 𝓤 H A at-mem run .pre to-tick)
+  goes-tick : GoodFrame (i .frame) → Ready i p c h → ent 𝓤 (⋆ 𝓤 H A Asked) (Tick 𝓤 H A at-mem run .pre to-tick)
   goes-tick good ready =
       qed W Asked ∵ says ! ready $ move ! (2 ∷ 3 ∷ 4 ∷ []) $ use3 W (‵ (Tokens i p c)) (tokens-in 𝓤 H A W i p c) $ move ! (1 ∷ 0 ∷ []) $ fjoin ! $ frame ! $
       -- [the reference; lists; p; c]
@@ -156,13 +154,13 @@ module _ {M : Type 1} (𝓤 : URA M) (H : Heap 𝓤) (A : Atoms 𝓤) (at-mem : 
 module _ (n : ℕ) (i : Inputs) (p c : Buffer) where
   -- the contract, at the parameters' values
   abbrev Begins : Type 0
-  Begins = BeginsFor (i .board) (i .windows .now) (i .tasks .now) (i .jobs .now) n (p .list .now) (c .list .now)
+  Begins = BeginsFor (i .frame) (i .windows .now) (i .tasks .now) (i .jobs .now) n (p .list .now) (c .list .now)
 
   abbrev Over : RunState → (ps cs : List ℕ) → Type 0
-  Over = OverFor (i .board) (i .windows .now) (i .tasks .now) (i .jobs .now) n (c .list .now)
+  Over = OverFor (i .frame) (i .windows .now) (i .tasks .now) (i .jobs .now) n (c .list .now)
 
   abbrev Going : RunState → (ps cs : List ℕ) → Type 0
-  Going = GoingFor (i .board) (i .windows .now) (i .tasks .now) (i .jobs .now) n (c .list .now)
+  Going = GoingFor (i .frame) (i .windows .now) (i .tasks .now) (i .jobs .now) n (c .list .now)
 
   -- what stands in the local `s` and in the buffers where a turn begins
   record St : Type 0 where
@@ -182,13 +180,13 @@ module _ (n : ℕ) (i : Inputs) (p c : Buffer) where
 
   module _ (begins : Begins) where
     first-going : (r : RunState) → NewFor n r → Going r (p .list .now) (c .list .now)
-    first-going = at-first (i .board) (i .windows .now) (i .tasks .now) (i .jobs .now) n (c .list .now) (p .list .now) begins
+    first-going = at-first (i .frame) (i .windows .now) (i .tasks .now) (i .jobs .now) n (c .list .now) (p .list .now) begins
 
     abbrev starts : (r : RunState) → NewFor n r → Good r → St
     starts r e good = record { h = r; ps = p .list .now; cs = c .list .now; good = good; same = refl; same′ = refl; going = first-going r e }
 
     all-over : (s : St) → s .h .end ≤ s .h .instant → Over (s .h) (s .ps) (s .cs)
-    all-over s = is-over (i .board) (i .windows .now) (i .tasks .now) (i .jobs .now) n (c .list .now) (p .list .now) begins (s .h) (s .ps) (s .cs) (s .going)
+    all-over s = is-over (i .frame) (i .windows .now) (i .tasks .now) (i .jobs .now) n (c .list .now) (p .list .now) begins (s .h) (s .ps) (s .cs) (s .going)
 
     -- a turn, with the buffers that are lent in it: `tick` may be called, and what it leaves is nearer to the end
     module _ (s : St) (less : s .h .instant < s .h .end) (β δ : ℕ) (γ₁ γ₂ : GName) where
@@ -199,10 +197,10 @@ module _ (n : ℕ) (i : Inputs) (p c : Buffer) where
       c′ = anew c δ γ₂ (s .cs)
 
       ready : Ready i p′ c′ (s .h)
-      ready = is-ready (i .board) (i .windows .now) (i .tasks .now) (i .jobs .now) n (c .list .now) (p .list .now) begins (s .h) (s .ps) (s .cs) (s .going) less
+      ready = is-ready (i .frame) (i .windows .now) (i .tasks .now) (i .jobs .now) n (c .list .now) (p .list .now) begins (s .h) (s .ps) (s .cs) (s .going) less
 
       next : (z : After) → Ticked i p′ c′ (s .h) z → Going (z .0) (z .1 .0) (z .1 .1) × (z .0 .end - z .0 .instant < s .h .end - s .h .instant)
-      next z = goes-next (i .board) (i .windows .now) (i .tasks .now) (i .jobs .now) n
+      next z = goes-next (i .frame) (i .windows .now) (i .tasks .now) (i .jobs .now) n
           (c .list .now) (p .list .now) begins (s .h) (s .ps) (s .cs) (s .going) less (z .0) (z .1 .0) (z .1 .1)
 
       abbrev goes-on : (z : After) → Ticked i p′ c′ (s .h) z → SameLengths p′ c′ z → Good (z .0) → St
@@ -221,7 +219,7 @@ abbrev stayed : Stays (advance.ended .signature .params) (advance.ended .kept)
 stayed = (
   stay-none (λ _. u32) yes,
   (
-    stay-none (λ _. B.the-row) yes,
+    stay-none (λ _. u32) yes,
     (
       stay-none-slice (0 ∷ []) tt (plain (λ _. u32)) yes,
       (
@@ -240,7 +238,7 @@ abbrev lent-numbers : Ty
 lent-numbers = tyRef erased mut (tyInt w32)
 
 module _ {M : Type 1} (𝓤 : URA M) (H : Heap 𝓤) (A : Atoms 𝓤) (W : Given 𝓤 H A)
-    (at-mem : Memory → SProp 𝓤) (run : Routine → Fun 𝓤) (n : ℕ) (n-fits : n < 2 ^ 32) (i : Inputs) (p c : Buffer) (frame-good : GoodBoard (i .board))
+    (at-mem : Memory → SProp 𝓤) (run : Routine → Fun 𝓤) (n : ℕ) (n-fits : n < 2 ^ 32) (i : Inputs) (p c : Buffer) (frame-good : GoodFrame (i .frame))
     (begins : Begins n i p c) (room₁ : Room u32 (length (p .list .now))) (room₂ : Room u32 (length (c .list .now))) where
   abbrev bound : walkOf 𝓤 H A advance.ended stayed (advance.clauses 𝓤 H A at-mem run) .Ghost
   bound = ((six-lfts i p c, six-shares i p c, tt, (n, six-args i p c), (vint w32 n ∷ [], six-vals i p c)), tt)
@@ -292,7 +290,7 @@ module _ {M : Type 1} (𝓤 : URA M) (H : Heap 𝓤) (A : Atoms 𝓤) (W : Given
         ∷ ‵ (fat fullShare (list-mir (named 2)) l₅ 0 (numbers-val (i .jobs)))
         ∷ ‵ (fdies (list-mir (named 2)) l₅) ∷ ‵ (fat fullShare (list-mir (named 1)) l₄ 0 (numbers-val (i .tasks))) ∷ ‵ (fdies (list-mir (named 1)) l₄)
         ∷ ‵ (fat fullShare (list-mir (named 0)) l₃ 0 (numbers-val (i .windows)))
-        ∷ ‵ (fdies (list-mir (named 0)) l₃) ∷ ‵ (fat fullShare frame-mir l₂ 0 (frame-val (i .board))) ∷ ‵ (fdies frame-mir l₂)
+        ∷ ‵ (fdies (list-mir (named 0)) l₃) ∷ ‵ (fat fullShare frame-mir l₂ 0 (frame-val (i .frame))) ∷ ‵ (fdies frame-mir l₂)
         ∷ ‵ (fat fullShare (tyInt w32) l₁ 0 (vint w32 n)) ∷ ‵ (fdies (tyInt w32) l₁) ∷ ‵ (froom T′.mir l₀ 0) ∷ ‵ (fdies T′.mir l₀) ∷ []
 
     -- a turn's postcondition: it ends nearer to the end, or the loop is left and the rest of the body runs
@@ -409,7 +407,7 @@ module _ {M : Type 1} (𝓤 : URA M) (H : Heap 𝓤) (A : Atoms 𝓤) (W : Given
   module _ (𝓣 : Tables 𝓤 H) (known-new : Triple 𝓤 (𝓣 .C #new) (New 𝓤 H A at-mem run)) (known : Triple 𝓤 (𝓣 .C #tick) (Tick 𝓤 H A at-mem run)) where
     -- the machine values of the parameters
     abbrev passed : List Val
-    passed = vint w32 n ∷ frame-val (i .board) ∷ numbers-val (i .windows) ∷ numbers-val (i .tasks) ∷ numbers-val (i .jobs) ∷ buffer-val p ∷ buffer-val c ∷ []
+    passed = vint w32 n ∷ frame-val (i .frame) ∷ numbers-val (i .windows) ∷ numbers-val (i .tasks) ∷ numbers-val (i .jobs) ∷ buffer-val p ∷ buffer-val c ∷ []
 
     walk : Room u32 (length (i .windows .now)) → Room u32 (length (i .tasks .now)) → Room u32 (length (i .jobs .now))
         → ent 𝓤 (onEntry 𝓤 H A advance.signature (six-lfts i p c) (six-shares i p c) (n, six-args i p c) (vint w32 n ∷ [], six-vals i p c))
@@ -425,7 +423,7 @@ module _ {M : Type 1} (𝓤 : URA M) (H : Heap 𝓤) (A : Atoms 𝓤) (W : Given
         alloc1 ! (λ l₁₀. alloc1 ! (λ l₁₁. alloc1 ! (λ l₁₂. alloc1 ! (λ l₁₃.
         alloc1 ! (λ l₁₄. alloc1 ! (λ l₁₅. alloc1 ! (λ l₁₆. alloc1 ! (λ l₁₇. alloc1 ! (λ l₁₈. alloc0 ! $ params1 ! $
         pass1 ! (init ! 34 refl (tt, record { fits = n-fits })) $
-        pass1 ! (init ! 32 refl (LL.lawful B.the-type B′.the-laws 𝓤 H A W .typed (i .board) _ frame-good .0)) $
+        pass1 ! (init ! 32 refl (tt, record { fits = frame-good .1 })) $
         pass1 ! (init ! 30 refl (tt, (tt, (record { fits = room₃ .0 }, tt)))) $ pass1 ! (init ! 28 refl (tt, (tt, (record { fits = room₄ .0 }, tt)))) $
         pass1 ! (init ! 26 refl (tt, (tt, (record { fits = room₅ .0 }, tt)))) $
         pass1 ! (init ! 24 refl (tt, (tt, (record { fits = room₁ .0 }, tt)))) $
@@ -458,7 +456,7 @@ module _ {M : Type 1} (𝓤 : URA M) (H : Heap 𝓤) (A : Atoms 𝓤) (W : Given
       (λ κs. (
         uint-tells w32,
         (
-          LL.tells B.the-type B′.the-laws,
+          uint-tells w32,
           (
             shr-slice-tells (named 0) (κs .0) u32,
             (
@@ -494,7 +492,7 @@ module _ {M : Type 1} (𝓤 : URA M) (H : Heap 𝓤) (A : Atoms 𝓤) (W : Given
   goes = (
     goes-none 𝓤 H A W 5 (λ _. u32) yes (λ κs x f. refl),
     (
-      goes-none 𝓤 H A W 5 (λ _. B.the-row) yes (λ κs x f. refl),
+      goes-none 𝓤 H A W 5 (λ _. u32) yes (λ κs x f. refl),
       (
         goes-none-slice 𝓤 H A W 5 (0 ∷ []) tt (plain (λ _. u32)) yes,
         (
