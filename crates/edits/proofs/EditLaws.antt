@@ -17,6 +17,7 @@ use Rattle.theory.specs.Lists.{pieces-length}
 use Rattle.theory.specs.Shared.{whole, shared-parts, own-fine}
 use Rattle.theory.specs.Buffers.{take-written, length-written, writtenAfter}
 use Rattle.theory.specs.Edits.{Allowed, index-allowed, countAfter, edited-length}
+use Rattle.theory.specs.Alone.{Entry}
 use Rattle.edits.specs.declared.edit.Edit as declared
 use Rattle.edits.specs.declared.edit.Edit.the-variants.{Move, Add, Remove}
 use Rattle.edits.specs.Told.{editOf}
@@ -27,6 +28,10 @@ use Rattle.edits.specs.Stored.{readyFault, storeFault, storeAnswer, stor
 -- what is asked of the owner's windows: their summary, and the index
 abbrev pub readied : Board → List ℕ → Edit → ℕ → List ℕ → Fault
 readied b summary edit count mine = (tableFault b mine orElse summaryFault b mine summary) orElse indexFault edit count
+
+pub ready-entry : (summary : List ℕ) (edit : Edit) (count : ℕ) → Entry fault (λ b mine. readied b summary edit count mine)
+unfolding summaryFault summaryOf
+ready-entry summary edit count = record { checks = λ b ws n p e. rw e; by-ticks = λ b c ws vs e f s. rw (f, s, e) }
 
 pub ready-asked : (owners : ℕ) (b : Board) (list summary : List ℕ) (edit : Edit) (count : ℕ) →
     askedFor owners b list fault (readied b summary edit count) ≡ readyFault owners b list summary edit count
@@ -92,15 +97,9 @@ module _ (x y : declared.Edit) (is : x ≡ y) where
 -- ---- putting the new list into lent memory
 
 module _ (owners : ℕ) (b : Board) (new : List ℕ) (windows summary : ℕ) where
-  pub store-asked : askedFor owners b new fault (λ mine. roomFault (length new) windows orElse roomFault (length (summaryOf b mine)) summary)
-      ≡ storeFault owners b new windows summary
-  unfolding askedFor storeFault
-  store-asked = go (sharedFault owners b new)
-    where
-      go : (f : Fault) → unlessRefused f fault (roomFault (length new) windows orElse roomFault (length (summaryOf b (own b new))) summary)
-          ≡ (f orElse roomFault (length new) windows orElse roomFault (length (summaryOf b (own b new))) summary)
-      go fine = refl
-      go (fault n p) = refl
+  pub store-refused : (n p : ℕ) → sharedFault owners b new ≡ fault n p → storeFault owners b new windows summary ≡ fault n p
+  unfolding storeFault
+  store-refused n p e = rw e
 
   module _ (e : sharedFault owners b new ≡ fine) where
     pub store-short : windows < length new → storeFault owners b new windows summary ≡ fault 8 (length new)

@@ -110,7 +110,7 @@ fn check_ready(board: Board, list: &[u32], summary: &[u32], edit: Edit) -> Check
     match own_windows(Owned::TEAMS, board, list, &mut own) {
         Amount::Refused(r) => Checked::Bad(r),
         Amount::Of(n) => {
-            let held = check_summary(board, &own[..n as usize], summary);
+            let held = check_summary(board.frame, &own[..n as usize], summary);
             let index = check_index(edit, count);
             held.or_else(index)
         }
@@ -132,7 +132,7 @@ fn store(board: Board, new: &[u32], windows: &mut [u32], summary: &mut [u32]) ->
             if windows.len() < needed {
                 return Edited::Refused(Refusal::Room(needed as u64));
             }
-            match make_in(board, &own[..n as usize], summary) {
+            match make_in(board.frame, &own[..n as usize], summary) {
                 Amount::Refused(r) => Edited::Refused(r),
                 Amount::Of(numbers) => {
                     copy(new, 0, windows);

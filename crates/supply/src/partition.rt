@@ -81,7 +81,7 @@ pub(crate) fn measured(
     from: usize,
 ) -> Measure
     requires { ⌜ LegalTable (framed frame) (now windows) × (from ≤ 3)
-        × (whole ≡ perFrame (suppliedBy (framed frame) (now windows)) (frame)) ⌝ }
+        × (whole ≡ perFrame (suppliedBy (framed frame) (now windows)) frame) ⌝ }
     ensures { λ r. ⌜ Measured (framed frame) (now (windows .entry)) (now (held .entry)) from r ⌝ }
 {
     let mut met = Met {

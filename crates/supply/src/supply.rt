@@ -50,7 +50,7 @@ pub(crate) fn start_after(window: Window, earlier: u32) -> Start
 pub(crate) fn least_at_ends(frame: u32, windows: &[u32], length: u32) -> Least
     requires { ⌜ LegalTable (framed frame) (now windows) × (length ≤ frame) ⌝ }
     ensures { λ r. ⌜ (r .supply ≡ leastSupply (suppliedBy (framed frame) (now (windows .entry))) frame length)
-        × (r .whole ≡ perFrame (suppliedBy (framed frame) (now (windows .entry))) (frame)) ⌝ }
+        × (r .whole ≡ perFrame (suppliedBy (framed frame) (now (windows .entry))) frame) ⌝ }
 {
     let count = windows.len() / 2;
     let mut least = length;

@@ -12,9 +12,9 @@ use Rattle.scope.specs.Numbers.{written}
 use Rattle.scope.specs.Limits.{mostWindows}
 use Rattle.scope.specs.Windows.{Board, framed}
 use Rattle.scope.specs.Answers.{Fault, Fault.fine, Fault.fault, Answer.given, Answer.refused, faultIf, _orElse_, tableFault, roomFault}
-use Rattle.scope.specs.Shared.{ownLeft, sharedFault, ownFault, ownAnswer, ownOut, askedFor}
+use Rattle.scope.specs.Shared.{own, ownLeft, sharedFault, ownFault, ownAnswer, ownOut, askedFor}
 use Rattle.theory.specs.Answers.{fault-not-fine, orElse-fine, unless-given, unless-refused}
-use Rattle.theory.specs.Shared.{asked-refused}
+use Rattle.theory.specs.Shared.{asked-fine, asked-refused}
 use Rattle.theory.specs.Left.{left-most, left-fine}
 use Rattle.theory.specs.Alone.{Entry}
 use Rattle.theory.specs.Lost.{asked-left}
@@ -41,7 +41,7 @@ module _ (owners : ℕ) (b : Board) (ws : List ℕ) where
       }
 
   -- where there is room for as many windows as a table may have, only the list is refused
-  not-taken : (room n p : ℕ) → 2 * mostWindows ≤ room → ownAnswer owners b ws room ≡ refused n p → sharedFault owners b ws ≡ fault n p
+  pub not-taken : (room n p : ℕ) → 2 * mostWindows ≤ room → ownAnswer owners b ws room ≡ refused n p → sharedFault owners b ws ≡ fault n p
   unfolding ownAnswer ownFault roomFault
   not-taken room n p h e =
       go (sharedFault owners b ws) refl
@@ -58,6 +58,10 @@ module _ (owners : ℕ) (b : Board) (ws : List ℕ) where
     -- what is asked for an owner, by what was asked into the memory: an entry need not know of the owner or of what is lost
     pub asked-taken : {n : ℕ} {out : List ℕ} → Taken n out → entry (framed (b .frame)) (take n out) ≡ askedFor owners b ws refusal (entry b)
     asked-taken t = ap (entry (framed (b .frame))) (t .front) ∙ sym (asked-left is owners b ws (t .shared))
+
+    -- what the owner's windows get is what the memory's numbers get
+    pub taken-entry : {n : ℕ} {out : List ℕ} → Taken n out → entry (framed (b .frame)) (take n out) ≡ entry b (own b ws)
+    taken-entry t = asked-taken t ∙ asked-fine owners b ws refusal (entry b) (t .shared)
 
     pub asked-not : (room n p : ℕ) → 2 * mostWindows ≤ room → ownAnswer owners b ws room ≡ refused n p → refusal n p ≡ askedFor owners b ws refusal (entry b)
     asked-not room n p h e = sym (asked-refused owners b ws refusal (entry b) (not-taken room n p h e))

@@ -33,7 +33,7 @@ sub-t12 c =
 
 returns : tie.Need-returns
 returns c =
-    let P = c .before .before .before .before .before .args .frame in
+    let P = c .before .before .before .before .before .before .before .args .frame in
     rw (c .before .next .ensures, c .next2 .ensures, c .before .before .before .tick-at .ensures P, c .before .before .tick-at2 .ensures P)
 
 pub slid-spec : {M : Type 1} → statement M

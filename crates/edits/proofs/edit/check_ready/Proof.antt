@@ -3,10 +3,10 @@ use native.Mathlib.Omega.{arith}
 use lib.Seq.{length-take-le}
 use borrow.Author.Needs.{needs}
 use Rattle.scope.specs.Limits.{teams}
-use Rattle.scope.specs.Answers.{Fault.fault, _orElse_}
+use Rattle.scope.specs.Answers.{_orElse_}
 use Rattle.theory.specs.Lent.{Taken, taken, asked-taken, asked-not}
 use Rattle.tables.specs.Told.{boardOf, toldAmount}
-use Rattle.edits.proofs.EditLaws.{readied, ready-asked}
+use Rattle.edits.proofs.EditLaws.{ready-entry, ready-asked}
 use Rattle.edits.proofs.edit.check_ready.Statement.{statement}
 use Rattle.edits.proofs.edit.check_ready.Tie as tie
 use Rattle.edits.proofs.edit.check_ready.Reads as reads
@@ -55,12 +55,12 @@ or-else-requires c κs = search needs
 returns : tie.Need-returns
 returns c =
     let r = c .before .before .before .before .own-windows in
-    asked-not _ _ _ fault (readied _ _ _ _) _ _ _ (omega arith) (sym (r .ensures .0) ∙ ap toldAmount (c .before .r .given .1)) ∙ ready-asked _ _ _ _ _ _
+    asked-not _ _ _ (ready-entry _ _ _) _ _ _ (omega arith) (sym (r .ensures .0) ∙ ap toldAmount (c .before .r .given .1)) ∙ ready-asked _ _ _ _ _ _
 
 returns-2 : tie.Need-returns-2
 returns-2 c =
     c .or-else .ensures ∙ ap₂ _orElse_ (c .before .before .check-summary .ensures) (c .before .check-index .ensures)
-    ∙ asked-taken _ _ _ fault (readied _ _ _ _) (own-at (c .before .before .before .before)) ∙ ready-asked _ _ _ _ _ _
+    ∙ asked-taken _ _ _ (ready-entry _ _ _) (own-at (c .before .before .before .before)) ∙ ready-asked _ _ _ _ _ _
 
 pub check-ready-spec : {M : Type 1} → statement M
 check-ready-spec =

@@ -6,14 +6,15 @@ use lib.ListN.{length}
 use lib.Seq.{length-take-le}
 use borrow.Author.Needs.{needs}
 use Rattle.scope.specs.Limits.{teams}
-use Rattle.scope.specs.Answers.{Fault.fault, Answer.given, _orElse_, roomFault}
-use Rattle.scope.specs.Summary.{summaryOf, makeAnswer, makeOut}
+use Rattle.scope.specs.Answers.{Answer.given}
+use Rattle.scope.specs.Summary.{makeAnswer}
 use Rattle.theory.specs.Answers.{unless-given}
-use Rattle.theory.specs.Lent.{Taken, taken, asked-not}
+use Rattle.theory.specs.Alone.{make-entry, make-out-entry}
+use Rattle.theory.specs.Lent.{Taken, taken, not-taken, taken-entry}
 use Rattle.tables.specs.Told.{boardOf, toldAmount}
 use Rattle.tables.proofs.FaultLaws.{refused-by, given-by, kept-by, written-by, fault-of}
 use Rattle.edits.specs.Stored.{storeAnswer, storeWindows, storeSummary}
-use Rattle.edits.proofs.EditLaws.{store-asked, store-short, store-make, stored-summary}
+use Rattle.edits.proofs.EditLaws.{store-refused, store-short, store-make, stored-summary}
 use Rattle.edits.proofs.edit.store.Statement.{statement}
 use Rattle.edits.proofs.edit.store.Tie as tie
 use Rattle.edits.proofs.edit.store.Reads as reads
@@ -73,9 +74,8 @@ unfolding storeAnswer storeWindows storeSummary
 returns-2 c =
     let a = c .before .before .before .before .before .before .before .before .before .args in
     let r = c .before .before .before .before .own-windows in
-    let e = asked-not _ _ _ fault (λ mine. roomFault (length (a .new .now)) (length (a .windows .now)) orElse roomFault (length (summaryOf (boardOf (a .board)) mine)) (length (a .summary .now)))
-    _ _ _ (omega arith) (sym (r .ensures .0) ∙ ap toldAmount (c .before .r .given .1)) in
-    let f = sym (e ∙ store-asked teams (boardOf (a .board)) (a .new .now) (length (a .windows .now)) (length (a .summary .now))) in
+    let e = not-taken teams (boardOf (a .board)) (a .new .now) _ _ _ (omega arith) (sym (r .ensures .0) ∙ ap toldAmount (c .before .r .given .1)) in
+    let f = store-refused teams (boardOf (a .board)) (a .new .now) (length (a .windows .now)) (length (a .summary .now)) _ _ e in
     (refused-by _ _ f, (kept-by _ _ _ f, kept-by _ _ _ f))
 
 same-length : tie.Need-same-length
@@ -89,8 +89,8 @@ returns-3 c =
     let m = c .before .before .before .before .before .make-in in
     let t = own-at (c .before .before .before .before .before .before .before .before .before) in
     let same = store-make teams (boardOf (a .board)) (a .new .now) (length (a .windows .now)) (length (a .summary .now)) (t .shared) (c .before .before .before .before .before .before .before .before .if1 .left) in
-    let f = same ∙ sym (fault-of _ _ (ap toldAmount (sym (c .before .r2 .given .1)) ∙ m .ensures .0 ∙ ap (λ (l : List ℕ). makeAnswer (boardOf (a .board)) l (length (a .summary .now))) (t .front))) in
-    (refused-by _ _ f, (kept-by _ _ _ f, m .ensures .1 ∙ ap (λ (l : List ℕ). makeOut (boardOf (a .board)) l (a .summary .now)) (t .front) ∙ stored-summary _ _ _ _ _ same))
+    let f = same ∙ sym (fault-of _ _ (ap toldAmount (sym (c .before .r2 .given .1)) ∙ m .ensures .0 ∙ taken-entry _ _ _ (make-entry (length (a .summary .now))) t)) in
+    (refused-by _ _ f, (kept-by _ _ _ f, m .ensures .1 ∙ taken-entry _ _ _ (make-out-entry (a .summary .now)) t ∙ stored-summary _ _ _ _ _ same))
 
 same-length-2 : tie.Need-same-length-2
 same-length-2 c = search needs
@@ -106,12 +106,12 @@ returns-4 c =
     let m = c .before .before .before .before .before .before .before .before .before .make-in in
     let t = own-at (c .before .before .before .before .before .before .before .before .before .before .before .before .before) in
     let same = store-make teams (boardOf (a .board)) (a .new .now) (length (a .windows .now)) (length (a .summary .now)) (t .shared) (c .before .before .before .before .before .before .before .before .before .before .before .before .if1 .left) in
-    let u = unless-given _ _ _ (sym (ap toldAmount (sym (c .before .before .before .before .before .numbers .given .1)) ∙ m .ensures .0 ∙ ap (λ (l : List ℕ). makeAnswer (boardOf (a .board)) l (length (a .summary .now))) (t .front))) in
+    let u = unless-given _ _ _ (sym (ap toldAmount (sym (c .before .before .before .before .before .numbers .given .1)) ∙ m .ensures .0 ∙ taken-entry _ _ _ (make-entry (length (a .summary .now))) t)) in
     let f = same ∙ u .0 in (
       ap (λ (k : ℕ). given (record { windows = length (a .new .now) / 3; numbers = k })) (sym (u .1)) ∙ given-by _ _ f,
       (
         c .before .before .copy .ensures ∙ written-by _ _ _ f,
-        m .ensures .1 ∙ ap (λ (l : List ℕ). makeOut (boardOf (a .board)) l (a .summary .now)) (t .front) ∙ stored-summary _ _ _ _ _ same,
+        m .ensures .1 ∙ taken-entry _ _ _ (make-out-entry (a .summary .now)) t ∙ stored-summary _ _ _ _ _ same,
       ),
     )
 
