@@ -2,9 +2,11 @@ use crate::answer::Answer;
 use crate::answer::amount_answer;
 use crate::verdict::verdict_answer;
 use plan::check::check_plan;
+use plan::check::check_plan_with_rule;
 use plan::check::check_plan_with_shortest;
 use print::line::line;
 use print::write::write_plan;
+use print::write::write_plan_with_rule;
 use print::write::write_plan_with_shortest;
 use tables::answer::Verdict;
 ghost use mathlib.Core.Path.{_≡_};
@@ -32,6 +34,14 @@ pub extern "C" fn palikudyom_plan_with_shortest(bytes: &[u8]) -> Answer
     verdict_answer(check_plan_with_shortest(bytes))
 }
 
+// Of a plan file with the shortest allowed window, the rule and the lost ticks first; 13 comes after 12.
+#[no_mangle]
+pub extern "C" fn palikudyom_plan_with_rule(bytes: &[u8]) -> Answer
+    ensures { λ r. ⌜ r ≡ cVerdict (planAnswer 3 (now (bytes .entry))) ⌝ }
+{
+    verdict_answer(check_plan_with_rule(bytes))
+}
+
 // How many bytes the line of a verdict has; the line goes into `out`. Refusal 8.
 fn line_of(verdict: Verdict, out: &mut [u8]) -> Answer
     ensures answer { λ r. ⌜ r ≡ cAmount (lineAnswer (toldVerdict verdict) (length (now (out .entry)))) ⌝ }
@@ -56,6 +66,15 @@ pub extern "C" fn palikudyom_line_with_shortest(bytes: &[u8], out: &mut [u8]) ->
     ensures buffer { λ _. ⌜ now (out .exit) ≡ lineOut (planAnswer 1 (now (bytes .entry))) (now (out .entry)) ⌝ }
 {
     line_of(check_plan_with_shortest(bytes), out)
+}
+
+// Of a plan file with the shortest allowed window, the rule and the lost ticks first.
+#[no_mangle]
+pub extern "C" fn palikudyom_line_with_rule(bytes: &[u8], out: &mut [u8]) -> Answer
+    ensures answer { λ r. ⌜ r ≡ cAmount (lineAnswer (planAnswer 3 (now (bytes .entry))) (length (now (out .entry)))) ⌝ }
+    ensures buffer { λ _. ⌜ now (out .exit) ≡ lineOut (planAnswer 3 (now (bytes .entry))) (now (out .entry)) ⌝ }
+{
+    line_of(check_plan_with_rule(bytes), out)
 }
 
 // How many bytes the plan file has; they go into `out`. Refusals 1 4 8.
@@ -89,4 +108,23 @@ pub extern "C" fn palikudyom_write_plan_with_shortest(
         (now (out .entry)) ⌝ }
 {
     amount_answer(write_plan_with_shortest(shortest, frame, windows, tasks, out))
+}
+
+// With the shortest allowed window, the rule and the lost ticks first.
+#[no_mangle]
+pub extern "C" fn palikudyom_write_plan_with_rule(
+    shortest: u32,
+    rule: u32,
+    lost: u32,
+    frame: u32,
+    windows: &[u32],
+    tasks: &[u32],
+    out: &mut [u8],
+) -> Answer
+    ensures answer { λ r. ⌜ r ≡ cAmount (writeAnswer (record { settings = shortest ∷ rule ∷ lost ∷ []; frame = frame; windows = now (windows .entry); tasks = now (tasks .entry) })
+        (length (now (out .entry)))) ⌝ }
+    ensures buffer { λ _. ⌜ now (out .exit) ≡ writeOut (record { settings = shortest ∷ rule ∷ lost ∷ []; frame = frame; windows = now (windows .entry); tasks = now (tasks .entry) })
+        (now (out .entry)) ⌝ }
+{
+    amount_answer(write_plan_with_rule(shortest, rule, lost, frame, windows, tasks, out))
 }

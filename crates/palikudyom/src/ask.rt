@@ -4,6 +4,7 @@ use crate::asked::read_settings;
 use crate::entries;
 use crate::input;
 use crate::lines;
+use crate::plan_file::Form;
 use crate::stream::Cursor;
 use crate::stream::any;
 use crate::stream::bad;
@@ -72,10 +73,11 @@ fn query(stream: &[u8], from: Cursor) -> Cursor {
     let asked = Asked::alone(entry);
     match entry {
         5 => entries::demand(stream, after, asked, false),
-        10 => entries::plan(stream, after, false),
+        10 => entries::plan(stream, after, Form::Plain),
         11 => entries::demand(stream, after, asked, true),
         16 => on_board(stream, after),
-        18 => entries::plan(stream, after, true),
+        18 => entries::plan(stream, after, Form::WithShortest),
+        19 => entries::plan(stream, after, Form::WithRule),
         _ => over_table(stream, from, asked),
     }
 }

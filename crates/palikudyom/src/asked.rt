@@ -16,6 +16,9 @@ pub(crate) struct Asked {
     pub owner: u32,
     // the shortest allowed window
     pub shortest: u32,
+    // the rule by which windows are given, and the ticks that are lost of each
+    pub rule: u32,
+    pub lost: u32,
     // whether the windows are in threes; else they are pairs, all of that owner
     pub threes: bool,
     // whether the lists may be longer
@@ -23,21 +26,25 @@ pub(crate) struct Asked {
 }
 
 impl Asked {
-    // A code by itself has pairs, all read as owner 0's, and allows every window.
+    // A code by itself has pairs, all read as owner 0's. Every window is allowed, and given whole.
     pub(crate) fn alone(code: u32) -> Asked {
         Asked {
             owner: 0,
             shortest: 1,
+            rule: Board::WHOLE,
+            lost: 0,
             threes: false,
             later: 15 < code,
         }
     }
 
     // Under code 16 windows have owners.
-    pub(crate) fn shared(owner: u32, shortest: u32) -> Asked {
+    pub(crate) fn shared(owner: u32) -> Asked {
         Asked {
             owner,
-            shortest,
+            shortest: 1,
+            rule: Board::WHOLE,
+            lost: 0,
             threes: true,
             later: true,
         }
@@ -56,6 +63,8 @@ impl Asked {
             frame,
             owner: self.owner,
             shortest: self.shortest,
+            rule: self.rule,
+            lost: self.lost,
         }
     }
 }
@@ -66,20 +75,26 @@ pub(crate) struct Settings {
     pub after: Cursor,
 }
 
-// How many settings, then the settings: the owner, and the shortest allowed window where there are two.
+// How many settings, then the settings: the owner, then the shortest allowed window, then the rule and the lost ticks. There are 1, 2 or 4.
 pub(crate) fn read_settings(stream: &[u8], from: Cursor) -> Settings {
     let count = any(stream, from);
     let owner = any(stream, count.after);
-    let mut shortest = 1;
+    let mut asked = Asked::shared(owner.value);
     let mut after = owner.after;
-    if count.value == 2 {
+    if count.value == 2 || count.value == 4 {
         let second = any(stream, after);
-        shortest = second.value;
+        asked.shortest = second.value;
         after = second.after;
     }
-    if count.after.good && count.value != 1 && count.value != 2 {
+    if count.value == 4 {
+        let third = any(stream, after);
+        let fourth = any(stream, third.after);
+        asked.rule = third.value;
+        asked.lost = fourth.value;
+        after = fourth.after;
+    }
+    if count.after.good && count.value != 1 && count.value != 2 && count.value != 4 {
         after = bad(from.at);
     }
-    let asked = Asked::shared(owner.value, shortest);
     Settings { asked, after }
 }

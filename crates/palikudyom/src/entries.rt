@@ -3,6 +3,7 @@
 use crate::asked::Asked;
 use crate::asked::LATER_NUMBERS;
 use crate::lines;
+use crate::plan_file::Form;
 use crate::plan_file::judged;
 use crate::stream::BYTES;
 use crate::stream::Cursor;
@@ -362,13 +363,13 @@ fn run_into(
 
 // ---- a plan
 
-pub(crate) fn plan(stream: &[u8], from: Cursor, with_shortest: bool) -> Cursor {
+pub(crate) fn plan(stream: &[u8], from: Cursor, form: Form) -> Cursor {
     let mut plan = plan_bytes();
     let b = bytes(stream, from, BYTES, &mut plan);
     let end = b.after;
     if end.good {
         let count = b.count;
-        lines::verdict(judged(&plan[..count], with_shortest));
+        lines::verdict(judged(&plan[..count], form));
     }
     end
 }

@@ -1,6 +1,7 @@
 // Prints the line of a plan file: the file that the argument names, or standard input where there is none or it is `-`; with `--with-shortest` standard
-// input is a plan file with the shortest allowed window first. With `--ask` it answers a stream of queries on standard input: docs/ASK.md. With `--replay` it
-// replays a trace on standard input, with `--replay-for` one team's, with `--replay-on` one on a board with its settings.
+// input is a plan file with the shortest allowed window first, with `--with-rule` one with that, the rule and the lost ticks first. With `--ask` it answers a
+// stream of queries on standard input: docs/ASK.md. With `--replay` it replays a trace on standard input, with `--replay-for` one team's, with `--replay-on`
+// one on a board with its settings.
 mod ask;
 mod asked;
 mod entries;
@@ -11,6 +12,7 @@ mod stream;
 mod summary_entries;
 mod trace_file;
 
+use crate::plan_file::Form;
 use crate::trace_file::Before;
 use libc::STDERR_FILENO;
 use libc::STDIN_FILENO;
@@ -18,11 +20,15 @@ use libc::STDIN_FILENO;
 // What the one argument asks for: one of the words, or the file that it names.
 fn answer(word: &[u8]) {
     if check::same(word, b"-") {
-        plan_file::check(STDIN_FILENO, b"standard input", false);
+        plan_file::check(STDIN_FILENO, b"standard input", Form::Plain);
         return;
     }
     if check::same(word, b"--with-shortest") {
-        plan_file::check(STDIN_FILENO, b"standard input", true);
+        plan_file::check(STDIN_FILENO, b"standard input", Form::WithShortest);
+        return;
+    }
+    if check::same(word, b"--with-rule") {
+        plan_file::check(STDIN_FILENO, b"standard input", Form::WithRule);
         return;
     }
     if check::same(word, b"--ask") {
@@ -46,7 +52,7 @@ fn answer(word: &[u8]) {
 
 fn main() {
     if os::arg_count() < 2 {
-        plan_file::check(STDIN_FILENO, b"standard input", false);
+        plan_file::check(STDIN_FILENO, b"standard input", Form::Plain);
         return;
     }
     if os::arg_count() > 2 {

@@ -3,20 +3,27 @@ use crate::input;
 use crate::lines;
 use plan::check::buffer;
 use plan::check::check_plan;
+use plan::check::check_plan_with_rule;
 use plan::check::check_plan_with_shortest;
 use tables::answer::Verdict;
 
-// A plan file has the shortest allowed window first, or it has not.
-pub(crate) fn judged(bytes: &[u8], with_shortest: bool) -> Verdict {
-    if with_shortest {
-        check_plan_with_shortest(bytes)
-    } else {
-        check_plan(bytes)
+// What a plan file has before P: nothing, the shortest allowed window, or that, the rule and the lost ticks.
+pub(crate) enum Form {
+    Plain,
+    WithShortest,
+    WithRule,
+}
+
+pub(crate) fn judged(bytes: &[u8], form: Form) -> Verdict {
+    match form {
+        Form::Plain => check_plan(bytes),
+        Form::WithShortest => check_plan_with_shortest(bytes),
+        Form::WithRule => check_plan_with_rule(bytes),
     }
 }
 
 // The buffer is enough for any answer: what a longer file has after it is not read.
-pub(crate) fn check(fd: i32, name: &[u8], with_shortest: bool) {
+pub(crate) fn check(fd: i32, name: &[u8], form: Form) {
     let mut bytes = buffer();
     let got = input::read_on(fd, &mut bytes);
     if got < 0 {
@@ -24,7 +31,7 @@ pub(crate) fn check(fd: i32, name: &[u8], with_shortest: bool) {
         return;
     }
     let n = io::count(got, &bytes);
-    if !lines::verdict(judged(&bytes[..n], with_shortest)) {
+    if !lines::verdict(judged(&bytes[..n], form)) {
         os::fail(b"standard output");
     }
 }
@@ -35,6 +42,6 @@ pub(crate) fn check_named(path: &[u8]) {
         os::fail(path);
         return;
     }
-    check(fd, path, false);
+    check(fd, path, Form::Plain);
     libc::close(fd);
 }

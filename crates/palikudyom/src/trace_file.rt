@@ -39,7 +39,7 @@ fn board(stream: &[u8], form: Before) -> Settings {
         }
         Before::Owner => {
             let owner = any(stream, start);
-            let asked = Asked::shared(owner.value, 1);
+            let asked = Asked::shared(owner.value);
             let after = owner.after;
             Settings { asked, after }
         }

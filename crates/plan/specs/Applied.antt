@@ -44,7 +44,7 @@ w13-legal = refl
 
 module _ (v : Verdict) (promised : toldVerdict v ≡ planAnswer 0 w7-file) where
   let-in : v ≡ Meets 8
-  let-in = verdict-determined v (Meets 8) (plan-verdict 0 w7-file w7-plan w7-read v promised refl ∙ w7-meets)
+  let-in = verdict-determined v (Meets 8) (plan-verdict 0 w7-file w7-plan w7-read v promised refl refl refl ∙ w7-meets)
 
   -- (a) at every length without limit
   carried : (t : ℕ) → demand (tasksOf w7) t ≤ leastSupply (suppliedBy (on 8) X) 8 t
@@ -82,7 +82,7 @@ sliver-first v promised = plan-sliver 1 (3 ∷ w7-file) v promised 0 .0 (verdict
 
 module _ (v : Verdict) (promised : toldVerdict v ≡ planAnswer 0 w6-file) where
   turned-away : v ≡ Miss 6 2 3 2
-  turned-away = verdict-determined v (Miss 6 2 3 2) (plan-verdict 0 w6-file w6-plan w6-reads v promised refl ∙ w6-misses)
+  turned-away = verdict-determined v (Miss 6 2 3 2) (plan-verdict 0 w6-file w6-plan w6-reads v promised refl refl refl ∙ w6-misses)
 
   -- (b) the least length, its least start and both amounts
   shown : LeastMiss (suppliedBy (on 8) X) 8 (tasksOf w6) 6 2 3 2

@@ -36,7 +36,13 @@ use Rattle.machine.specs.Demands.{verdict-meets, verdict-miss, meets-runs, meet
 
 -- the board of a plan, and its windows as the entries take them: its pairs are owner 0's
 abbrev pub askedBoard : Plan → Board
-askedBoard p = record { frame = p .frame; owner = 0; shortest = getD (p .settings) 0 1; rule = 1; lost = 0 }
+askedBoard p = record {
+  frame = p .frame;
+  owner = 0;
+  shortest = getD (p .settings) 0 1;
+  rule = getD (p .settings) 1 1;
+  lost = getD (p .settings) 2 0;
+}
 
 abbrev pub askedWindows : Plan → List ℕ
 askedWindows p = asOwned 0 (p .windows)
@@ -52,10 +58,10 @@ module _ (k : ℕ) (bytes : List ℕ) (p : Plan) (read : planOf k bytes ≡ give
   plan-own =
       own-pairs teams (boardOf (askedBoard p)) (omega arith) (p .windows) (omega (arith, window-list-legal (p .windows) (read-writable k bytes p read .windowList)))
 
-  -- with a shortest window of 1 they are answered as document 01 has it
-  pub plan-verdict : getD (p .settings) 0 1 ≡ 1 → toldVerdict v ≡ verdictAnswer (boardOf (askedBoard p)) (p .windows) (p .tasks)
+  -- with a shortest window of 1, rule 1 and nothing lost they are answered as document 01 has it
+  pub plan-verdict : getD (p .settings) 0 1 ≡ 1 → getD (p .settings) 1 1 ≡ 1 → getD (p .settings) 2 0 ≡ 0 → toldVerdict v ≡ verdictAnswer (boardOf (askedBoard p)) (p .windows) (p .tasks)
   unfolding verdictFor
-  plan-verdict one = plan-asked ∙ one-owner teams (boardOf (askedBoard p)) (omega arith) (p .windows) one (verdict-entry (p .tasks))
+  plan-verdict one rule lost = plan-asked ∙ one-owner teams (boardOf (askedBoard p)) (omega arith) (p .windows) one rule lost (verdict-entry (p .tasks))
 
   -- (a)
   pub plan-meets : (w : Verdicts.Verdict) → toldVerdict v ≡ given w → (h : ℕ) →

@@ -11,14 +11,14 @@ use tables::window::Window;
 ghost use mathlib.Core.Path.{_≡_};
 ghost use mathlib.Core.List.{[]};
 ghost use Prim.Native.Nat.{_+_, _*_, _≤_};
-ghost use lib.ListN.{length, replicate};
+ghost use lib.ListN.{length, getD, replicate};
 ghost use Rattle.scope.specs.Limits.{mostSettings, mostWindows};
 ghost use Rattle.scope.specs.Shared.{asOwned, verdictFor, planBoard, planAnswer};
 ghost use Rattle.theory.specs.Plan.{mostPlanBytes};
 ghost use Rattle.tables.specs.Told.{boardOf, toldVerdict};
 
 // The most settings that a form of the file has before P.
-pub const SETTINGS: usize = 1;
+pub const SETTINGS: usize = 3;
 
 // The bytes of the longest plan of any form: each setting and P have at most five, the two counts have one each, and each number of a window or a task has
 // at most five.
@@ -33,18 +33,29 @@ pub fn buffer() -> [u8; LONGEST + 1]
     [0; LONGEST + 1]
 }
 
+// Setting i, where a plan has it; else what its form means.
+fn setting(settings: &[u32], i: usize, meant: u32) -> u32
+    ensures { λ r. ⌜ r ≡ getD (now (settings .entry)) i meant ⌝ }
+{
+    if i < settings.len() {
+        return settings[i];
+    }
+    meant
+}
+
 // The board of a plan: its settings, where it has them, and owner 0.
 fn board_of(frame: u32, settings: &[u32]) -> Board
     ensures { λ r. ⌜ boardOf r ≡ planBoard (record { settings = now (settings .entry); frame = frame; windows = []; tasks = [] }) ⌝ }
 {
-    let mut shortest = 1;
-    if 0 < settings.len() {
-        shortest = settings[0];
-    }
+    let shortest = setting(settings, 0, 1);
+    let rule = setting(settings, 1, 1);
+    let lost = setting(settings, 2, 0);
     Board {
         frame,
         owner: 0,
         shortest,
+        rule,
+        lost,
     }
 }
 
@@ -60,7 +71,7 @@ fn verdict_of(board: Board, windows: &[u32], tasks: &[u32]) -> Verdict
     }
 }
 
-// The verdict of a plan file with k settings. Refusal 9 and the two early answers as the file is read, then 2 3 12 5 6.
+// The verdict of a plan file with k settings. Refusal 9 and the two early answers as the file is read, then 2 3 12 13 5 6.
 fn check_with(bytes: &[u8], k: usize) -> Verdict
     requires { ⌜ k ≤ mostSettings ⌝ }
     ensures { λ r. ⌜ toldVerdict r ≡ planAnswer k (now (bytes .entry)) ⌝ }
@@ -81,7 +92,7 @@ fn check_with(bytes: &[u8], k: usize) -> Verdict
     }
 }
 
-// The verdict of a plan file that has no settings: every window is allowed.
+// The verdict of a plan file that has no settings: every window is allowed, and given whole.
 pub fn check_plan(bytes: &[u8]) -> Verdict
     ensures { λ r. ⌜ toldVerdict r ≡ planAnswer 0 (now (bytes .entry)) ⌝ }
 {
@@ -93,4 +104,11 @@ pub fn check_plan_with_shortest(bytes: &[u8]) -> Verdict
     ensures { λ r. ⌜ toldVerdict r ≡ planAnswer 1 (now (bytes .entry)) ⌝ }
 {
     check_with(bytes, 1)
+}
+
+// The verdict of a plan file that has the shortest allowed window, the rule and the lost ticks first.
+pub fn check_plan_with_rule(bytes: &[u8]) -> Verdict
+    ensures { λ r. ⌜ toldVerdict r ≡ planAnswer 3 (now (bytes .entry)) ⌝ }
+{
+    check_with(bytes, 3)
 }

@@ -117,3 +117,22 @@ pub fn write_plan_with_shortest(
     let settings = [shortest];
     write_with(&settings, frame, windows, tasks, out)
 }
+
+// A plan that has the shortest allowed window, the rule and the lost ticks first.
+pub fn write_plan_with_rule(
+    shortest: u32,
+    rule: u32,
+    lost: u32,
+    frame: u32,
+    windows: &[u32],
+    tasks: &[u32],
+    out: &mut [u8],
+) -> Amount
+    ensures answer { λ r. ⌜ toldAmount r ≡ writeAnswer (record { settings = shortest ∷ rule ∷ lost ∷ []; frame = frame; windows = now (windows .entry); tasks = now (tasks .entry) })
+        (length (now (out .entry))) ⌝ }
+    ensures buffer { λ r. ⌜ now (out .exit) ≡ writeOut (record { settings = shortest ∷ rule ∷ lost ∷ []; frame = frame; windows = now (windows .entry); tasks = now (tasks .entry) })
+        (now (out .entry)) ⌝ }
+{
+    let settings = [shortest, rule, lost];
+    write_with(&settings, frame, windows, tasks, out)
+}
