@@ -1,6 +1,7 @@
 /*
  * Document 01's marked examples on a table that two teams share, the other team's answers, one refusal of each number, a board with a shortest allowed
- * window, and a summary that is kept beside a table through edits, through palikudyom.h: one line an answer. example.query asks the same, line by line, of the second program, and example.stdout is what that one answers.
+ * window, boards that lose ticks, and a summary that is kept beside a table through edits, through palikudyom.h: one line an answer. example.query asks the
+ * same, line by line, of the second program, and example.stdout is what that one answers.
  */
 #include "palikudyom.h"
 #include <stdio.h>
@@ -11,8 +12,8 @@
 
 /* the table X is owner 0's: a frame of 8 ticks, supplied in 0, 1, 5 and 6. The other ticks are owner 1's */
 #define FRAME 8
-static const struct palikudyom_board FIRST = {FRAME, 0, 1};
-static const struct palikudyom_board SECOND = {FRAME, 1, 1};
+static const struct palikudyom_board FIRST = {FRAME, 0, 1, PALIKUDYOM_WHOLE, 0};
+static const struct palikudyom_board SECOND = {FRAME, 1, 1, PALIKUDYOM_WHOLE, 0};
 static const uint32_t X[] = {0, 2, 0, 2, 5, 1, 5, 7, 0, 7, 8, 1};
 static const uint32_t LAB[] = {0, 3, 0, 3, 5, 1, 5, 8, 0}; /* document 02, request 1, as owner 1's */
 static const uint32_t PAIRS[] = {0, 2, 5, 7}; /* X as a plan file has it */
@@ -174,6 +175,14 @@ static void plan_with_shortest(const uint8_t *bytes, size_t bytes_len)
     both(text, out, palikudyom_plan_with_shortest(bytes, bytes_len));
 }
 
+/* of one that begins with that, the rule and the lost ticks */
+static void plan_with_rule(const uint8_t *bytes, size_t bytes_len)
+{
+    uint8_t out[128];
+    struct palikudyom_answer text = palikudyom_line_with_rule(bytes, bytes_len, LIST(out));
+    both(text, out, palikudyom_plan_with_rule(bytes, bytes_len));
+}
+
 static void examples(void)
 {
     for (uint32_t length = 0; length <= 8; length++) /* W1 */
@@ -208,7 +217,7 @@ static void second_team(void)
     line("", palikudyom_verdict(SECOND, LIST(X), LIST(W5)));
     line("", palikudyom_verdict(SECOND, LIST(X), LIST(W6)));
     line("", palikudyom_bound(SECOND, LIST(X), LIST(W11), 1));
-    const struct palikudyom_board third = {FRAME, 2, 1};
+    const struct palikudyom_board third = {FRAME, 2, 1, PALIKUDYOM_WHOLE, 0};
     line("OUTAGE ", palikudyom_outage(third, LIST(X)));
     const uint32_t first_alone[] = {0, 2, 0};
     line("", palikudyom_verdict(SECOND, LIST(first_alone), NONE));
@@ -218,20 +227,40 @@ static void second_team(void)
 static void slivers(void)
 {
     const uint32_t alone[] = {0, 2, 0, 5, 7, 0};
-    const struct palikudyom_board two = {FRAME, 0, 2};
-    const struct palikudyom_board three = {FRAME, 0, 3};
-    const struct palikudyom_board none = {FRAME, 0, 0};
+    const struct palikudyom_board two = {FRAME, 0, 2, PALIKUDYOM_WHOLE, 0};
+    const struct palikudyom_board three = {FRAME, 0, 3, PALIKUDYOM_WHOLE, 0};
+    const struct palikudyom_board none = {FRAME, 0, 0, PALIKUDYOM_WHOLE, 0};
     line("", palikudyom_verdict(two, LIST(alone), LIST(W6)));
     line("", palikudyom_verdict(three, LIST(alone), LIST(W6)));
     line("OUTAGE ", palikudyom_outage(two, LIST(X))); /* the other team's */
     line("", palikudyom_delay(none, LIST(alone)));
 }
 
+/* boards that lose ticks: of X's windows one tick each is left where one is lost, and none where two are; owner 1 still has one then */
+static void losses(void)
+{
+    const struct palikudyom_board one = {FRAME, 0, 1, PALIKUDYOM_LOSING, 1};
+    const struct palikudyom_board two = {FRAME, 0, 1, PALIKUDYOM_LOSING, 2};
+    const struct palikudyom_board second = {FRAME, 1, 1, PALIKUDYOM_LOSING, 2};
+    const struct palikudyom_board whole = {FRAME, 0, 1, PALIKUDYOM_WHOLE, 1};
+    const struct palikudyom_board no_rule = {FRAME, 0, 1, 0, 0};
+    for (uint32_t length = 4; length <= 8; length++)
+        line("AMOUNT ", palikudyom_least_supply(one, LIST(X), length));
+    line("OUTAGE ", palikudyom_outage(one, LIST(X)));
+    line("", palikudyom_delay(one, LIST(X)));
+    line("", palikudyom_verdict(one, LIST(X), LIST(W4)));
+    line("", palikudyom_bound(one, LIST(X), LIST(W11), 1));
+    line("OUTAGE ", palikudyom_outage(two, LIST(X)));
+    line("OUTAGE ", palikudyom_outage(second, LIST(X)));
+    line("OUTAGE ", palikudyom_outage(whole, LIST(X)));
+    line("OUTAGE ", palikudyom_outage(no_rule, LIST(X)));
+}
+
 static void refusals(void)
 {
     const uint32_t pairs[] = {0, 2, 5, 7};
     line("AMOUNT ", palikudyom_least_supply(FIRST, LIST(pairs), 4));
-    const struct palikudyom_board no_frame = {0, 0, 1};
+    const struct palikudyom_board no_frame = {0, 0, 1, PALIKUDYOM_WHOLE, 0};
     line("AMOUNT ", palikudyom_least_supply(no_frame, LIST(X), 4));
     const uint32_t touching[] = {0, 2, 0, 2, 4, 0};
     line("", palikudyom_delay(FIRST, LIST(touching)));
@@ -283,6 +312,11 @@ static void plans(void)
         x = palikudyom_write_plan_with_shortest(shortest, FRAME, LIST(PAIRS), LIST(W6), LIST(bytes));
         if (x.code == PALIKUDYOM_AMOUNT)
             plan_with_shortest(bytes, x.a);
+    }
+    for (uint32_t lost = 1; lost <= 2; lost++) {
+        x = palikudyom_write_plan_with_rule(1, PALIKUDYOM_LOSING, lost, FRAME, LIST(PAIRS), LIST(W4), LIST(bytes));
+        if (x.code == PALIKUDYOM_AMOUNT)
+            plan_with_rule(bytes, x.a);
     }
 }
 
@@ -365,6 +399,7 @@ int main(void)
     examples();
     second_team();
     slivers();
+    losses();
     refusals();
     traces();
     plans();

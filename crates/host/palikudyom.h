@@ -80,6 +80,8 @@ enum palikudyom_code {
  *  11 at j  job j is out of order, of no task, too early after the last of its task, released after the run, or its work is outside 1 to C; of a trace:
  *           record j is against the order of records, or such a release
  *  12 at i  window i of the whole list, whoever owns it, is shorter than the board allows; at 64 the shortest allowed window is outside 1 to 65,536
+ *  13       the rule is neither 1 nor 2, more than 65,535 ticks are lost, rule 1 comes with lost ticks, or the asked owner is left no tick: each of its windows
+ *           has no more ticks than are lost of it
  *  14       the lent summary does not begin with what a making would write for the board and the windows lent with it
  */
 struct palikudyom_answer {
@@ -90,18 +92,29 @@ struct palikudyom_answer {
     uint64_t d;
 };
 
-/* The frame, the owner that is asked for, 0 or 1, and the shortest allowed window: 1 allows every window, and 0 is refused. */
+/* By which rule a board gives windows: the whole window, or all but its first ticks. */
+enum palikudyom_rule {
+    PALIKUDYOM_WHOLE = 1,
+    PALIKUDYOM_LOSING = 2
+};
+
+/*
+ * The frame, the owner that is asked for, 0 or 1, the shortest allowed window: 1 allows every window, and 0 is refused; then the rule, and how many ticks a
+ * rule 2 board loses of each window. {8, 0, 1, PALIKUDYOM_WHOLE, 0} loses nothing. A board without its last two members has rule 0, which is refused.
+ */
 struct palikudyom_board {
     uint32_t frame;
     uint32_t owner;
     uint32_t shortest;
+    uint32_t rule;
+    uint32_t lost;
 };
 
 /*
  * A list is a pointer and how many numbers it has: windows are start, end and owner of each (of a plan start and end, all owner 0's), tasks are work,
  * period and deadline of each, jobs are release tick, task index and work of each. A table may be shared by two teams: what an owner is answered depends
- * on the frame and its own windows, and on the other team's only by the refusals 1 2 3 12, but for edits. After each function: what it answers beside REFUSED, and its
- * refusals in the order of its checks; T is a table's: 1 2 3, then 1 of an owner without a window, then 12.
+ * on the frame, its own windows, the rule and the lost ticks, and on the other team's windows only by the refusals 1 2 3 12, but for edits. After each function: what it answers beside REFUSED, and its
+ * refusals in the order of its checks; T is a table's: 1 2 3, then 1 of an owner without a window, then 12, then 13.
  */
 
 /* The least supply of `length` ticks, over all starts. AMOUNT; T 7 */
@@ -180,15 +193,21 @@ struct palikudyom_answer palikudyom_plan(const uint8_t *bytes, size_t bytes_len)
 /* Of a plan file that begins with the shortest allowed window. MEETS, MISS; 9 (and 1, 4 as soon as a count is read), then 2 3 12 5 6 */
 struct palikudyom_answer palikudyom_plan_with_shortest(const uint8_t *bytes, size_t bytes_len);
 
+/* Of one that begins with the shortest allowed window, the rule and the lost ticks. MEETS, MISS; 9 (and 1, 4 as soon as a count is read), then 2 3 12 13 5 6 */
+struct palikudyom_answer palikudyom_plan_with_rule(const uint8_t *bytes, size_t bytes_len);
+
 /* The line of those verdicts, refused plans too, in `out`, whose rest is kept: how many bytes. AMOUNT; 8 */
 struct palikudyom_answer palikudyom_line(const uint8_t *bytes, size_t bytes_len, uint8_t *out, size_t out_len);
 struct palikudyom_answer palikudyom_line_with_shortest(const uint8_t *bytes, size_t bytes_len, uint8_t *out, size_t out_len);
+struct palikudyom_answer palikudyom_line_with_rule(const uint8_t *bytes, size_t bytes_len, uint8_t *out, size_t out_len);
 
-/* A plan file's bytes, of either form, in `out`, whose rest is kept: how many. AMOUNT; 1 4 8 */
+/* A plan file's bytes, of any form, in `out`, whose rest is kept: how many. AMOUNT; 1 4 8 */
 struct palikudyom_answer palikudyom_write_plan(uint32_t frame, const uint32_t *windows, size_t windows_len, const uint32_t *tasks, size_t tasks_len,
                                                uint8_t *out, size_t out_len);
 struct palikudyom_answer palikudyom_write_plan_with_shortest(uint32_t shortest, uint32_t frame, const uint32_t *windows, size_t windows_len,
                                                              const uint32_t *tasks, size_t tasks_len, uint8_t *out, size_t out_len);
+struct palikudyom_answer palikudyom_write_plan_with_rule(uint32_t shortest, uint32_t rule, uint32_t lost, uint32_t frame, const uint32_t *windows,
+                                                         size_t windows_len, const uint32_t *tasks, size_t tasks_len, uint8_t *out, size_t out_len);
 
 #ifdef __cplusplus
 }
