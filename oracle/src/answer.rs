@@ -3,7 +3,7 @@
 use std::fmt;
 
 /// Document 01, "Refusal numbers", and those that document 02 adds. When several hold, the order
-/// is 9, 1, 2, 3, 12, 4, 5, 6, 14, 7, 10, 11, 8: every entry makes the checks it needs one after
+/// is 9, 1, 2, 3, 12, 13, 4, 5, 6, 14, 7, 10, 11, 8: every entry makes the checks it needs one after
 /// another in this order. An edit checks its new table between 7 and 8.
 #[derive(Clone, Copy, Debug, PartialEq, Eq)]
 pub enum Reason {
@@ -21,6 +21,8 @@ pub enum Reason {
     Job = 11,
     /// A window shorter than the shortest allowed one, or no such shortest one.
     Sliver = 12,
+    /// A rule or lost ticks that no board has, or no tick left for the asked owner.
+    Switch = 13,
     /// A summary that does not belong to the windows lent with it.
     Summary = 14,
 }

@@ -74,7 +74,7 @@ fn bad_end(r: &mut Random) -> Vec<u8> {
 fn with_bad_code(r: &mut Random, mut numbers: Vec<u64>) -> Vec<u8> {
     match numbers[0] {
         BOARD if r.once_in(2) => {
-            let count = r.one_of(&[0, 0, 3, 3, 4, 4, 5, 258, GREATEST]);
+            let count = r.one_of(&[0, 0, 3, 3, 3, 5, 5, 257, 260, GREATEST]);
             let settings = 2..2 + numbers[1] as usize;
             numbers[1] = count;
             if count < 6 && r.once_in(2) {
@@ -95,17 +95,22 @@ fn with_bad_code(r: &mut Random, mut numbers: Vec<u64>) -> Vec<u8> {
             }
         }
         _ if r.once_in(3) => numbers[0] = r.one_of(&ONLY_ON_A_BOARD),
-        _ => numbers[0] = r.one_of(&[0, 19, 24, 26, 127, 128, 255, 256, GREATEST]),
+        _ => numbers[0] = r.one_of(&[0, 24, 26, 127, 128, 255, 256, 275, GREATEST]),
     }
     encode(&numbers)
 }
 
-/// A query with a count, a room or a byte over its limit; a third of them are under code 16, where
+/// A query with a count, a room or a byte over its limit; almost half of them are under code 16, where
 /// some codes are bad already.
 fn over_a_limit(r: &mut Random) -> Vec<u8> {
-    let (mut numbers, table, most): (Vec<u64>, &[u64], u64) = match r.below(6) {
+    let (mut numbers, table, most): (Vec<u64>, &[u64], u64) = match r.below(7) {
         0 => (vec![BOARD, 1, 0], &[8, 3, 0, 8, 0], MOST_NEW_NUMBERS),
         1 => (vec![BOARD, 2, 0, 8], &[8, 3, 0, 8, 0], MOST_NEW_NUMBERS),
+        2 => (
+            vec![BOARD, 4, 0, 8, 2, 7],
+            &[8, 3, 0, 8, 0],
+            MOST_NEW_NUMBERS,
+        ),
         _ => (Vec::new(), &[8, 2, 0, 8], MOST_OLD_NUMBERS),
     };
     let jobs: &[u64] = &[10, 3, 2, 0, 1];
@@ -125,8 +130,8 @@ fn over_a_limit(r: &mut Random) -> Vec<u8> {
         12 => ([&[17], table].concat(), MOST_NEW_NUMBERS),
         13 => ([&[17], table, &[3, 1, 4, 4]].concat(), 20_000),
         14 => ([&[17], table, &[0, 3, 1, 0]].concat(), 255),
-        _ if r.once_in(2) => (vec![r.one_of(&[10, 18])], 4_096),
-        _ => (vec![r.one_of(&[10, 18]), 3, 8], 255),
+        _ if r.once_in(2) => (vec![r.one_of(&[10, 18, 19])], 4_096),
+        _ => (vec![r.one_of(&[10, 18, 19]), 3, 8], 255),
     };
     numbers.extend(before);
     announced(r, numbers, limit)
@@ -145,9 +150,10 @@ fn announced(r: &mut Random, mut numbers: Vec<u64>, limit: u64) -> Vec<u8> {
 
 /// A query under code 16 with a list, a room or a kind of codes 20 to 23 over its limit.
 fn over_a_limit_of_a_summary(r: &mut Random) -> Vec<u8> {
-    let settings: &[u64] = match r.below(2) {
+    let settings: &[u64] = match r.below(3) {
         0 => &[BOARD, 1, 0],
-        _ => &[BOARD, 2, 0, 8],
+        1 => &[BOARD, 2, 0, 8],
+        _ => &[BOARD, 4, 0, 8, 2, 7],
     };
     let table: &[u64] = &[8, 3, 0, 8, 0];
     let summary: &[u64] = &[5, 8, 0, 1, 0, 8];
@@ -220,18 +226,18 @@ mod tests {
         }
     }
 
-    /// Each limit of codes 20 to 23, under both counts of settings.
+    /// Each limit of codes 20 to 23, under every count of settings.
     #[test]
     fn limits_of_summaries_are_asked() {
         let mut random = Random::new(38);
         let mut asked = std::collections::BTreeSet::new();
-        for _ in 0..2_000 {
+        for _ in 0..3_000 {
             let bytes = over_a_limit_of_a_summary(&mut random);
             let settings = usize::from(bytes[1]);
             asked.insert((settings, bytes[2 + settings], stream::read(&bytes).bad));
         }
         // 20 windows and room, 21 windows and summary, 22 windows, summary, tasks, lengths and
         // room, 23 windows, summary and kind.
-        assert_eq!(asked.len(), 2 * (2 + 2 + 5 + 3), "{asked:?}");
+        assert_eq!(asked.len(), 3 * (2 + 2 + 5 + 3), "{asked:?}");
     }
 }

@@ -273,6 +273,7 @@ fn refusals_of_the_old_table_in_order() {
         windows: windows.to_vec(),
         owner: Some(owner),
         shortest: Some(shortest),
+        switch: None,
     };
     // Each before 14 and 7.
     let at = |table, count| refused(table, count, wrong, removed(64));

@@ -52,14 +52,18 @@ fn streams_of_queries() -> impl Iterator<Item = Vec<u8>> {
 }
 
 /// A bad query ends its stream, so each has one of its own: other counts of settings, what is bad
-/// under 16 with one setting and with two, and lists over their limits alone.
+/// under 16 with one setting, with two and with four, and lists over their limits alone.
 fn bad_queries() -> Vec<Vec<u64>> {
     let mut bad = Vec::new();
-    for count in [0, 3, 4, 5] {
+    for count in [0, 3, 5, 6] {
         let settings = vec![0; count as usize];
         bad.push([&[BOARD, count], &settings[..], &[4], &FULL].concat());
     }
-    for settings in [&[BOARD, 1, 0][..], &[BOARD, 2, 0, 8]] {
+    for settings in [
+        &[BOARD, 1, 0][..],
+        &[BOARD, 2, 0, 8],
+        &[BOARD, 4, 0, 8, 2, 7],
+    ] {
         bad.extend(bad_queries_under(settings));
     }
     for code in ON_A_BOARD {
@@ -74,7 +78,7 @@ fn bad_queries() -> Vec<Vec<u64>> {
         };
         bad.push([&[code, 8, over], &vec![1; over as usize][..]].concat());
     }
-    for plan in [10, 18] {
+    for plan in [10, 18, 19] {
         let over = MOST_PLAN_BYTES + 1;
         bad.push([&[plan, over], &vec![1; over as usize][..]].concat());
         bad.push(vec![plan, 3, 1, 256, 1]);
@@ -362,11 +366,11 @@ mod tests {
 
     #[test]
     fn bad_queries_are_bad() {
-        // 4 counts; twice 41 codes without the 17, 17 tables and 9 groups; after each number but
-        // the last of 9 and of 10; 13 tables and 4 codes alone; 2 plans twice; 8 limits of
-        // summaries and edits, and 17 ends of three edits, twice.
-        let old = 4 + 2 * (24 + 17 + 9) + 8 + 9 + 13 + 4 + 4;
-        assert_eq!(bad_queries().len(), old + 2 * (8 + 3 * 17));
+        // 4 counts; three times 41 codes without the 17, 17 tables and 9 groups; after each number
+        // but the last of 9, of 10 and of 12; 13 tables and 4 codes alone; 3 plans twice; 8 limits
+        // of summaries and edits, and 17 ends of three edits, three times.
+        let old = 4 + 3 * (24 + 17 + 9) + 8 + 9 + 11 + 13 + 4 + 6;
+        assert_eq!(bad_queries().len(), old + 3 * (8 + 3 * 17));
         for numbers in bad_queries() {
             let stream = stream::read(&encode(&numbers));
             assert!(

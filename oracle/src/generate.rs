@@ -235,11 +235,14 @@ pub fn lent_plan(r: &mut Random, faults: u64, table: TableNumbers, group: &[[u64
     Query::Plan(form, spoil::plan_bytes(r, form, numbers))
 }
 
-/// The form and the numbers of a plan file, with m first where the table has it set.
+/// The form and the numbers of a plan file, with m, or m, the rule and q, first where the table has them
+/// set.
 pub fn plan_numbers(table: &TableNumbers, tasks: &[u64]) -> (Form, Vec<u64>) {
-    let (form, mut numbers) = match table.shortest {
-        None => (Form::Old, Vec::new()),
-        Some(shortest) => (Form::WithShortest, vec![shortest]),
+    let mut numbers = table.settings();
+    let form = match numbers.len() {
+        0 => Form::Old,
+        1 => Form::WithShortest,
+        _ => Form::WithSwitch,
     };
     numbers.extend([table.frame, table.windows.len() as u64 / 2]);
     numbers.extend(&table.windows);

@@ -1,13 +1,13 @@
-//! The independent second program of Palikudyom: document 01 and requests 1, 2, 4, 5 and 6 of
+//! The independent second program of Palikudyom: document 01 and requests 1, 2, 4, 5, 6 and 7 of
 //! document 02, read from scratch, by brute force. Request 3 makes the first program faster and
 //! changes no answer: this one goes on to try every start, and `oracle large` asks where that
 //! counts.
 //!
-//! To believe its answers, read `numbers`, `answer`, `table`, `owners`, `shortest`, `tasks`,
+//! To believe its answers, read `numbers`, `answer`, `table`, `owners`, `shortest`, `lost`, `tasks`,
 //! `verdict`, `bound`, `machine`, `plan`, `trace`, `replay`, `summary` and `edit`, in this order,
-//! and `examples`, `owner_examples`, `shortest_examples`, `summary_examples` and `edit_examples`,
-//! which are the documents' own and some worked out by hand; then `query` and `stream`, which are
-//! docs/ASK.md's.
+//! and `examples`, `owner_examples`, `shortest_examples`, `summary_examples`, `edit_examples` and
+//! `lost_examples`, which are the documents' own and some worked out by hand; then `query` and
+//! `stream`, which are docs/ASK.md's.
 //! The other files make streams (`generate`, `outages`, `traces`, `teams`, `slivers`, `summaries`,
 //! `edits`, `large` with `frames`, `tight` and `edge_jobs`, `spoil`, `batch`, `enumerate`,
 //! `enumerate_edits`, `random`, `text`) and compare (`compare`): a fault there can hide a difference in the first program but can't change an
@@ -29,6 +29,9 @@ mod examples;
 mod frames;
 mod generate;
 mod large;
+mod lost;
+#[cfg(test)]
+mod lost_examples;
 mod machine;
 mod numbers;
 mod outages;
@@ -67,7 +70,8 @@ const USAGE: &str = "\
 usage: oracle answer < stream       answer a query stream, a line each
        oracle plan [SETTINGS] < file
                                     print the line of a plan file; SETTINGS is how many numbers
-                                    stand before P: 0 or none given, the old form; 1, m first
+                                    stand before P: 0 or none given, the old form; 1, m first;
+                                    3, m, the rule and q first
        oracle replay TRACEFILE PLANFILE
                                     print the line of a trace on a plan's table and group
        oracle encode < text         make a stream of decimal numbers and xHH bytes

@@ -1,6 +1,7 @@
-//! The plan file (document 01, "The plan file and its line"; document 02, request 5).
+//! The plan file (document 01, "The plan file and its line"; document 02, requests 5 and 7).
 
 use crate::answer::{Answer, Reason, Refusal};
+use crate::lost::Switch;
 use crate::numbers::Cursor;
 use crate::table::{TableNumbers, MOST_WINDOWS};
 use crate::tasks::{TaskNumbers, MOST_TASKS};
@@ -13,10 +14,12 @@ pub enum Form {
     Old = 0,
     /// Request 5's: "the new form, m first".
     WithShortest = 1,
+    /// Request 7's: "a plan gives its rule and q after m".
+    WithSwitch = 3,
 }
 
 impl Form {
-    const ALL: [Form; 2] = [Form::Old, Form::WithShortest];
+    const ALL: [Form; 3] = [Form::Old, Form::WithShortest, Form::WithSwitch];
 
     pub fn settings(self) -> u64 {
         self as u64
@@ -54,6 +57,7 @@ pub fn read(form: Form, bytes: &[u8]) -> Result<(TableNumbers, TaskNumbers), Ref
     Reason::PlanBytes.check(!cursor.at_end(), cursor.offset())?;
     let table = TableNumbers {
         shortest: settings.first().copied(),
+        switch: settings.get(1..).and_then(Switch::after_m),
         ..TableNumbers::pairs(frame, windows)
     };
     Ok((table, TaskNumbers::Triples(tasks)))

@@ -2,6 +2,7 @@
 
 use crate::answer::Answer;
 use crate::edit::{self, Edit, Kind};
+use crate::lost::Switch;
 use crate::numbers::Cursor;
 use crate::plan::{self, Form};
 use crate::table::{self, TableNumbers};
@@ -23,8 +24,9 @@ pub const MOST_LENGTHS: u64 = 1_000;
 
 /// Code 16, "on a board": settings, then a query whose windows are in threes.
 pub const BOARD: u64 = 16;
-/// How many settings there may be: the owner asked for, or the owner and m.
-const SETTINGS: [u64; 2] = [1, 2];
+/// How many settings there may be: the owner asked for; the owner and m; or the owner, m, the rule and
+/// q.
+const SETTINGS: [u64; 3] = [1, 2, 4];
 /// The codes that may stand under 16.
 pub const ON_A_BOARD: [u64; 17] = [1, 2, 3, 4, 6, 7, 8, 9, 12, 13, 14, 15, 17, 20, 21, 22, 23];
 /// "Codes 20 to 23 stand under 16 only."
@@ -108,7 +110,7 @@ impl Query {
                     _ => Err(first),
                 }
             }
-            code @ (1..=15 | 17 | 18) => Query::read_arguments(cursor, code, &[]),
+            code @ (1..=15 | 17..=19) => Query::read_arguments(cursor, code, &[]),
             _ => Err(first),
         }
     }
@@ -126,6 +128,7 @@ impl Query {
                 windows: read_list(c, most_numbers)?,
                 owner: settings.first().copied(),
                 shortest: settings.get(1).copied(),
+                switch: settings.get(2..).and_then(Switch::after_m),
             })
         };
         let table = |c: &mut Cursor| {
@@ -175,7 +178,8 @@ impl Query {
                     edit: read_edit(c)?,
                 })
             }
-            _ => Query::Plan(Form::WithShortest, read_bytes(c, MOST_PLAN_BYTES)?),
+            18 => Query::Plan(Form::WithShortest, read_bytes(c, MOST_PLAN_BYTES)?),
+            _ => Query::Plan(Form::WithSwitch, read_bytes(c, MOST_PLAN_BYTES)?),
         })
     }
 
@@ -221,9 +225,7 @@ impl Query {
 
     /// The settings of code 16 that it stands under; none where the windows are in pairs.
     pub fn settings(&self) -> Vec<u64> {
-        let of_table = |table: &TableNumbers| [table.owner, table.shortest];
-        let settings = self.table().map(of_table).unwrap_or_default();
-        settings.into_iter().flatten().collect()
+        self.table().map(TableNumbers::settings).unwrap_or_default()
     }
 
     pub fn is_on_a_board(&self) -> bool {
@@ -245,6 +247,7 @@ impl Query {
             Query::Plan(Form::Old, _) => 10,
             Query::Replay(..) => 17,
             Query::Plan(Form::WithShortest, _) => 18,
+            Query::Plan(Form::WithSwitch, _) => 19,
             Query::MakeSummary(..) => 20,
             Query::SummaryAmount(..) => 21,
             Query::Margins(_) => 22,

@@ -74,7 +74,7 @@ mod tests {
 
     #[test]
     fn unknown_codes() {
-        for code in [0, 19, 127, 128, 4_294_967_295] {
+        for code in [0, 24, 127, 128, 4_294_967_295] {
             assert_eq!(answer(&[code, 0, 0]), ["BAD QUERY at 0"]);
         }
         // These stand under 16 only.
@@ -134,7 +134,7 @@ mod tests {
             answer(&[&run[..], &[0, 12_401]].concat()),
             ["BAD QUERY at 11"]
         );
-        for code in [10, 18] {
+        for code in [10, 18, 19] {
             let plan = |count| answer(&list(&[code], count, 0, &[]));
             assert_eq!(plan(4_096), ["REFUSED 1 at 0"]);
             assert_eq!(plan(4_097), ["BAD QUERY at 1"]);
@@ -178,8 +178,7 @@ mod tests {
         assert_eq!(answer(&[29, 8, 2, 0, 8, 0, 0]), ["BAD QUERY at 0"]);
     }
 
-    /// Code 16 has one setting, the owner, or two, the owner and m; rule and q come with a later
-    /// request.
+    /// Code 16 has one setting, the owner; two, the owner and m; or four, the owner, m, the rule and q.
     #[test]
     fn settings_of_a_board() {
         let full = [4, 8, 3, 0, 8, 1];
@@ -191,7 +190,15 @@ mod tests {
         assert_eq!(of(&[2, 1, 9]), ["REFUSED 12 at 0"]);
         assert_eq!(of(&[2, 1, 4_294_967_295]), ["REFUSED 12 at 64"]);
         assert_eq!(of(&[2, 0, 8]), ["REFUSED 1 at 0"]);
-        for count in [0, 3, 4, 5, 4_294_967_295] {
+        assert_eq!(of(&[4, 1, 8, 1, 0]), ["OUTAGE 0"]);
+        assert_eq!(of(&[4, 1, 8, 2, 0]), ["OUTAGE 0"]);
+        assert_eq!(of(&[4, 1, 8, 2, 7]), ["OUTAGE 7"]);
+        assert_eq!(of(&[4, 1, 8, 2, 8]), ["REFUSED 13 at 0"]);
+        assert_eq!(of(&[4, 1, 8, 4_294_967_295, 0]), ["REFUSED 13 at 0"]);
+        assert_eq!(of(&[4, 1, 8, 2, 4_294_967_295]), ["REFUSED 13 at 0"]);
+        assert_eq!(of(&[4, 1, 9, 0, 0]), ["REFUSED 12 at 0"]);
+        assert_eq!(of(&[4, 0, 0, 0, 0]), ["REFUSED 1 at 0"]);
+        for count in [0, 3, 5, 6, 260, 4_294_967_295] {
             assert_eq!(of(&[count, 1, 1, 1, 0]), ["BAD QUERY at 1"]);
         }
         assert_eq!(answers(&[16]), ["BAD QUERY at 1"]);
@@ -204,6 +211,16 @@ mod tests {
         assert_eq!(answers(&[16, 2, 0, 0x80]), ["BAD QUERY at 3"]);
         assert_eq!(answers(&[16, 2, 0, 0x81, 0x00]), ["BAD QUERY at 3"]);
         assert_eq!(answers(&[16, 2, 0, 1]), ["BAD QUERY at 4"]);
+        // After each of four settings, and within each.
+        for end in 2..7 {
+            let whole = [16, 4, 0, 1, 2, 1, 4];
+            let bad = format!("BAD QUERY at {end}");
+            assert_eq!(answers(&whole[..end]), [bad.clone()]);
+            let unfinished = [&whole[..end], &[0x81]].concat();
+            assert_eq!(answers(&unfinished), [bad.clone()]);
+            let padded = [&whole[..end], &[0x81, 0x00, 1, 1, 1, 1]].concat();
+            assert_eq!(answers(&padded), [bad]);
+        }
         let second = answer(&[&[5, 0, 0, 16, 3], &full[..]].concat());
         assert_eq!(second, ["DEMAND 0", "BAD QUERY at 4"]);
     }
@@ -235,7 +252,8 @@ mod tests {
                 "MARGINS 2 BUFFER 1 0 7",
             ),
         ] {
-            for settings in [&[1, 1][..], &[2, 1, 1], &[2, 1, 8]] {
+            let four = [&[4, 1, 1, 1, 0][..], &[4, 1, 8, 2, 0]];
+            for settings in [&[1, 1][..], &[2, 1, 1], &[2, 1, 8], four[0], four[1]] {
                 let query = [&[16], settings, &[code], &table, rest].concat();
                 assert_eq!(answer(&query), [line], "{code}");
             }
@@ -254,6 +272,11 @@ mod tests {
             assert_eq!(answer(&query), ["BAD QUERY at 4"], "{code}");
             let query = [&[16, 2, 1, 65_536, code], &table[..]].concat();
             assert_eq!(answer(&query), ["BAD QUERY at 6"], "{code}");
+            // q in one byte, and in three.
+            let query = [&[16, 4, 1, 8, 2, 1, code], &table[..]].concat();
+            assert_eq!(answer(&query), ["BAD QUERY at 6"], "{code}");
+            let query = [&[16, 4, 1, 8, 2, 65_535, code], &table[..]].concat();
+            assert_eq!(answer(&query), ["BAD QUERY at 8"], "{code}");
         }
     }
 
@@ -280,6 +303,9 @@ mod tests {
         let with_shortest = |count| answer(&list(&[16, 2, 0, 8, 4, 8], count, 1, &[]));
         assert_eq!(with_shortest(400), ["REFUSED 1 at 0"]);
         assert_eq!(with_shortest(401), ["BAD QUERY at 6"]);
+        let with_switch = |count| answer(&list(&[16, 4, 0, 8, 2, 1, 4, 8], count, 1, &[]));
+        assert_eq!(with_switch(400), ["REFUSED 1 at 0"]);
+        assert_eq!(with_switch(401), ["BAD QUERY at 8"]);
         // What stands alone keeps its limits, also after code 16.
         let alone = [&[16, 1, 0, 4, 8, 3, 0, 8, 0, 4, 8, 201][..], &[1; 201]].concat();
         assert_eq!(answer(&alone), ["OUTAGE 0", "BAD QUERY at 11"]);

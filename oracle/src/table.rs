@@ -1,7 +1,8 @@
 //! The window table and what follows from it alone (document 01, "Tables and sizes" and
-//! "Supply and demand"; document 02, requests 1, 4 and 5).
+//! "Supply and demand"; document 02, requests 1, 4, 5 and 7).
 
 use crate::answer::{Answer, Reason, Refusal};
+use crate::lost::{self, Switch};
 use crate::owners::{self, OWNERS};
 use crate::shortest;
 
@@ -19,6 +20,8 @@ pub struct TableNumbers {
     pub owner: Option<u64>,
     /// m, the shortest allowed window, where it is set.
     pub shortest: Option<u64>,
+    /// The rule and q, where they are set: then m is set too, which stands before them.
+    pub switch: Option<Switch>,
 }
 
 /// A legal table, tick by tick.
@@ -38,6 +41,7 @@ impl TableNumbers {
             windows,
             owner: None,
             shortest: None,
+            switch: None,
         }
     }
 
@@ -56,14 +60,25 @@ impl TableNumbers {
         }
     }
 
+    /// What is set of the owner, m, the rule and q, in this order.
+    pub fn settings(&self) -> Vec<u64> {
+        let mut settings: Vec<u64> = [self.owner, self.shortest].into_iter().flatten().collect();
+        settings.extend(self.switch.into_iter().flat_map(Switch::numbers));
+        settings
+    }
+
     /// Refusals 1, 2 and 3; where teams share the table, then 1 for an owner that has no window;
-    /// then 12.
+    /// then 12; then 13, which is also given where "rule 2 leaves the asked owner no tick".
     pub fn check(&self) -> Result<Table, Refusal> {
-        let table = match self.owner {
-            Some(owner) => owners::table_of(owner, OWNERS, self)?.check_pairs()?,
-            None => self.check_pairs()?,
+        let own = match self.owner {
+            Some(owner) => owners::table_of(owner, OWNERS, self)?,
+            None => self.clone(),
         };
+        own.check_pairs()?;
         shortest::check(self)?;
+        let lost = lost::check(self)?;
+        let table = own.tick_by_tick(lost);
+        Reason::Switch.check(table.supplied_in_frame() == 0, 0)?;
         Ok(table)
     }
 
@@ -77,7 +92,7 @@ impl TableNumbers {
         Reason::Frame.check(self.frame < 1 || self.frame > MOST_FRAME, 0)
     }
 
-    fn check_pairs(&self) -> Result<Table, Refusal> {
+    fn check_pairs(&self) -> Result<(), Refusal> {
         self.check_sizes()?;
         let mut previous_end = None;
         for (index, window) in self.windows.chunks(2).enumerate() {
@@ -87,14 +102,18 @@ impl TableNumbers {
             Reason::Window.check(!legal, index)?;
             previous_end = Some(end);
         }
-        Ok(self.tick_by_tick())
+        Ok(())
     }
 
-    /// Each window covers "ticks start up to but not including end".
-    fn tick_by_tick(&self) -> Table {
+    /// Each window covers "ticks start up to but not including end". It loses the first of them, so
+    /// many, and "a window no longer than q gives nothing".
+    fn tick_by_tick(&self, lost: u64) -> Table {
         let mut supplied = vec![false; self.frame as usize];
         for window in self.windows.chunks(2) {
-            supplied[window[0] as usize..window[1] as usize].fill(true);
+            let (start, end) = (window[0], window[1]);
+            for tick in start + lost..end {
+                supplied[tick as usize] = true;
+            }
         }
         let mut before = vec![0];
         let mut total = 0;
@@ -115,7 +134,7 @@ impl Table {
         self.frame as u64
     }
 
-    /// "Tick k is supplied if k mod P lies in a window."
+    /// "Tick k is supplied if k mod P lies in a window", and not among the ticks that it loses.
     pub fn is_supplied(&self, tick: u64) -> bool {
         self.supplied[(tick % self.frame()) as usize]
     }
