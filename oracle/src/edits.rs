@@ -188,7 +188,8 @@ fn gap(table: &TableNumbers, windows: &[&[u64]], kind: Kind, place: u64) -> (u64
     (low, after.map_or(table.frame, |window| window[0]))
 }
 
-/// A start and an end at edges of the gap, of the window that moves, or of m; sometimes beside them.
+/// A start and an end at edges of the gap, of the window that moves, of m or of q; sometimes beside
+/// them.
 fn window(
     r: &mut Random,
     table: &TableNumbers,
@@ -242,6 +243,15 @@ fn window(
             // As short as is allowed, or a tick shorter.
             let shortest = table.shortest.unwrap_or(1).saturating_sub(r.below(2));
             (low, low + shortest)
+        }
+        22..=25 if table.switch.is_some() => {
+            // A window that gives nothing, one that gives one tick, or all that there is.
+            let lost = table.switch.map_or(0, |switch| switch.lost);
+            let start = r.one_of(&[low, start]);
+            match r.below(3) {
+                0 => (low, high),
+                more => (start, start + (lost + more - 1).max(1)),
+            }
         }
         22 | 23 => {
             let start = low + r.below(ticks);

@@ -1,10 +1,11 @@
 //! Every small table, and every small group on the smaller ones; every small table that two teams
 //! share, and every one of up to two windows that may break every rule, without a shortest allowed
 //! window m and with every one that is not far longer than the frame; every summary and every edit of
-//! small ones (`enumerate_edits`); every short plan file, of the old form and with m first; every bad
-//! query by a code or a count of code 16.
+//! small ones (`enumerate_edits`); all of these on boards with a rule and q (`enumerate_switches`); every
+//! short plan file, of the old form and with m first; every bad query by a code or a count of code 16.
 
 use crate::enumerate_edits;
+use crate::enumerate_switches;
 use crate::generate;
 use crate::numbers::encode;
 use crate::owners::OWNERS;
@@ -24,12 +25,13 @@ const MOST_FRAME: u64 = 7;
 const MOST_PERIOD: u64 = 6;
 const MOST_SHARED_FRAME: u64 = 6;
 /// The frame of the windows that may break every rule.
-const FRAME_OF_ANY_WINDOWS: u64 = 3;
+pub const FRAME_OF_ANY_WINDOWS: u64 = 3;
 /// Every plan file of up to so many of these bytes: with m first, one window and no task take six.
 const MOST_ANY_BYTES: usize = 7;
 const ANY_BYTES: [u8; 6] = [0, 1, 2, 3, 4, 0x80];
 
-/// Streams of bad queries, then of every small outage, shared table, summary, edit, plan and verdict.
+/// Streams of bad queries, then of every small outage, shared table, summary, edit, board with a rule
+/// and q, plan and verdict.
 pub fn streams() -> impl Iterator<Item = Vec<u8>> {
     let bad = bad_queries().into_iter().map(|numbers| encode(&numbers));
     bad.chain(streams_of_queries())
@@ -39,6 +41,7 @@ fn streams_of_queries() -> impl Iterator<Item = Vec<u8>> {
     let shared = any_windows().chain(shared()).chain(with_shortest());
     let plans = any_plans().chain(plans());
     let tables = outages().chain(shared).chain(enumerate_edits::queries());
+    let tables = tables.chain(enumerate_switches::queries());
     let queries = tables.chain(plans).chain(verdicts());
     let mut encoded = queries.map(|query| encode(&query.numbers())).peekable();
     std::iter::from_fn(move || {
@@ -158,7 +161,7 @@ fn any_windows() -> impl Iterator<Item = Query> {
 
 /// Every list of up to two windows with starts and ends from 0 to P + 1, where P = 3, and with
 /// owners from 0 to 2.
-fn any_lists() -> Vec<Vec<u64>> {
+pub fn any_lists() -> Vec<Vec<u64>> {
     let edges = 0..=FRAME_OF_ANY_WINDOWS + 1;
     let mut windows = Vec::new();
     for start in edges.clone() {
@@ -174,8 +177,7 @@ fn any_lists() -> Vec<Vec<u64>> {
     lists
 }
 
-/// What both owners get of every table with P up to 6, cut into windows in every way: the least
-/// supplies up to 2P, the outage, the delay, the critical partition and two groups' verdicts.
+/// What both owners get of every table with P up to 6, cut into windows in every way.
 fn shared() -> impl Iterator<Item = Query> {
     let asked = |(frame, windows): (u64, Vec<u64>)| {
         let entries = move |owner| entries(&TableNumbers::threes(frame, windows.clone(), owner));
@@ -186,7 +188,8 @@ fn shared() -> impl Iterator<Item = Query> {
         .flat_map(asked)
 }
 
-fn entries(table: &TableNumbers) -> Vec<Query> {
+/// The least supplies up to 2P, the outage, the delay, the critical partition and two groups' verdicts.
+pub fn entries(table: &TableNumbers) -> Vec<Query> {
     let lengths = 0..=2 * table.frame;
     let amount = |length| Query::LeastSupply(table.clone(), length);
     let verdict = |group: &[u64]| {
@@ -226,17 +229,21 @@ fn with_shortest() -> impl Iterator<Item = Query> {
     })
 }
 
-/// The verdicts of plan files with m from 0 to P + 1 before every table with P up to 7, with no
-/// task, with a task that is met or missed, with one that breaks its rule, with too long a cycle
-/// and with too many tasks.
-fn plans() -> impl Iterator<Item = Query> {
-    let groups = [
+/// No task, a task that is met or missed, one that breaks its rule, too long a cycle, and too many
+/// tasks.
+pub fn groups_of_plans() -> [Vec<u64>; 5] {
+    [
         vec![],
         vec![1, 4, 3],
         vec![1, 4, 5],
         vec![1, 999_983, 1],
         [1, 4, 4].repeat(33),
-    ];
+    ]
+}
+
+/// The verdicts of plan files with m from 0 to P + 1 before every table with P up to 7.
+fn plans() -> impl Iterator<Item = Query> {
+    let groups = groups_of_plans();
     tables(MOST_FRAME).into_iter().flat_map(move |table| {
         let mut queries = Vec::new();
         for shortest in 0..=table.frame + 1 {
@@ -255,14 +262,17 @@ fn plans() -> impl Iterator<Item = Query> {
 
 /// Every plan file of up to 7 bytes, each one of six, in both forms.
 fn any_plans() -> impl Iterator<Item = Query> {
+    (0..=MOST_ANY_BYTES).flat_map(any_bytes).flat_map(|bytes| {
+        [Form::Old, Form::WithShortest].map(|form| Query::Plan(form, bytes.clone()))
+    })
+}
+
+/// Every file of so many bytes, each one of six.
+pub fn any_bytes(count: usize) -> impl Iterator<Item = Vec<u8>> {
     let choices = ANY_BYTES.len();
-    (0..=MOST_ANY_BYTES).flat_map(move |count| {
-        let files = 0..choices.pow(count as u32);
-        files.flat_map(move |file| {
-            let byte = |index: usize| ANY_BYTES[file / choices.pow(index as u32) % choices];
-            let bytes: Vec<u8> = (0..count).map(byte).collect();
-            [Form::Old, Form::WithShortest].map(|form| Query::Plan(form, bytes.clone()))
-        })
+    (0..choices.pow(count as u32)).map(move |file| {
+        let byte = |index: usize| ANY_BYTES[file / choices.pow(index as u32) % choices];
+        (0..count).map(byte).collect()
     })
 }
 

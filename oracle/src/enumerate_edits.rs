@@ -25,7 +25,7 @@ pub fn queries() -> impl Iterator<Item = Query> {
 }
 
 /// The legal lists of a frame, for each owner and for one that does not exist.
-fn tables(frame: u64) -> impl Iterator<Item = TableNumbers> {
+pub fn legal_tables(frame: u64) -> impl Iterator<Item = TableNumbers> {
     let is_legal = |list: &Vec<u64>| {
         let owner = list.last().copied().unwrap_or(0);
         let table = TableNumbers::threes(frame, list.clone(), owner);
@@ -37,36 +37,39 @@ fn tables(frame: u64) -> impl Iterator<Item = TableNumbers> {
     })
 }
 
-/// Of every table with P up to 6: the making with every room up to one over, the amounts of every
-/// length up to 3P and at the limit, one with every summary that is nearly the right one, and all
-/// margins. For an owner without a window there is one of each.
+/// Everything about the summary of every table with P up to 6.
 fn summaries() -> impl Iterator<Item = Query> {
-    (1..=MOST_FRAME).flat_map(tables).flat_map(|table| {
-        let summary = belonging(&table);
-        let needed = summary.len() as u64;
-        if table.check().is_err() {
-            let amount = Query::SummaryAmount(table.clone(), vec![], 1_000_001);
-            return vec![Query::MakeSummary(table, 0), amount];
-        }
-        let making = |room| Query::MakeSummary(table.clone(), room);
-        let mut queries: Vec<Query> = (0..=needed + 1).map(making).collect();
-        let lengths = 0..=3 * table.frame;
-        let amount = |length| Query::SummaryAmount(table.clone(), summary.clone(), length);
-        queries.extend(lengths.clone().chain([1_000_000, 1_000_001]).map(amount));
-        let length = table.frame + 1;
-        let with = |other| Query::SummaryAmount(table.clone(), other, length);
-        queries.extend(nearly(&summary).into_iter().map(with));
-        for (group, room) in [(vec![], 0), (vec![1, 2, 1], 1), (vec![1, 3, 2, 1, 5, 4], 2)] {
-            queries.push(Query::Margins(MarginNumbers {
-                table: table.clone(),
-                summary: summary.clone(),
-                tasks: TaskNumbers::Triples(group),
-                lengths: lengths.clone().rev().collect(),
-                room: 3 * table.frame + room,
-            }));
-        }
-        queries
-    })
+    (1..=MOST_FRAME).flat_map(legal_tables).flat_map(of_summary)
+}
+
+/// The making with every room up to one over, the amounts of every length up to 3P and at the limit,
+/// one with every summary that is nearly the right one, and all margins. Of a table that is refused
+/// there is one of each.
+pub fn of_summary(table: TableNumbers) -> Vec<Query> {
+    let summary = belonging(&table);
+    let needed = summary.len() as u64;
+    if table.check().is_err() {
+        let amount = Query::SummaryAmount(table.clone(), vec![], 1_000_001);
+        return vec![Query::MakeSummary(table, 0), amount];
+    }
+    let making = |room| Query::MakeSummary(table.clone(), room);
+    let mut queries: Vec<Query> = (0..=needed + 1).map(making).collect();
+    let lengths = 0..=3 * table.frame;
+    let amount = |length| Query::SummaryAmount(table.clone(), summary.clone(), length);
+    queries.extend(lengths.clone().chain([1_000_000, 1_000_001]).map(amount));
+    let length = table.frame + 1;
+    let with = |other| Query::SummaryAmount(table.clone(), other, length);
+    queries.extend(nearly(&summary).into_iter().map(with));
+    for (group, room) in [(vec![], 0), (vec![1, 2, 1], 1), (vec![1, 3, 2, 1, 5, 4], 2)] {
+        queries.push(Query::Margins(MarginNumbers {
+            table: table.clone(),
+            summary: summary.clone(),
+            tasks: TaskNumbers::Triples(group),
+            lengths: lengths.clone().rev().collect(),
+            room: 3 * table.frame + room,
+        }));
+    }
+    queries
 }
 
 /// The summary with a number more, too short by each number of numbers, and with each number 0, one
@@ -87,7 +90,7 @@ fn nearly(summary: &[u64]) -> Vec<Vec<u64>> {
 /// Of every table with P up to 4 in a memory with room for a window more: a removal of what is first
 /// with every count up to two too many, and with what belongs to so many windows.
 fn counts() -> impl Iterator<Item = Query> {
-    let tables = (1..=MOST_FRAME_OF_EDITS).flat_map(tables);
+    let tables = (1..=MOST_FRAME_OF_EDITS).flat_map(legal_tables);
     tables.flat_map(|table| {
         let windows = table.windows.len() as u64 / 3;
         let with = |count: u64| {
@@ -115,9 +118,9 @@ fn counts() -> impl Iterator<Item = Query> {
 
 /// Every edit of every table with P up to 4, and with P up to 3 and m from 0 to P + 1.
 fn edits() -> impl Iterator<Item = Query> {
-    let without = (1..=MOST_FRAME_OF_EDITS).flat_map(tables);
+    let without = (1..=MOST_FRAME_OF_EDITS).flat_map(legal_tables);
     let with = (1..=MOST_FRAME_WITH_SHORTEST)
-        .flat_map(tables)
+        .flat_map(legal_tables)
         .flat_map(|table| {
             (0..=table.frame + 1).map(move |shortest| TableNumbers {
                 shortest: Some(shortest),
@@ -133,7 +136,7 @@ fn edits() -> impl Iterator<Item = Query> {
 
 /// Every edit of every table with P of 5 and 6 that leaves a legal table.
 fn legal_edits() -> impl Iterator<Item = Query> {
-    let tables = (MOST_FRAME_OF_EDITS + 1..=MOST_FRAME).flat_map(tables);
+    let tables = (MOST_FRAME_OF_EDITS + 1..=MOST_FRAME).flat_map(legal_tables);
     let legal = tables.filter(|table| table.check().is_ok());
     legal.flat_map(|table| {
         let edits = any_edits(table.frame, table.windows.len() as u64 / 3);
@@ -147,7 +150,7 @@ fn legal_edits() -> impl Iterator<Item = Query> {
 
 /// Every edit: an absent index is one that is too large by one, a window has edges up to P + 1, an
 /// owner is up to 2. What a kind does not use is one number.
-fn any_edits(frame: u64, count: u64) -> Vec<Edit> {
+pub fn any_edits(frame: u64, count: u64) -> Vec<Edit> {
     let mut edits = Vec::new();
     let mut push = |kind, index, start, end, owner| {
         edits.push(Edit {
@@ -179,7 +182,7 @@ fn any_edits(frame: u64, count: u64) -> Vec<Edit> {
 /// The edit with more room than it needs; where it is answered so, also with every room for windows
 /// and for the summary that is just enough, or one or two too few, and without the summary's last
 /// number.
-fn of_edit(table: &TableNumbers, edit: Edit) -> Vec<Query> {
+pub fn of_edit(table: &TableNumbers, edit: Edit) -> Vec<Query> {
     let summary = belonging(table);
     let with = |windows: Vec<u64>, summary: Vec<u64>| {
         Query::Edit(EditNumbers {
@@ -225,7 +228,7 @@ mod tests {
     #[test]
     fn as_many_as_there_are() {
         // Each tick is nobody's or one owner's, not all nobody's; three owners.
-        let counts: Vec<usize> = (1..=6).map(|frame| tables(frame).count()).collect();
+        let counts: Vec<usize> = (1..=6).map(|frame| legal_tables(frame).count()).collect();
         assert_eq!(counts, [3 * 2, 3 * 8, 3 * 26, 3 * 80, 3 * 242, 3 * 728]);
         // Moves, additions and removals of one window in a frame of 2.
         assert_eq!(any_edits(2, 1).len(), 2 * 16 + 3 * 16 * 3 + 2);

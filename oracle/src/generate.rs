@@ -12,6 +12,7 @@ use crate::random::Random;
 use crate::slivers;
 use crate::spoil;
 use crate::summaries;
+use crate::switches;
 use crate::table::{TableNumbers, MOST_FRAME, MOST_WINDOWS};
 use crate::tasks::{least_common_multiple, TaskNumbers};
 use crate::teams;
@@ -43,14 +44,19 @@ pub fn query(r: &mut Random) -> Query {
     if r.once_in(200) {
         return summaries::query_at_a_limit(r);
     }
-    // A third of the queries is about summaries. A quarter of the others has m, another one is for
-    // one of two teams without it.
+    if r.once_in(200) {
+        return switches::query_at_a_limit(r);
+    }
+    // A third of the queries is about summaries, and a third of all is on boards with a rule and q. A
+    // quarter of the others has m, another one is for one of two teams without it.
     let is_about_summaries = r.once_in(3);
+    let pays = r.once_in(3);
     let kind = r.below(4);
     loop {
         let faults = faults(r);
         let query = match kind {
-            _ if is_about_summaries => summaries::query(r, faults),
+            _ if is_about_summaries => summaries::query(r, faults, pays),
+            _ if pays => switches::query(r, faults),
             0 => {
                 let plain = any_query(r, faults);
                 slivers::with_shortest(r, faults, plain)
@@ -77,7 +83,7 @@ pub fn faults(r: &mut Random) -> u64 {
     }
 }
 
-fn any_query(r: &mut Random, faults: u64) -> Query {
+pub fn any_query(r: &mut Random, faults: u64) -> Query {
     match r.below(32) {
         0 => least_supply_query(r, faults),
         1 | 2 => critical_partition_query(r, faults),

@@ -11,28 +11,36 @@ use crate::random::Random;
 use crate::slivers;
 use crate::spoil;
 use crate::summaries;
+use crate::switches;
 use crate::table::{Table, TableNumbers, MOST_FRAME, MOST_LENGTH};
 use crate::tasks::{MOST_TASKS, MOST_TICKS};
 use crate::teams;
 use crate::tight::Ground;
 use crate::traces;
 
-/// Some queries on one table: in a third of the sets about its summary, else a third of them on one
-/// that it shares with another team, half of those with a shortest allowed window. One that tries every start at every length takes up to
-/// `most_steps` such steps, or as many as the frame `frames::LEAST_FRAME` needs.
+/// Some queries on one table: in a third of the sets about its summary, else half of them on one that
+/// it shares with another team, some of those with a shortest allowed window, and as many with a rule
+/// and q too. One that tries every start at every length takes up to `most_steps` such steps, or as
+/// many as the frame `frames::LEAST_FRAME` needs.
 pub fn queries(r: &mut Random, most_steps: u64) -> Vec<Query> {
     if r.once_in(3) {
         return summaries::large_queries(r, most_steps);
     }
     let mut queries = plain_queries(r, most_steps);
     for query in &mut queries {
-        if r.once_in(3) {
+        if r.once_in(2) {
             let faults = generate::faults(r);
-            let mut shared = teams::share(r, faults, query.clone());
-            if r.once_in(2) {
-                slivers::set_shortest(r, &mut shared);
-            }
-            // The other team's verdict may need more steps.
+            let shared = match r.below(3) {
+                0 => switches::on_a_board(r, faults, query.clone()),
+                with_shortest => {
+                    let mut shared = teams::share(r, faults, query.clone());
+                    if with_shortest == 1 {
+                        slivers::set_shortest(r, &mut shared);
+                    }
+                    shared
+                }
+            };
+            // The other team's verdict may need more steps, or what remains of a window.
             let is_verdict = matches!(shared, Query::Verdict(..));
             if !is_verdict || generate::steps(&shared) <= most_steps {
                 *query = shared;
@@ -120,8 +128,13 @@ fn slow(r: &mut Random, legal: &TableNumbers, ground: &mut Ground) -> Query {
         }
         9 => {
             let group = ground.group(r);
-            if r.once_in(2) {
-                lent.shortest = Some(slivers::shortest(r, &lent));
+            match r.below(3) {
+                0 => lent.shortest = Some(slivers::shortest(r, &lent)),
+                1 => {
+                    switches::start_earlier(r, &mut lent);
+                    switches::settle(r, faults, &mut lent);
+                }
+                _ => {}
             }
             generate::lent_plan(r, faults, lent, &group)
         }

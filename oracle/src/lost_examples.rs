@@ -624,8 +624,8 @@ fn refusals_of_the_new_table() {
     assert_eq!(refused(one(1), &tick, moved(1, 4, 6)), "REFUSED 7 at 0");
     let line = "EDITED count 1 summary 5 BUFFER 4 7 0 BUFFER 1 7 1 7 8";
     assert_eq!(edited(one(3), &tick, moved(0, 4, 7)), line);
-    // A window of two ticks is left when that of three goes: 13, and before 8; of the other team's it
-    // is an absent owner's 1.
+    // A window of two ticks is left when that of three goes: 13; where it is the other team's, an absent
+    // owner's 1.
     let both = |owner| board(8, &[0, 2, owner, 4, 7, 0], 0, 1, losing(2));
     assert_eq!(refused(both(0), &tick, removed(1)), "REFUSED 13 at 0");
     assert_eq!(refused(both(1), &tick, removed(1)), "REFUSED 1 at 0");

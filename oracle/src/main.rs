@@ -9,9 +9,9 @@
 //! `lost_examples`, which are the documents' own and some worked out by hand; then `query` and
 //! `stream`, which are docs/ASK.md's.
 //! The other files make streams (`generate`, `outages`, `traces`, `teams`, `slivers`, `summaries`,
-//! `edits`, `large` with `frames`, `tight` and `edge_jobs`, `spoil`, `batch`, `enumerate`,
-//! `enumerate_edits`, `random`, `text`) and compare (`compare`): a fault there can hide a difference in the first program but can't change an
-//! answer.
+//! `edits`, `switches`, `large` with `frames`, `tight` and `edge_jobs`, `spoil`, `batch`, `enumerate`,
+//! `enumerate_edits`, `enumerate_switches`, `random`, `text`) and compare (`compare`): a fault there
+//! can hide a difference in the first program but can't change an answer.
 
 mod answer;
 mod batch;
@@ -24,6 +24,7 @@ mod edit_examples;
 mod edits;
 mod enumerate;
 mod enumerate_edits;
+mod enumerate_switches;
 #[cfg(test)]
 mod examples;
 mod frames;
@@ -52,6 +53,7 @@ mod summaries;
 mod summary;
 #[cfg(test)]
 mod summary_examples;
+mod switches;
 mod table;
 mod tasks;
 mod teams;

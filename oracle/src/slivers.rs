@@ -65,6 +65,16 @@ pub fn shortest(r: &mut Random, table: &TableNumbers) -> u64 {
     shortest.min(GREATEST)
 }
 
+/// m for edges that come later: mostly no window is shorter.
+pub fn mostly_allowed(r: &mut Random, faults: u64, table: &TableNumbers) -> u64 {
+    let least = least_length(table).max(1);
+    match r.below(3) {
+        _ if r.once_in(faults.min(6)) => shortest(r, table),
+        0 => r.between(1, least),
+        _ => least,
+    }
+}
+
 /// m at or over a limit; over it, often one that 16 bits or a byte hide.
 fn at_a_limit(r: &mut Random, least: u64) -> u64 {
     match r.below(8) {
@@ -79,7 +89,7 @@ fn at_a_limit(r: &mut Random, least: u64) -> u64 {
 }
 
 /// How many ticks the shortest window of the whole list has.
-pub fn least_length(table: &TableNumbers) -> u64 {
+fn least_length(table: &TableNumbers) -> u64 {
     lengths(table).into_iter().min().unwrap_or(1)
 }
 
@@ -519,13 +529,13 @@ mod tests {
     }
 
     #[test]
-    fn a_sixth_of_the_queries_has_m() {
+    fn a_ninth_of_the_queries_has_m_alone() {
         let mut random = Random::new(20);
         let all: Vec<Query> = (0..7_500).map(|_| generate::query(&mut random)).collect();
         let with_shortest = all.iter().filter(|query| is_with_shortest(query)).count();
-        assert!((1_100..1_400).contains(&with_shortest), "{with_shortest}");
+        assert!((750..950).contains(&with_shortest), "{with_shortest}");
         let plans = all.iter().filter(|query| query.code() == 18).count();
-        assert!((200..400).contains(&plans), "{plans}");
+        assert!((150..280).contains(&plans), "{plans}");
     }
 
     #[test]

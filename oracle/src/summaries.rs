@@ -10,8 +10,8 @@ use crate::query::{
 };
 use crate::random::Random;
 use crate::slivers;
-use crate::spoil;
 use crate::summary;
+use crate::switches;
 use crate::table::{TableNumbers, MOST_FRAME, MOST_LENGTH, MOST_WINDOWS};
 use crate::tasks::{TaskNumbers, MOST_TASKS, MOST_TICKS};
 use crate::teams;
@@ -29,10 +29,17 @@ pub struct Kept {
     group: Vec<[u64; 3]>,
 }
 
-/// A query with one of the codes 20 to 23; half of them are edits.
-pub fn query(r: &mut Random, faults: u64) -> Query {
-    let plain = plain_table(r);
-    let kept = Kept::new(r, faults, &plain);
+/// A query with one of the codes 20 to 23; half of them are edits. With `pays` it is on a board with a
+/// rule and q.
+pub fn query(r: &mut Random, faults: u64, pays: bool) -> Query {
+    let plain = match pays {
+        // Where one window alone gives ticks, an edit may leave none.
+        true if r.once_in(3) => switches::table_with_room(r, one_window),
+        true => switches::table_with_room(r, plain_table),
+        false => plain_table(r),
+    };
+    let group = generate::legal_group(r, &plain);
+    let kept = Kept::new(r, faults, plain, group, pays);
     any_query(r, faults, &kept)
 }
 
@@ -44,7 +51,8 @@ pub fn large_queries(r: &mut Random, most_steps: u64) -> Vec<Query> {
         .clamp(frames::LEAST_FRAME, MOST_FRAME);
     let plain = frames::table(r, most_frame);
     let faults = generate::faults(r);
-    let mut kept = Kept::without_group(r, faults, &plain);
+    let pays = r.once_in(3);
+    let mut kept = Kept::new(r, faults, plain.clone(), Vec::new(), pays);
     let lengths = r.between(1, 3);
     for _ in 0..lengths {
         let length = length(r, &kept).max(1);
@@ -70,10 +78,7 @@ fn any_query(r: &mut Random, faults: u64, kept: &Kept) -> Query {
 /// there may be, or nearly.
 fn plain_table(r: &mut Random) -> TableNumbers {
     match r.below(24) {
-        0 | 1 => {
-            let frame = r.between(1, 30);
-            TableNumbers::pairs(frame, generate::any_windows(r, frame, 1))
-        }
+        0 | 1 => one_window(r),
         2 => {
             let count = MOST_WINDOWS as u64 - r.below(3);
             let frame = r.between(2 * count, 2 * count + 60);
@@ -88,58 +93,38 @@ fn plain_table(r: &mut Random) -> TableNumbers {
     }
 }
 
-impl Kept {
-    fn new(r: &mut Random, faults: u64, plain: &TableNumbers) -> Kept {
-        let group = generate::legal_group(r, plain);
-        Kept {
-            group,
-            ..Kept::without_group(r, faults, plain)
-        }
-    }
+fn one_window(r: &mut Random) -> TableNumbers {
+    let frame = r.between(1, 30);
+    TableNumbers::pairs(frame, generate::any_windows(r, frame, 1))
+}
 
-    fn without_group(r: &mut Random, faults: u64, plain: &TableNumbers) -> Kept {
-        let table = shared(r, faults, plain);
+impl Kept {
+    fn new(
+        r: &mut Random,
+        faults: u64,
+        mut plain: TableNumbers,
+        group: Vec<[u64; 3]>,
+        pays: bool,
+    ) -> Kept {
+        if pays {
+            switches::start_earlier(r, &mut plain);
+        }
+        let mut table = teams::mostly_legal(r, faults, &plain);
+        if pays {
+            switches::settle(r, faults, &mut table);
+        } else if r.once_in(2) {
+            table.shortest = Some(slivers::mostly_allowed(r, faults, &table));
+        }
         Kept {
             summary: belonging(&table),
             table,
-            group: Vec::new(),
+            group,
         }
     }
 }
 
-/// The windows as one team's beside another's, mostly legal: most edges are later ones.
-fn shared(r: &mut Random, faults: u64, plain: &TableNumbers) -> TableNumbers {
-    let owner = r.below(2);
-    let mut table = plain.clone();
-    table.windows = match r.once_in(8) {
-        true => plain
-            .windows
-            .chunks(2)
-            .flat_map(|w| [w[0], w[1], owner])
-            .collect(),
-        false => teams::beside_a_team(r, plain, owner),
-    };
-    if r.once_in(faults) {
-        spoil::shared_table(r, &mut table);
-    }
-    table.owner = Some(match r.below(12) {
-        _ if r.once_in(faults) => spoil::absent_owner(r),
-        0 => 1 - owner,
-        _ => owner,
-    });
-    if r.once_in(2) {
-        let least = slivers::least_length(&table).max(1);
-        table.shortest = Some(match r.below(3) {
-            _ if r.once_in(faults.min(6)) => slivers::shortest(r, &table),
-            0 => r.between(1, least),
-            _ => least,
-        });
-    }
-    table
-}
-
 /// What belongs to the table; where that is refused, to its windows with another owner or without
-/// m; or X's.
+/// m, the rule and q; or X's.
 pub fn belonging(table: &TableNumbers) -> Vec<u64> {
     let for_owner = |owner| TableNumbers {
         shortest: None,
@@ -270,7 +255,8 @@ pub fn wrong(r: &mut Random, kept: &Kept) -> Vec<u64> {
                 summary = belonging(&edited);
             }
         }
-        14 => summary = with_own_windows(kept),
+        14 if kept.table.switch.is_none() || r.once_in(2) => summary = with_own_windows(kept),
+        14 => summary = with_another_loss(r, kept),
         _ => {
             let other = r.index(count - 1);
             summary.swap(other, other + 1);
@@ -338,6 +324,19 @@ fn with_own_windows(kept: &Kept) -> Vec<u64> {
     let pairs: Vec<u64> = own.flat_map(|window| [window[0], window[1]]).collect();
     let front = [kept.summary[0], kept.summary[1], pairs.len() as u64 / 2];
     [&front[..], &pairs].concat()
+}
+
+/// What belongs to the same windows where they lose nothing, or a tick more or less.
+fn with_another_loss(r: &mut Random, kept: &Kept) -> Vec<u64> {
+    let mut table = kept.table.clone();
+    if let Some(switch) = &mut table.switch {
+        switch.lost = match r.below(3) {
+            0 => 0,
+            1 => switch.lost + 1,
+            _ => switch.lost.saturating_sub(1),
+        };
+    }
+    belonging(&table)
 }
 
 /// One of the queries whose lists, memories or rooms are as long as they may be, or nearly.

@@ -33,6 +33,29 @@ pub fn share(r: &mut Random, faults: u64, mut query: Query) -> Query {
     query
 }
 
+/// A legal table's windows as one team's, mostly beside another's, and mostly legal: for edges that come
+/// later than those of this request.
+pub fn mostly_legal(r: &mut Random, faults: u64, plain: &TableNumbers) -> TableNumbers {
+    let owner = r.below(2);
+    let mut table = plain.clone();
+    table.windows = match r.once_in(8) {
+        true => {
+            let pairs = plain.windows.chunks(2);
+            pairs.flat_map(|w| [w[0], w[1], owner]).collect()
+        }
+        false => beside_a_team(r, plain, owner),
+    };
+    if r.once_in(faults) {
+        spoil::shared_table(r, &mut table);
+    }
+    table.owner = Some(match r.below(12) {
+        _ if r.once_in(faults) => spoil::absent_owner(r),
+        0 => 1 - owner,
+        _ => owner,
+    });
+    table
+}
+
 /// Some faults of one table, so that their order counts.
 fn spoil_often(r: &mut Random, table: &mut TableNumbers) {
     if r.once_in(2) {
@@ -395,11 +418,11 @@ mod tests {
     }
 
     #[test]
-    fn a_sixth_of_the_queries_is_shared() {
+    fn a_ninth_of_the_queries_is_shared_without_m() {
         let mut random = Random::new(13);
         let queries = (0..6_000).map(|_| generate::query(&mut random));
         let shared = queries.filter(is_shared).count();
-        assert!((850..1_050).contains(&shared), "{shared}");
+        assert!((580..750).contains(&shared), "{shared}");
     }
 
     #[test]
