@@ -2,8 +2,8 @@
 
 use std::fmt;
 
-/// Document 01, "Refusal numbers", and those that document 02 adds. When several hold, the order
-/// is 9, 1, 2, 3, 12, 13, 4, 5, 6, 14, 7, 10, 11, 8: every entry makes the checks it needs one after
+/// Document 01, "Refusal numbers", and those that document 02 adds. When several hold, the order is
+/// 9, 1, 2, 3, 12, 13, 4, 5, 6, 14, 7, 10, 11, 8: every entry makes the checks it needs one after
 /// another in this order. An edit checks its new table between 7 and 8.
 #[derive(Clone, Copy, Debug, PartialEq, Eq)]
 pub enum Reason {

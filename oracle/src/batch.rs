@@ -100,8 +100,8 @@ fn with_bad_code(r: &mut Random, mut numbers: Vec<u64>) -> Vec<u8> {
     encode(&numbers)
 }
 
-/// A query with a count, a room or a byte over its limit; almost half of them are under code 16, where
-/// some codes are bad already.
+/// A query with a count, a room or a byte over its limit; almost half of them are under code 16,
+/// where some codes are bad already.
 fn over_a_limit(r: &mut Random) -> Vec<u8> {
     let (mut numbers, table, most): (Vec<u64>, &[u64], u64) = match r.below(7) {
         0 => (vec![BOARD, 1, 0], &[8, 3, 0, 8, 0], MOST_NEW_NUMBERS),

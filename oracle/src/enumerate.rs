@@ -1,8 +1,9 @@
 //! Every small table, and every small group on the smaller ones; every small table that two teams
 //! share, and every one of up to two windows that may break every rule, without a shortest allowed
-//! window m and with every one that is not far longer than the frame; every summary and every edit of
-//! small ones (`enumerate_edits`); all of these on boards with a rule and q (`enumerate_switches`); every
-//! short plan file, of the old form and with m first; every bad query by a code or a count of code 16.
+//! window m and with every one that is not far longer than the frame; every summary and every edit
+//! of small ones (`enumerate_edits`); all of these on boards with a rule and q
+//! (`enumerate_switches`); every short plan file, of the old form and with m first; every bad query
+//! by a code or a count of code 16.
 
 use crate::enumerate_edits;
 use crate::enumerate_switches;
@@ -30,8 +31,8 @@ pub const FRAME_OF_ANY_WINDOWS: u64 = 3;
 const MOST_ANY_BYTES: usize = 7;
 const ANY_BYTES: [u8; 6] = [0, 1, 2, 3, 4, 0x80];
 
-/// Streams of bad queries, then of every small outage, shared table, summary, edit, board with a rule
-/// and q, plan and verdict.
+/// Streams of bad queries, then of every small outage, shared table, summary, edit, board with a
+/// rule and q, plan and verdict.
 pub fn streams() -> impl Iterator<Item = Vec<u8>> {
     let bad = bad_queries().into_iter().map(|numbers| encode(&numbers));
     bad.chain(streams_of_queries())
@@ -188,7 +189,8 @@ fn shared() -> impl Iterator<Item = Query> {
         .flat_map(asked)
 }
 
-/// The least supplies up to 2P, the outage, the delay, the critical partition and two groups' verdicts.
+/// The least supplies up to 2P, the outage, the delay, the critical partition and two groups'
+/// verdicts.
 pub fn entries(table: &TableNumbers) -> Vec<Query> {
     let lengths = 0..=2 * table.frame;
     let amount = |length| Query::LeastSupply(table.clone(), length);

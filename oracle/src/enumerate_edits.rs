@@ -42,9 +42,9 @@ fn summaries() -> impl Iterator<Item = Query> {
     (1..=MOST_FRAME).flat_map(legal_tables).flat_map(of_summary)
 }
 
-/// The making with every room up to one over, the amounts of every length up to 3P and at the limit,
-/// one with every summary that is nearly the right one, and all margins. Of a table that is refused
-/// there is one of each.
+/// The making with every room up to one over, the amounts of every length up to 3P and at the
+/// limit, one with every summary that is nearly the right one, and all margins. Of a table that is
+/// refused there is one of each.
 pub fn of_summary(table: TableNumbers) -> Vec<Query> {
     let summary = belonging(&table);
     let needed = summary.len() as u64;
@@ -87,8 +87,8 @@ fn nearly(summary: &[u64]) -> Vec<Vec<u64>> {
     others
 }
 
-/// Of every table with P up to 4 in a memory with room for a window more: a removal of what is first
-/// with every count up to two too many, and with what belongs to so many windows.
+/// Of every table with P up to 4 in a memory with room for a window more: a removal of what is
+/// first with every count up to two too many, and with what belongs to so many windows.
 fn counts() -> impl Iterator<Item = Query> {
     let tables = (1..=MOST_FRAME_OF_EDITS).flat_map(legal_tables);
     tables.flat_map(|table| {

@@ -1,6 +1,6 @@
-//! Everything that document 02's request 7 answers on every small table that two teams share: what every
-//! entry gives of what remains, every rule and q that refuses, every summary and every edit; and every
-//! short plan file with m, the rule and q first.
+//! Everything that document 02's request 7 answers on every small table that two teams share: what
+//! every entry gives of what remains, every rule and q that refuses, every summary and every edit;
+//! and every short plan file with m, the rule and q first.
 
 use crate::enumerate::{
     any_bytes, any_lists, entries, groups_of_plans, tables, FRAME_OF_ANY_WINDOWS,
@@ -40,8 +40,8 @@ fn with(table: &TableNumbers, shortest: u64, rule: u64, lost: u64) -> TableNumbe
     }
 }
 
-/// What every entry gives of every table with P up to 6 where each window loses 1 to 3 ticks, and with
-/// P up to 4 where it loses none.
+/// What every entry gives of every table with P up to 6 where each window loses 1 to 3 ticks, and
+/// with P up to 4 where it loses none.
 fn remaining() -> impl Iterator<Item = Query> {
     (1..=MOST_FRAME).flat_map(legal_tables).flat_map(|table| {
         let least = u64::from(table.frame > MOST_FRAME_OF_FAULTS);
@@ -52,8 +52,8 @@ fn remaining() -> impl Iterator<Item = Query> {
     })
 }
 
-/// The outage, and the margin of a group that is not in threes, of every table with P up to 4, for each
-/// rule from 0 to 3 and each q up to P + 1 and at its limit, with m from 0 to 2.
+/// The outage, and the margin of a group that is not in threes, of every table with P up to 4, for
+/// each rule from 0 to 3 and each q up to P + 1 and at its limit, with m from 0 to 2.
 fn faults() -> impl Iterator<Item = Query> {
     let tables = (1..=MOST_FRAME_OF_FAULTS).flat_map(legal_tables);
     tables.flat_map(|table| {
@@ -72,8 +72,8 @@ fn faults() -> impl Iterator<Item = Query> {
     })
 }
 
-/// The outage, for the owners 0 to 2, of every list of up to two windows with P = 3 that may break every
-/// rule: where a tick is lost, where nothing is left, and where the rule is no board's.
+/// The outage, for the owners 0 to 2, of every list of up to two windows with P = 3 that may break
+/// every rule: where a tick is lost, where nothing is left, and where the rule is no board's.
 fn faults_of_any_windows() -> impl Iterator<Item = Query> {
     any_lists().into_iter().flat_map(|list| {
         let mut queries = Vec::new();
@@ -96,8 +96,8 @@ fn summaries() -> impl Iterator<Item = Query> {
     })
 }
 
-/// Every edit of every table with P up to 3 where each window loses 0 to 2 ticks and m is 1 or 2, and
-/// where the rule is 0.
+/// Every edit of every table with P up to 3 where each window loses 0 to 2 ticks and m is 1 or 2,
+/// and where the rule is 0.
 fn edits() -> impl Iterator<Item = Query> {
     let tables = (1..=MOST_FRAME_OF_EDITS).flat_map(legal_tables);
     tables.flat_map(|table| {
@@ -117,8 +117,8 @@ fn edits() -> impl Iterator<Item = Query> {
     })
 }
 
-/// The verdicts of plan files with m from 0 to 2, the rule from 0 to 3 and q from 0 to 3 before every
-/// table with P up to 5, with the groups that a plan with m first has.
+/// The verdicts of plan files with m from 0 to 2, the rule from 0 to 3 and q from 0 to 3 before
+/// every table with P up to 5, with the groups that a plan with m first has.
 fn plans() -> impl Iterator<Item = Query> {
     let groups = groups_of_plans();
     tables(MOST_FRAME_OF_PLANS)
@@ -239,8 +239,8 @@ mod tests {
         }
     }
 
-    /// Of every table that is not refused, each entry gives what a plain table of just the remaining ticks
-    /// gives.
+    /// Of every table that is not refused, each entry gives what a plain table of just the
+    /// remaining ticks gives.
     #[test]
     fn entries_read_the_remaining_ticks() {
         let mut compared = 0;

@@ -47,8 +47,8 @@ pub fn query(r: &mut Random) -> Query {
     if r.once_in(200) {
         return switches::query_at_a_limit(r);
     }
-    // A third of the queries is about summaries, and a third of all is on boards with a rule and q. A
-    // quarter of the others has m, another one is for one of two teams without it.
+    // A third of the queries is about summaries, and a third of all is on boards with a rule and q.
+    // A quarter of the others has m, another one is for one of two teams without it.
     let is_about_summaries = r.once_in(3);
     let pays = r.once_in(3);
     let kind = r.below(4);
@@ -241,8 +241,8 @@ pub fn lent_plan(r: &mut Random, faults: u64, table: TableNumbers, group: &[[u64
     Query::Plan(form, spoil::plan_bytes(r, form, numbers))
 }
 
-/// The form and the numbers of a plan file, with m, or m, the rule and q, first where the table has them
-/// set.
+/// The form and the numbers of a plan file, with m, or m, the rule and q, first where the table has
+/// them set.
 pub fn plan_numbers(table: &TableNumbers, tasks: &[u64]) -> (Form, Vec<u64>) {
     let mut numbers = table.settings();
     let form = match numbers.len() {

@@ -18,10 +18,10 @@ use crate::teams;
 use crate::tight::Ground;
 use crate::traces;
 
-/// Some queries on one table: in a third of the sets about its summary, else half of them on one that
-/// it shares with another team, some of those with a shortest allowed window, and as many with a rule
-/// and q too. One that tries every start at every length takes up to `most_steps` such steps, or as
-/// many as the frame `frames::LEAST_FRAME` needs.
+/// Some queries on one table: in a third of the sets about its summary, else half of them on one
+/// that it shares with another team, some of those with a shortest allowed window, and as many with
+/// a rule and q too. One that tries every start at every length takes up to `most_steps` such
+/// steps, or as many as the frame `frames::LEAST_FRAME` needs.
 pub fn queries(r: &mut Random, most_steps: u64) -> Vec<Query> {
     if r.once_in(3) {
         return summaries::large_queries(r, most_steps);

@@ -1,4 +1,5 @@
-//! Boards that pay for a switch: the first q ticks of every window are lost (document 02, request 7).
+//! Boards that pay for a switch: the first q ticks of every window are lost (document 02, request
+//! 7).
 
 use crate::answer::{Reason, Refusal};
 use crate::table::TableNumbers;
@@ -45,8 +46,8 @@ impl Switch {
     }
 }
 
-/// How many ticks every window of the table loses; or refusal 13 where "the rule is neither 1 nor 2,
-/// q is out of range, or rule 1 comes with q above 0".
+/// How many ticks every window of the table loses; or refusal 13 where "the rule is neither 1 nor
+/// 2, q is out of range, or rule 1 comes with q above 0".
 pub fn check(table: &TableNumbers) -> Result<u64, Refusal> {
     let switch = table.switch.unwrap_or(NOT_SET);
     Reason::Switch.check(!switch.is_legal(), 0)?;

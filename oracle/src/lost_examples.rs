@@ -1,5 +1,5 @@
-//! Boards that pay for a switch (document 02, request 7): a table of two windows that keeps X's ticks,
-//! turned by one, where each window loses one, and refusals, worked out by hand.
+//! Boards that pay for a switch (document 02, request 7): a table of two windows that keeps X's
+//! ticks, turned by one, where each window loses one, and refusals, worked out by hand.
 
 use crate::answer::Answer;
 use crate::edit::{Edit, Kind};
@@ -14,8 +14,8 @@ const GREATEST: u64 = 4_294_967_295;
 /// What an edit gives that does not use a number.
 const ANY: u64 = 9;
 
-/// Rule 1 with q above 0, rules that are neither 1 nor 2, and q out of its range: some are in order in
-/// a byte or in 16 bits.
+/// Rule 1 with q above 0, rules that are neither 1 nor 2, and q out of its range: some are in order
+/// in a byte or in 16 bits.
 const NO_BOARD_S: [[u64; 2]; 16] = [
     [1, 1],
     [1, 65_535],
@@ -36,16 +36,16 @@ const NO_BOARD_S: [[u64; 2]; 16] = [
 ];
 
 /// In a frame of 8, two windows of three ticks that join over midnight. Ticks 3 and 4 are silent
-/// without a loss. Where each loses one, 1, 2, 6 and 7 remain: X, P = 8 with windows (0,2) and (5,7),
-/// a tick later. Where each loses two, 2 and 7 remain.
+/// without a loss. Where each loses one, 1, 2, 6 and 7 remain: X, P = 8 with windows (0,2) and
+/// (5,7), a tick later. Where each loses two, 2 and 7 remain.
 const Z: [[u64; 3]; 2] = [[0, 3, 0], [5, 8, 0]];
 
 /// Least supply 0, 0, 0, 1, 2, 3, 4, 5, 6, and 6*2 - 8*0 is the delay.
 const OF_Z_WHOLE: [u64; 5] = [6, 12, 1, 2, 8];
 /// X's, by W1 to W3: it does not count where the frame begins.
 const OF_Z_WITHOUT_1: [u64; 7] = [4, 12, 2, 3, 5, 6, 8];
-/// Silent 3 to 6, and 3 to 9 hold one tick: least supply 0, 0, 0, 0, 0, 1, 1, 1, 2, and 2*4 - 8*0 is
-/// the delay.
+/// Silent 3 to 6, and 3 to 9 hold one tick: least supply 0, 0, 0, 0, 0, 1, 1, 1, 2, and 2*4 - 8*0
+/// is the delay.
 const OF_Z_WITHOUT_2: [u64; 7] = [2, 8, 2, 4, 5, 7, 8];
 
 const W6: [[u64; 3]; 2] = [[1, 4, 4], [2, 8, 6]];
@@ -210,7 +210,8 @@ fn amounts_at_every_length() {
     of(losing(2), [0, 0, 0, 0, 0, 1, 1, 1, 2]);
 }
 
-/// What every entry answers where so many ticks are lost; the buffers have 7 where nothing is written.
+/// What every entry answers where so many ticks are lost; the buffers have 7 where nothing is
+/// written.
 fn every_entry(switch: [u64; 2]) -> Vec<String> {
     let z = || z(switch);
     let trace = [0, 0, 1, 9, 0, 1, 2, 9, 1, 0, 11, 1, 1, 16];
@@ -443,8 +444,8 @@ fn m_reads_whole_windows() {
 /// "It stands after 12 and before 4."
 #[test]
 fn what_comes_after_13() {
-    // Each is refused otherwise where one tick is lost, and by 13 where three are or where the rule is
-    // no board's.
+    // Each is refused otherwise where one tick is lost, and by 13 where three are or where the rule
+    // is no board's.
     let later = |line: &dyn Fn(TableNumbers) -> String, otherwise: &str| {
         let buffer = otherwise.find(" BUFFER").map_or("", |at| &otherwise[at..]);
         assert_eq!(line(z(losing(1))), otherwise);
@@ -544,8 +545,8 @@ fn summaries_of_what_remains() {
 #[test]
 fn edits_of_what_remains() {
     let of_z = |lost, summary, edit| edited(z(losing(lost)), summary, edit);
-    // Ticks 1, 2, 5, 6 and 7: silent 3 and 4, three of 0 to 4. Least supply 0, 0, 0, 1, 2, 2, 3, 4, 5;
-    // 5*2 - 8*0.
+    // Ticks 1, 2, 5, 6 and 7: silent 3 and 4, three of 0 to 4. Least supply 0, 0, 0, 1, 2, 2, 3, 4,
+    // 5; 5*2 - 8*0.
     let line = "EDITED count 2 summary 7 BUFFER 0 3 0 4 8 0 BUFFER 5 10 2 2 4 5 8";
     assert_eq!(of_z(1, &OF_Z_WITHOUT_1, moved(1, 4, 8)), line);
     // Ticks 1 and 2 alone remain of the first window: by a removal, and by a window of one tick.
@@ -598,7 +599,8 @@ fn refusals_of_the_old_table() {
         assert_eq!(at(old(0, 3, switch)), "REFUSED 13 at 0");
     }
     assert_eq!(at(old(0, 3, losing(1))), "REFUSED 14 at 0");
-    // An edit that would leave a tick can't mend it; the summary is that of the table as it would be.
+    // An edit that would leave a tick can't mend it; the summary is that of the table as it would
+    // be.
     let lost = board(8, &[0, 2, 0], 0, 1, losing(2));
     let tick = [1, 7, 1, 7, 8];
     assert_eq!(refused(lost, &tick, moved(0, 0, 3)), "REFUSED 13 at 0");
@@ -624,8 +626,8 @@ fn refusals_of_the_new_table() {
     assert_eq!(refused(one(1), &tick, moved(1, 4, 6)), "REFUSED 7 at 0");
     let line = "EDITED count 1 summary 5 BUFFER 4 7 0 BUFFER 1 7 1 7 8";
     assert_eq!(edited(one(3), &tick, moved(0, 4, 7)), line);
-    // A window of two ticks is left when that of three goes: 13; where it is the other team's, an absent
-    // owner's 1.
+    // A window of two ticks is left when that of three goes: 13; where it is the other team's, an
+    // absent owner's 1.
     let both = |owner| board(8, &[0, 2, owner, 4, 7, 0], 0, 1, losing(2));
     assert_eq!(refused(both(0), &tick, removed(1)), "REFUSED 13 at 0");
     assert_eq!(refused(both(1), &tick, removed(1)), "REFUSED 1 at 0");

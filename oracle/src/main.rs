@@ -3,15 +3,15 @@
 //! changes no answer: this one goes on to try every start, and `oracle large` asks where that
 //! counts.
 //!
-//! To believe its answers, read `numbers`, `answer`, `table`, `owners`, `shortest`, `lost`, `tasks`,
-//! `verdict`, `bound`, `machine`, `plan`, `trace`, `replay`, `summary` and `edit`, in this order,
-//! and `examples`, `owner_examples`, `shortest_examples`, `summary_examples`, `edit_examples` and
-//! `lost_examples`, which are the documents' own and some worked out by hand; then `query` and
-//! `stream`, which are docs/ASK.md's.
-//! The other files make streams (`generate`, `outages`, `traces`, `teams`, `slivers`, `summaries`,
-//! `edits`, `switches`, `large` with `frames`, `tight` and `edge_jobs`, `spoil`, `batch`, `enumerate`,
-//! `enumerate_edits`, `enumerate_switches`, `random`, `text`) and compare (`compare`): a fault there
-//! can hide a difference in the first program but can't change an answer.
+//! To believe its answers, read `numbers`, `answer`, `table`, `owners`, `shortest`, `lost`,
+//! `tasks`, `verdict`, `bound`, `machine`, `plan`, `trace`, `replay`, `summary` and `edit`, in this
+//! order, and `examples`, `owner_examples`, `shortest_examples`, `summary_examples`,
+//! `edit_examples` and `lost_examples`, which are the documents' own and some worked out by hand;
+//! then `query` and `stream`, which are docs/ASK.md's. The other files make streams (`generate`,
+//! `outages`, `traces`, `teams`, `slivers`, `summaries`, `edits`, `switches`, `large` with
+//! `frames`, `tight` and `edge_jobs`, `spoil`, `batch`, `enumerate`, `enumerate_edits`,
+//! `enumerate_switches`, `random`, `text`) and compare (`compare`): a fault there can hide a
+//! difference in the first program but can't change an answer.
 
 mod answer;
 mod batch;

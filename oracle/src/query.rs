@@ -24,8 +24,8 @@ pub const MOST_LENGTHS: u64 = 1_000;
 
 /// Code 16, "on a board": settings, then a query whose windows are in threes.
 pub const BOARD: u64 = 16;
-/// How many settings there may be: the owner asked for; the owner and m; or the owner, m, the rule and
-/// q.
+/// How many settings there may be: the owner asked for; the owner and m; or the owner, m, the rule
+/// and q.
 const SETTINGS: [u64; 3] = [1, 2, 4];
 /// The codes that may stand under 16.
 pub const ON_A_BOARD: [u64; 17] = [1, 2, 3, 4, 6, 7, 8, 9, 12, 13, 14, 15, 17, 20, 21, 22, 23];

@@ -178,7 +178,8 @@ mod tests {
         assert_eq!(answer(&[29, 8, 2, 0, 8, 0, 0]), ["BAD QUERY at 0"]);
     }
 
-    /// Code 16 has one setting, the owner; two, the owner and m; or four, the owner, m, the rule and q.
+    /// Code 16 has one setting, the owner; two, the owner and m; or four, the owner, m, the rule
+    /// and q.
     #[test]
     fn settings_of_a_board() {
         let full = [4, 8, 3, 0, 8, 1];

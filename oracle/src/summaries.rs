@@ -1,5 +1,5 @@
-//! Queries at the edges of document 02's request 6: summaries that belong to their table, or nearly,
-//! and amounts and margins from them. `edits` makes the edits.
+//! Queries at the edges of document 02's request 6: summaries that belong to their table, or
+//! nearly, and amounts and margins from them. `edits` makes the edits.
 
 use crate::edits;
 use crate::frames;
@@ -29,8 +29,8 @@ pub struct Kept {
     group: Vec<[u64; 3]>,
 }
 
-/// A query with one of the codes 20 to 23; half of them are edits. With `pays` it is on a board with a
-/// rule and q.
+/// A query with one of the codes 20 to 23; half of them are edits. With `pays` it is on a board
+/// with a rule and q.
 pub fn query(r: &mut Random, faults: u64, pays: bool) -> Query {
     let plain = match pays {
         // Where one window alone gives ticks, an edit may leave none.

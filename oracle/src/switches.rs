@@ -1,6 +1,6 @@
-//! Queries at the edges of document 02's request 7: any other query's table gets a rule and q, and so
-//! does a plan file. Mostly its windows start q ticks earlier then, so that the ticks that remain are
-//! those it had, and a group is still near the edge of meeting its deadlines.
+//! Queries at the edges of document 02's request 7: any other query's table gets a rule and q, and
+//! so does a plan file. Mostly its windows start q ticks earlier then, so that the ticks that
+//! remain are those it had, and a group is still near the edge of meeting its deadlines.
 
 use crate::generate;
 use crate::lost::{Switch, MOST_LOST, PAYS, WHOLE};
@@ -62,8 +62,8 @@ pub fn table_with_room(r: &mut Random, make: impl Fn(&mut Random) -> TableNumber
     }
 }
 
-/// Moves the windows of a legal table in pairs so that the first one does not start at tick 0, unless
-/// the frame has no room: there it could not start earlier.
+/// Moves the windows of a legal table in pairs so that the first one does not start at tick 0,
+/// unless the frame has no room: there it could not start earlier.
 fn turn(r: &mut Random, table: &mut TableNumbers) {
     if table.check().is_err() || table.windows[0] > 0 {
         return;
@@ -75,9 +75,9 @@ fn turn(r: &mut Random, table: &mut TableNumbers) {
     }
 }
 
-/// In most of the legal tables in pairs that have room for it, every window starts q ticks earlier and
-/// loses them: what remains are the ticks that the table had. In half of these there are windows
-/// beside them that give nothing.
+/// In most of the legal tables in pairs that have room for it, every window starts q ticks earlier
+/// and loses them: what remains are the ticks that the table had. In half of these there are
+/// windows beside them that give nothing.
 pub fn start_earlier(r: &mut Random, table: &mut TableNumbers) {
     let most = most_earlier(table).min(MOST_LOST);
     if most == 0 || r.once_in(12) {
@@ -99,8 +99,8 @@ pub fn start_earlier(r: &mut Random, table: &mut TableNumbers) {
     }
 }
 
-/// How many ticks earlier every window of a table in pairs may start without touching the one before;
-/// 0 where the table is refused.
+/// How many ticks earlier every window of a table in pairs may start without touching the one
+/// before; 0 where the table is refused.
 fn most_earlier(table: &TableNumbers) -> u64 {
     if table.check().is_err() {
         return 0;
@@ -192,7 +192,8 @@ fn lost_at_an_edge(r: &mut Random, table: &TableNumbers) -> u64 {
     beside.min(MOST_LOST)
 }
 
-/// How many ticks the asked owner's windows have, and the other's; in pairs all are the asked owner's.
+/// How many ticks the asked owner's windows have, and the other's; in pairs all are the asked
+/// owner's.
 fn lengths(table: &TableNumbers) -> (Vec<u64>, Vec<u64>) {
     let is_own = |window: &&[u64]| table.owner.is_none() || window.get(2).copied() == table.owner;
     let windows = table.windows.chunks_exact(table.numbers_a_window());
@@ -204,8 +205,8 @@ fn lengths(table: &TableNumbers) -> (Vec<u64>, Vec<u64>) {
     (ticks(own), ticks(others))
 }
 
-/// A rule that is neither 1 nor 2, rule 1 with q above 0, or q at or over its limit: often what a byte
-/// or 16 bits hide.
+/// A rule that is neither 1 nor 2, rule 1 with q above 0, or q at or over its limit: often what a
+/// byte or 16 bits hide.
 fn no_board_s(r: &mut Random, switch: Switch) -> Switch {
     let Switch { rule, lost } = switch;
     let hidden = r.one_of(&[1 << 8, 1 << 16, 1 << 31]);
@@ -292,8 +293,8 @@ fn plan_file(table: &TableNumbers, tasks: &[u64]) -> Query {
     Query::Plan(form, encode(&numbers))
 }
 
-/// The longest frame and in it the longest window, or one that is a tick shorter, of which a tick or
-/// two remain, or none.
+/// The longest frame and in it the longest window, or one that is a tick shorter, of which a tick
+/// or two remain, or none.
 fn longest_window(r: &mut Random) -> TableNumbers {
     let (start, end) = (r.below(2), MOST_FRAME - r.below(2));
     let lost = end - start - r.below(3);
@@ -304,8 +305,8 @@ fn longest_window(r: &mut Random) -> TableNumbers {
     }
 }
 
-/// As many windows as there may be, or one more or fewer, in pairs, of so many ticks each that nothing
-/// remains but, in most of the tables, of one of them: often of the last.
+/// As many windows as there may be, or one more or fewer, in pairs, of so many ticks each that
+/// nothing remains but, in most of the tables, of one of them: often of the last.
 fn many_windows(r: &mut Random) -> TableNumbers {
     let lost = r.one_of(&[1, 2, 100, 1_000]);
     let count = r.one_of(&[63, 64, 64, 64, 65]);
@@ -390,7 +391,7 @@ mod tests {
         asked.map(|(edge, _)| edge).collect()
     }
 
-    /// Without the rule and q, and with what belongs to that where it has a summary.
+    /// The query on a board that sets no rule and no q.
     fn without_switch(query: &Query) -> Query {
         let mut without = query.clone();
         without.table_mut().unwrap().switch = None;
@@ -871,9 +872,9 @@ mod tests {
         left.filter(|[start, end]| start < end).collect()
     }
 
-    /// "Supply, least supply, delay, outage, demands 2 and 3 and the tick machine all read the remaining
-    /// ticks": where 13 does not refuse, a query is answered as it is by a board with whole windows that
-    /// has just the remaining ones.
+    /// "Supply, least supply, delay, outage, demands 2 and 3 and the tick machine all read the
+    /// remaining ticks": where 13 does not refuse, a query is answered as it is by a board with
+    /// whole windows that has just the remaining ones.
     #[test]
     fn whole_windows_of_what_remains() {
         let is_table_s = |query: &Query| query.code() != 19 && query.code() != 23;
@@ -931,8 +932,8 @@ mod tests {
         }
     }
 
-    /// "Show the facts once over q, rule 1 being q = 0": under rule 1 every query is answered as with m
-    /// alone, and so it is under rule 2 with q = 0.
+    /// "Show the facts once over q, rule 1 being q = 0": under rule 1 every query is answered as
+    /// with m alone, and so it is under rule 2 with q = 0.
     #[test]
     fn nothing_lost_changes_nothing() {
         let mut random = Random::new(47);

@@ -33,8 +33,8 @@ pub fn share(r: &mut Random, faults: u64, mut query: Query) -> Query {
     query
 }
 
-/// A legal table's windows as one team's, mostly beside another's, and mostly legal: for edges that come
-/// later than those of this request.
+/// A legal table's windows as one team's, mostly beside another's, and mostly legal: for edges that
+/// come later than those of this request.
 pub fn mostly_legal(r: &mut Random, faults: u64, plain: &TableNumbers) -> TableNumbers {
     let owner = r.below(2);
     let mut table = plain.clone();
