@@ -2,7 +2,6 @@ use mathlib.Core.Path.{sym, ap, _∙_}
 use native.Mathlib.Omega.{arith}
 use lib.Seq.{length-take-le}
 use Rattle.scope.specs.Limits.{teams}
-
 use Rattle.scope.specs.Summary.{marginsFor, marginsOutFor}
 use Rattle.theory.specs.Alone.{margins-entry, margins-out-entry}
 use Rattle.theory.specs.Lent.{Taken, taken, asked-taken, asked-not}

@@ -2,7 +2,6 @@ use mathlib.Core.Path.{sym, ap, _∙_}
 use native.Mathlib.Omega.{arith}
 use lib.Seq.{length-take-le}
 use Rattle.scope.specs.Limits.{teams}
-
 use Rattle.scope.specs.Summary.{makeFor, makeOutFor}
 use Rattle.theory.specs.Alone.{make-entry, make-out-entry}
 use Rattle.theory.specs.Lent.{Taken, taken, asked-taken, asked-not}
