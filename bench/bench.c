@@ -24,7 +24,7 @@ enum {
     WINDOW_ROOM = 196,    /* numbers of lent window memory: 65 windows and one number */
     RELEASE_BYTES = 10,   /* of a record, at most: kind and task take one each, work three, a stamp five */
     COMPLETION_BYTES = 7,
-    LONGEST_PLAN = 1132
+    LONGEST_PLAN = 1142
 };
 static const double SHORTEST = 0.05; /* seconds that a measurement takes at least */
 static const double LONG = 0.4;      /* seconds after which a measurement is long */
@@ -117,6 +117,11 @@ typedef struct palikudyom_answer ask(const struct input *x, struct lent *lent);
     {                                                                                                                                         \
         (void)lent;                                                                                                                           \
         return side##_plan_with_shortest(x->plan, x->plan_len);                                                                               \
+    }                                                                                                                                         \
+    static struct palikudyom_answer side##_asked_for_rule_plan(const struct input *x, struct lent *lent)                                      \
+    {                                                                                                                                         \
+        (void)lent;                                                                                                                           \
+        return side##_plan_with_rule(x->plan, x->plan_len);                                                                                   \
     }                                                                                                                                         \
     static struct palikudyom_answer side##_asked_for_make_summary(const struct input *x, struct lent *lent)                                   \
     {                                                                                                                                         \
@@ -248,6 +253,7 @@ static const struct entry BOUND = {"bound", palikudyom_asked_for_bound, plain_as
 static const struct entry RUN = {"run", palikudyom_asked_for_run, plain_asked_for_run};
 static const struct entry REPLAY = {"replay", palikudyom_asked_for_replay, plain_asked_for_replay};
 static const struct entry PLAN = {"plan, m first", palikudyom_asked_for_plan, plain_asked_for_plan};
+static const struct entry RULE_PLAN = {"plan, m, rule and q first", palikudyom_asked_for_rule_plan, plain_asked_for_rule_plan};
 static const struct entry MAKE_SUMMARY = {"make summary", palikudyom_asked_for_make_summary, plain_asked_for_make_summary};
 static const struct entry LEAST_SUPPLY_FROM = {"least supply from a summary", palikudyom_asked_for_least_supply_from, plain_asked_for_least_supply_from};
 static const struct entry MARGINS = {"margins", palikudyom_asked_for_margins, plain_asked_for_margins};
@@ -432,7 +438,7 @@ static void early_windows(struct input *x, uint32_t frame, uint32_t count)
 /* two teams by turns, so many windows each, that leave no tick free: owner 1's of `ticks` ticks, who is asked for, end at even distances */
 static void shared_windows(struct input *x, uint32_t frame, uint32_t count, uint32_t ticks)
 {
-    x->board = (struct palikudyom_board){frame, 1, 1};
+    x->board = (struct palikudyom_board){frame, 1, 1, PALIKUDYOM_WHOLE, 0};
     for (uint32_t i = 0; i < count; i++) {
         uint32_t end = (i + 1) * (frame / count);
         add_owned(x, i * (frame / count), end - ticks, 0);
@@ -522,10 +528,9 @@ static void add_number(struct input *x, uint32_t n)
     put_number(x->trace, &x->trace_len, n);
 }
 
-/* the input's plan, with its shortest allowed window first */
-static void write_plan(struct input *x)
+/* the input's plan after its settings */
+static void write_lists(struct input *x)
 {
-    put_number(x->plan, &x->plan_len, x->board.shortest);
     put_number(x->plan, &x->plan_len, x->board.frame);
     put_number(x->plan, &x->plan_len, x->windows_len / 3);
     for (size_t i = 0; i < x->windows_len; i++)
@@ -534,6 +539,22 @@ static void write_plan(struct input *x)
     put_number(x->plan, &x->plan_len, x->tasks_len / 3);
     for (size_t i = 0; i < x->tasks_len; i++)
         put_number(x->plan, &x->plan_len, x->tasks[i]);
+}
+
+/* with its shortest allowed window first */
+static void write_plan(struct input *x)
+{
+    put_number(x->plan, &x->plan_len, x->board.shortest);
+    write_lists(x);
+}
+
+/* and with that, its rule and its lost ticks first */
+static void write_rule_plan(struct input *x)
+{
+    put_number(x->plan, &x->plan_len, x->board.shortest);
+    put_number(x->plan, &x->plan_len, x->board.rule);
+    put_number(x->plan, &x->plan_len, x->board.lost);
+    write_lists(x);
 }
 
 static void add_release(struct input *x, size_t j, uint32_t stamp)
@@ -830,6 +851,98 @@ static void worst_plan(struct input *x)
     write_plan(x);
 }
 
+/* The same inputs on boards that lose a tick of each window */
+
+static void lose(struct input *x)
+{
+    x->board.rule = PALIKUDYOM_LOSING;
+    x->board.lost = 1;
+}
+
+static void losing_small_least_supply(struct input *x)
+{
+    small_least_supply(x);
+    lose(x);
+}
+
+static void losing_typical_least_supply(struct input *x)
+{
+    typical_least_supply(x);
+    lose(x);
+}
+
+static void losing_worst_least_supply(struct input *x)
+{
+    worst_least_supply(x);
+    lose(x);
+}
+
+static void losing_small_table(struct input *x)
+{
+    small_table(x);
+    lose(x);
+}
+
+static void losing_typical_table(struct input *x)
+{
+    typical_table(x);
+    lose(x);
+}
+
+static void losing_worst_table(struct input *x)
+{
+    worst_table(x);
+    lose(x);
+}
+
+static void losing_small_verdict(struct input *x)
+{
+    small_verdict(x);
+    lose(x);
+}
+
+static void losing_typical_verdict(struct input *x)
+{
+    typical_verdict(x);
+    lose(x);
+}
+
+static void losing_worst_verdict(struct input *x)
+{
+    worst_verdict(x);
+    lose(x);
+}
+
+static void losing_typical_run(struct input *x)
+{
+    typical_run(x);
+    lose(x);
+}
+
+static void losing_worst_run(struct input *x)
+{
+    worst_run(x);
+    lose(x);
+}
+
+static void small_rule_plan(struct input *x)
+{
+    losing_small_verdict(x);
+    write_rule_plan(x);
+}
+
+static void typical_rule_plan(struct input *x)
+{
+    losing_typical_verdict(x);
+    write_rule_plan(x);
+}
+
+static void worst_rule_plan(struct input *x)
+{
+    losing_worst_verdict(x);
+    write_rule_plan(x);
+}
+
 /*
  * Inputs of the table of two teams. Typical: owner 0, who is asked for, has the windows of the typical inputs above, and gets their answers. Worst: 32
  * windows of each owner, by turns and touching; owner 1 is asked for.
@@ -871,7 +984,7 @@ static void typical_shared_run(struct input *x)
 /* windows of one tick from 0 on; as `early_table` for owner 1 */
 static void early_shared_table(struct input *x)
 {
-    x->board = (struct palikudyom_board){65536, 1, 1};
+    x->board = (struct palikudyom_board){65536, 1, 1, PALIKUDYOM_WHOLE, 0};
     for (uint32_t i = 0; i < 64; i++)
         add_owned(x, i, i + 1, i % 2);
 }
@@ -1274,6 +1387,25 @@ static const struct one_case SHARED[] = {
     {&RUN, "worst", "P 65,536, 32 windows of each, 32 tasks, 4,096 jobs, 1,100,000 ticks", PALIKUDYOM_MET, 0, worst_shared_run, 0},
 };
 
+/* request 7: a tick of each window is lost */
+static const struct one_case LOSING[] = {
+    {&LEAST_SUPPLY, "small", "P 8, 2 windows, length 6", PALIKUDYOM_AMOUNT, 1, losing_small_least_supply, 0},
+    {&LEAST_SUPPLY, "typical", "P 1,000, 8 windows, length 2,500", PALIKUDYOM_AMOUNT, 0, losing_typical_least_supply, 0},
+    {&LEAST_SUPPLY, "worst", "P 65,536, 64 windows, length 983,039", PALIKUDYOM_AMOUNT, 0, losing_worst_least_supply, 0},
+    {&CRITICAL, "small", "P 8, 2 windows", PALIKUDYOM_AMOUNT, 2, losing_small_table, 0},
+    {&CRITICAL, "typical", "P 1,000, 8 windows", PALIKUDYOM_AMOUNT, 0, losing_typical_table, 0},
+    {&CRITICAL, "worst", "P 65,536, 64 windows", PALIKUDYOM_AMOUNT, 0, losing_worst_table, 0},
+    {&OUTAGE, "small", "P 8, 2 windows", PALIKUDYOM_AMOUNT, 4, losing_small_table, 0},
+    {&OUTAGE, "worst", "P 65,536, 64 windows", PALIKUDYOM_AMOUNT, 0, losing_worst_table, 0},
+    {&VERDICT, "small", "P 8, 2 windows, 2 tasks, a miss", PALIKUDYOM_MISS, 4, losing_small_verdict, 0},
+    {&VERDICT, "typical", "P 1,000, 8 windows, 8 tasks", PALIKUDYOM_MEETS, 10000, losing_typical_verdict, 0},
+    {&RUN, "typical", "P 1,000, 8 windows, 8 tasks, 36 jobs, 10,000 ticks", PALIKUDYOM_MET, 0, losing_typical_run, 0},
+    {&RUN, "worst", "P 65,536, 64 windows, 32 tasks, 4,096 jobs, 1,100,000 ticks", PALIKUDYOM_MET, 0, losing_worst_run, 0},
+    {&RULE_PLAN, "small", "rule 2, q 1, P 8, 2 windows, 2 tasks, a miss", PALIKUDYOM_MISS, 4, small_rule_plan, 0},
+    {&RULE_PLAN, "typical", "rule 2, q 1, P 1,000, 8 windows, 8 tasks, meets, H 10,000", PALIKUDYOM_MEETS, 10000, typical_rule_plan, 0},
+    {&RULE_PLAN, "worst", "rule 2, q 1, P 65,536, 64 windows, 32 tasks, meets, H 983,040", PALIKUDYOM_MEETS, 983040, worst_rule_plan, 0},
+};
+
 /* request 6: what an edit of one window leaves between its two halves is compared too */
 static const struct one_case SUMMARIES[] = {
     {&MAKE_SUMMARY, "small", "P 8, 2 windows", PALIKUDYOM_AMOUNT, 0, small_table, 0},
@@ -1416,11 +1548,12 @@ static void print_figures(double n)
 
 static struct input input; /* the one in use: too large for the stack */
 
-/* nothing yet, and every window is allowed */
+/* nothing yet, and every window is allowed and given whole */
 static void clear_input(void)
 {
     memset(&input, 0, sizeof input);
     input.board.shortest = 1;
+    input.board.rule = PALIKUDYOM_WHOLE;
 }
 
 struct pair {
@@ -1608,12 +1741,22 @@ static void print_request6_alone(void)
             print_growth(&GROWTHS[i]);
 }
 
-/* with any argument: request 6's tables alone */
+static void print_losing(void)
+{
+    printf("\nBoards that lose a tick of each window:\n\n");
+    printf("| entry | input | proved | plain C | ratio |\n|---|---|---:|---:|---:|\n");
+    for (size_t i = 0; i < LENGTH(LOSING); i++)
+        print_case(&LOSING[i]);
+}
+
+/* with the argument 6 or 7: that request's tables alone */
 int main(int argc, char **argv)
 {
-    (void)argv;
     if (1 < argc) {
-        print_request6_alone();
+        if (argv[1][0] == '7')
+            print_losing();
+        else
+            print_request6_alone();
         return 0;
     }
     printf("The proved code and plain C of the same algorithms:\n\n");
@@ -1625,6 +1768,7 @@ int main(int argc, char **argv)
     printf("| entry | input | proved | plain C | ratio |\n|---|---|---:|---:|---:|\n");
     for (size_t i = 0; i < LENGTH(SHARED); i++)
         print_case(&SHARED[i]);
+    print_losing();
     printf("\nThe least supply beside that of before, tick by tick in plain C:\n\n");
     printf("| entry | input | before | proved | times as fast |\n|---|---|---:|---:|---:|\n");
     double gained = 0;

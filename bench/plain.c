@@ -25,7 +25,8 @@ enum {
     NO_TASK = 32,
     NO_JOB = 4096,
     MOST_GROUPS = 5,
-    SETTINGS = 1,
+    SETTINGS = 3,
+    MOST_LOST = 65535,
     RELEASE = 0 /* kind of a record; a completion is the other */
 };
 
@@ -200,6 +201,30 @@ static size_t count_own(uint32_t owner, struct list table)
     return numbers;
 }
 
+static uint32_t owned_ticks(struct list table, size_t i)
+{
+    uint32_t start = owned_start_of(table, i);
+    uint32_t end = owned_end_of(table, i);
+    return start <= end ? end - start : 0;
+}
+
+/* the window is the asked owner's and has a tick left */
+static bool is_left(const struct palikudyom_board *board, struct list table, size_t i)
+{
+    return owner_of(table, i) == board->owner && board->lost < owned_ticks(table, i);
+}
+
+/* how many numbers what is left of these windows has */
+static size_t count_left(const struct palikudyom_board *board, struct list table)
+{
+    size_t count = table.len / 3;
+    size_t numbers = 0;
+    for (size_t i = 0; i < count; i++)
+        if (is_left(board, table, i))
+            numbers += 2;
+    return numbers;
+}
+
 static struct checked check_shortest(uint32_t shortest)
 {
     return shortest == 0 || MOST_SHORTEST < shortest ? bad(12, MOST_WINDOWS) : FINE;
@@ -207,10 +232,7 @@ static struct checked check_shortest(uint32_t shortest)
 
 static bool is_sliver(uint32_t shortest, struct list table, size_t i)
 {
-    uint32_t start = owned_start_of(table, i);
-    uint32_t end = owned_end_of(table, i);
-    uint32_t ticks = start <= end ? end - start : 0;
-    return ticks < shortest;
+    return owned_ticks(table, i) < shortest;
 }
 
 static struct checked first_sliver(uint32_t shortest, struct list table)
@@ -232,33 +254,44 @@ static struct checked check_slivers(uint32_t shortest, struct list table)
     return or_else(range, each);
 }
 
-/* `numbers`: those of the owner's windows */
-static struct checked check_counted(struct palikudyom_board board, struct list table, size_t numbers)
+static struct checked check_rule(struct palikudyom_board board)
+{
+    if (board.rule == PALIKUDYOM_WHOLE)
+        return board.lost == 0 ? FINE : bad(13, 0);
+    return board.rule != PALIKUDYOM_LOSING || MOST_LOST < board.lost ? bad(13, 0) : FINE;
+}
+
+/* `left`: how many numbers are left of the owner's windows; who is left a tick has a window */
+static struct checked check_counted(struct palikudyom_board board, struct list table, size_t left)
 {
     struct checked whole = check_whole(board.frame, table);
-    struct checked owner = numbers == 0 ? bad(1, 0) : FINE;
+    struct checked owner = left == 0 && count_own(board.owner, table) == 0 ? bad(1, 0) : FINE;
     struct checked both = or_else(whole, owner);
-    return is_bad(both) ? both : check_slivers(board.shortest, table);
+    if (is_bad(both))
+        return both;
+    struct checked slivers = check_slivers(board.shortest, table);
+    struct checked loss = left == 0 ? bad(13, 0) : check_rule(board);
+    return or_else(slivers, loss);
 }
 
 static struct checked check_shared(struct palikudyom_board board, struct list table)
 {
-    return check_counted(board, table, count_own(board.owner, table));
+    return check_counted(board, table, count_left(&board, table));
 }
 
-static void gather(uint32_t owner, struct list table, uint32_t *out)
+static void gather(const struct palikudyom_board *board, struct list table, uint32_t *out)
 {
     size_t count = table.len / 3;
     size_t at = 0;
     for (size_t i = 0; i < count; i++)
-        if (owner_of(table, i) == owner) {
-            out[at] = owned_start_of(table, i);
+        if (is_left(board, table, i)) {
+            out[at] = board->lost + owned_start_of(table, i);
             out[at + 1] = owned_end_of(table, i);
             at += 2;
         }
 }
 
-/* the asked owner's windows, in pairs; or the refusal */
+/* what is left of the asked owner's windows, in pairs; or the refusal */
 struct own {
     struct checked table;
     struct list windows;
@@ -267,12 +300,12 @@ struct own {
 /* every entry's first step; `room` is for MOST_WINDOWS pairs and is cleared before it is filled, as that of the proved code */
 static struct own own_windows(struct palikudyom_board board, struct list table, uint32_t *room)
 {
-    size_t numbers = count_own(board.owner, table);
-    struct checked shared = check_counted(board, table, numbers);
+    size_t left = count_left(&board, table);
+    struct checked shared = check_counted(board, table, left);
     if (is_bad(shared))
         return (struct own){shared, {room, 0}};
-    gather(board.owner, table, room);
-    return (struct own){FINE, {room, numbers}};
+    gather(&board, table, room);
+    return (struct own){FINE, {room, left}};
 }
 
 /* Tables: cursor.rt */
@@ -1892,13 +1925,13 @@ static void as_owned(struct list pairs, uint32_t *out)
     }
 }
 
-struct palikudyom_answer plain_plan_with_shortest(const uint8_t *bytes_at, size_t bytes_len)
+/* a plan with the first `count` settings before its frame */
+static struct palikudyom_answer check_with(struct bytes bytes, size_t count)
 {
-    struct bytes bytes = {bytes_at, bytes_len};
     uint32_t settings[SETTINGS] = {0};
     uint32_t windows[2 * MOST_WINDOWS] = {0};
     uint32_t tasks[3 * MOST_TASKS] = {0};
-    struct listed first = read_numbers(bytes, 0, SETTINGS, settings);
+    struct listed first = read_numbers(bytes, 0, count, settings);
     if (is_bad(first.refusal))
         return refused(first.refusal);
     struct number frame = read_number(bytes, first.next);
@@ -1914,8 +1947,20 @@ struct palikudyom_answer plain_plan_with_shortest(const uint8_t *bytes_at, size_
         return refused(bad(9, t.next));
     uint32_t owned[3 * MOST_WINDOWS] = {0};
     as_owned((struct list){windows, w.count}, owned);
-    struct palikudyom_board board = {frame.value, 0, settings[0]};
+    struct palikudyom_board board = {
+        frame.value, 0, 0 < count ? settings[0] : 1, 1 < count ? settings[1] : PALIKUDYOM_WHOLE, 2 < count ? settings[2] : 0,
+    };
     return plain_verdict(board, owned, w.count / 2 * 3, tasks, t.count);
+}
+
+struct palikudyom_answer plain_plan_with_shortest(const uint8_t *bytes, size_t bytes_len)
+{
+    return check_with((struct bytes){bytes, bytes_len}, 1);
+}
+
+struct palikudyom_answer plain_plan_with_rule(const uint8_t *bytes, size_t bytes_len)
+{
+    return check_with((struct bytes){bytes, bytes_len}, 3);
 }
 
 END_OF_FILE

@@ -26,6 +26,7 @@ struct palikudyom_answer plain_replay(struct palikudyom_board board, const uint3
                                       const uint8_t *trace, size_t trace_len);
 
 struct palikudyom_answer plain_plan_with_shortest(const uint8_t *bytes, size_t bytes_len);
+struct palikudyom_answer plain_plan_with_rule(const uint8_t *bytes, size_t bytes_len);
 
 struct palikudyom_answer plain_make_summary(struct palikudyom_board board, const uint32_t *windows, size_t windows_len, uint32_t *out, size_t out_len);
 
