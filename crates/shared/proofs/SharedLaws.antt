@@ -7,6 +7,7 @@ use mathlib.Core.List.{List, [], _∷_, _++_, append-nil, append-assoc}
 use Prim.Native.Nat.{ℕ, zero, suc, _+_, _-_, _*_, _/_, _≤_, _<_}
 use native.Mathlib.Omega.{arith}
 use native.Mathlib.Numerals.{add-one}
+use native.Mathlib.Decide.{decLt}
 use lib.Dec.{ltb, eqb}
 use lib.ListN.{length, getD, set, take, drop, length-append, length-set, take-append-drop}
 use lib.Seq.{take-suc, take-length, length-take-le}
@@ -160,6 +161,15 @@ module _ (b : Board) (w : Owned) where
   -- the window is the asked owner's, and is longer than what is lost
   abbrev pub isLeft : Bool
   isLeft = eqb (w .owner) (b .owner) && ltb (b .lost) (w .window .end - w .window .start)
+
+  -- as the code tells it, without a difference that may be cut off
+  pub left-sum : ltb (b .lost + w .window .start) (w .window .end) ≡ ltb (b .lost) (w .window .end - w .window .start)
+  left-sum =
+      let ticks : ℕ = w .window .end - w .window .start in
+      elim (decLt (b .lost + w .window .start) (w .window .end)) [
+        | yes h ↦ lt-ltb (b .lost + w .window .start) (w .window .end) h ∙ sym (lt-ltb (b .lost) ticks (omega arith))
+        | no h ↦ le-ltb (b .lost + w .window .start) (w .window .end) (omega arith) ∙ sym (le-ltb (b .lost) ticks (omega arith))
+      ]
 
   pub left-hit : isLeft ≡ true → leftFor b (w ∷ []) ≡ (b .lost + w .window .start) ∷ w .window .end ∷ []
   unfolding windowsFor leftOf pieces piecesFrom

@@ -88,10 +88,13 @@ impl Owned {
         ensures { λ r. ⌜ r ≡ (eqb (self .owner) (board .owner) && ltb (board .lost) (self .window .end - self .window .start)) ⌝ }
     {
         let owner = board.owner;
+        let lost = board.lost as u64;
+        let start = self.window.start as u64;
+        let end = self.window.end as u64;
         if self.owner != owner {
             return false;
         }
-        board.lost < self.ticks()
+        lost + start < end
     }
 }
 

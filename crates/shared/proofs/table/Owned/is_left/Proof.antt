@@ -1,25 +1,33 @@
-use mathlib.Core.Path.{ap, ap₂}
-use mathlib.Core.Bool.{Bool, _&&_}
-use Prim.Native.Nat.{ℕ}
-use lib.Dec.{ltb, eqb}
+use mathlib.Core.Path.{_∙_}
 use borrow.Author.Needs.{needs}
 use borrow.Author.Tests.{eq-eqb, ne-eqb}
+use Rattle.tables.specs.Told.{boardOf}
+use Rattle.shared.specs.Told.{ownedBy}
+use Rattle.shared.proofs.SharedLaws.{left-sum}
 use Rattle.shared.proofs.table.Owned.is_left.Statement.{statement}
 use Rattle.shared.proofs.table.Owned.is_left.Tie as tie
 use Rattle.shared.proofs.table.Owned.is_left.Reads as reads
 use Rattle.shared.proofs.table.Owned.is_left.Lts as lts
-use Rattle.shared.proofs.table.Owned.ticks.Reads as ticks-reads
+
+cast-lost : tie.Need-cast-lost
+cast-lost c = search needs
+
+cast-start : tie.Need-cast-start
+cast-start c = search needs
+
+cast-end : tie.Need-cast-end
+cast-end c = search needs
 
 returns : tie.Need-returns
 returns c = rw (ne-eqb _ _ (c .if1 .taken))
 
-ticks-requires : tie.Need-ticks-requires
-ticks-requires c κs = search needs
+add-result : tie.Need-add-result
+add-result c = search needs
 
 returns-2 : tie.Need-returns-2
 returns-2 c =
-    let a = c .before .before .before .before .args in
-    rw (eq-eqb (a .self .owner) (a .board .owner) (c .before .before .if1 .left)) (ap (ltb (a .board .lost)) (c .before .ticks .ensures))
+    let a = c .before .before .before .before .before .args in
+    rw (eq-eqb (a .self .owner) (a .board .owner) (c .if1 .left)) (left-sum (boardOf (a .board)) (ownedBy (a .self)))
 
 pub is-left-spec : {M : Type 1} → statement M
-is-left-spec = tie.close (tie.spec returns ticks-requires returns-2)
+is-left-spec = tie.close (tie.spec cast-lost cast-start cast-end returns add-result returns-2)
