@@ -1,7 +1,7 @@
 # After text.awk: a plan as text to the numbers of a plan file. Where windows or tasks have owners, or the environment's OWNER asks for one, to the lists
 # of a query instead: `table` and the frame and windows in threes, `tasks` and the tasks of the asked owner. A query takes only so many numbers, so the
-# lists are cut where they have one window or task more than is legal: they are refused for that, whatever follows. Before either stand the word
-# `shortest` and the shortest allowed window, if the text has one.
+# lists are cut where they have one window or task more than is legal: they are refused for that, whatever follows. Before either stand the settings that
+# the text has, and a comma: none, the shortest allowed window, or that, rule 2 and the ticks that the board loses of every window.
 BEGIN {
     owners = ENVIRON["OWNER"] != ""
     keptWindows = 65
@@ -31,6 +31,12 @@ $1 == "shortest" {
     shortest = numbers(1, "shortest TICKS")
     next
 }
+$1 == "lose" {
+    if (lost != "")
+        bad("a second lose")
+    lost = numbers(1, "lose TICKS")
+    next
+}
 $1 == "window" {
     pair = owned(2, "window START END")
     windows = windows pair
@@ -48,7 +54,7 @@ $1 == "task" {
         ownTasks = ownTasks task
     next
 }
-{ bad("`" $1 "` is none of frame, shortest, window, task") }
+{ bad("`" $1 "` is none of frame, shortest, lose, window, task") }
 
 function least(a, b) {
     return a < b ? a : b
@@ -57,8 +63,8 @@ function least(a, b) {
 END {
     if (frame == "")
         bad("no frame: write `frame TICKS`")
-    if (shortest != "")
-        printf "shortest%s ", shortest
+    settings = lost == "" ? shortest : (shortest == "" ? " 1" : shortest) " 2" lost
+    printf "%s, ", substr(settings, 2)
     if (owners)
         print "table" frame " " 3 * least(windowCount + 0, keptWindows) threes " tasks " 3 * least(ownCount + 0, keptTasks) ownTasks
     else
