@@ -1,3 +1,4 @@
 pub mod Told
 pub mod Determined
 pub mod Slivers
+pub mod Losses

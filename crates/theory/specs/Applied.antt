@@ -62,10 +62,10 @@ use Rattle.theory.specs.Forms.{withSettings, refused-behind}
 use Rattle.theory.specs.Edits.{edit-parts, Left, edit-leaves, edit-as-made, new-refused, count-answered, add-then-remove, remove-then-add, move-back, other-owner, edit-own}
 use Rattle.theory.specs.Edits.{EditRefusal, edit-refusal, refusal-edit, Fourteen, exactly-fourteen, Absent, exactly-seven, fourteen-own, EditTold, edit-told-apart}
 use Rattle.theory.specs.PlanBytes.{Writable, plan-length, round-trip, left-over, only-bytes}
-use Rattle.theory.specs.Lost.{supplied-exactly, asked-left, rule-one, left-table, own-rule-one, replay-left, replay-rule-one}
+use Rattle.theory.specs.Lost.{supplied-exactly, asked-left, rule-one, left-table, own-rule-one, ends-left, replay-left, replay-rule-one}
 use Rattle.theory.specs.Lost.{NoLoss, no-loss-fault, no-loss, replay-no-loss, own-no-loss, edit-no-loss}
 use Rattle.theory.specs.Thirteen.{Thirteen, shared-thirteen, exactly-thirteen, own-thirteen, no-tick-left, TraceThirteen, replay-thirteen, PlanThirteen, plan-thirteen, EditThirteen, edit-thirteen}
-use Rattle.theory.specs.MoreLost.{more-meets, more-lost-tick, more-lost-supply, more-lost-frame, more-lost-least, more-lost-fine, more-lost-meets, more-lost-thirteen, less-lost-not-thirteen}
+use Rattle.theory.specs.MoreLost.{more-meets, more-lost-tick, more-lost-supply, more-lost-frame, more-lost-least, more-lost-amount, more-lost-fine, more-lost-meets, more-lost-thirteen, less-lost-not-thirteen}
 use Rattle.theory.specs.RulePlans.{oldest-form, oldest-refused, m-first-form, m-first-refused, m-first-plan, no-loss-plan}
 
 abbrev pub w6 : List ℕ
@@ -897,7 +897,7 @@ pair-stale =
 
 -- ---- boards that pay for a switch: of X's windows a board that loses one tick leaves (1,2) and (6,7)
 
-abbrev w4 : List ℕ
+abbrev pub w4 : List ℕ
 w4 = 1 ∷ 4 ∷ 4 ∷ []
 
 pub lost-misses : verdictFor (losing 8 0 1) XShared w4 ≡ given (miss 4 2 1 0)
@@ -905,7 +905,7 @@ unfolding reply table
 lost-misses = let e : aVerdict (verdictFor (losing 8 0 1) XShared w4) ≡ aVerdict (given (miss 4 2 1 0)) = row table examples "W4's task after a loss" in cc
 
 -- a task of one tick that is due in 5
-abbrev in-five : List ℕ
+abbrev pub in-five : List ℕ
 in-five = 1 ∷ 8 ∷ 5 ∷ []
 
 lost-meets : verdictFor (losing 8 0 1) XShared in-five ≡ given (meets 8)
@@ -947,6 +947,11 @@ left-as-owner = sym (rule-one (verdict-entry w4) teams (losing 8 0 1) XShared lo
 left-fine-list : sharedFault teams (onFor 8 1) (1 ∷ 2 ∷ 1 ∷ 6 ∷ 7 ∷ 1 ∷ []) ≡ fine
 unfolding everything
 left-fine-list = left-table teams (losing 8 0 1) XShared lost-fine-list 1 (omega arith)
+
+-- the least supply of five ticks is found at the ends of these windows, ticks 2 and 7
+lost-ends : 1 ≡ least (λ i. supply (suppliedBy (losing 8 0 1) X) (endOf (1 ∷ 2 ∷ 6 ∷ 7 ∷ []) i) 5) 2
+unfolding everything
+lost-ends = ends-left (losing 8 0 1) XShared 5 1 refl
 
 -- its summary is made of what is left
 left-made : makeOutFor (losing 8 0 1) XShared (replicate 9 9) ≡ makeOutFor (onFor 8 1) (1 ∷ 2 ∷ 1 ∷ 6 ∷ 7 ∷ 1 ∷ []) (replicate 9 9)
@@ -1004,6 +1009,10 @@ lost-fewer = more-lost-frame (on 8) (losing 8 0 1) refl (omega arith) (windowsOf
 
 lost-least : (t : ℕ) → leastSupply (suppliedBy (losing 8 0 1) X) 8 t ≤ leastSupply (suppliedBy (on 8) X) 8 t
 lost-least = more-lost-least (on 8) (losing 8 0 1) refl (omega arith) (windowsOf X)
+
+lost-amount : 1 ≤ 2
+unfolding everything
+lost-amount = more-lost-amount (on 8) (losing 8 0 1) refl (omega arith) refl XShared 5 1 2 refl refl
 
 less-fine : sharedFault teams (on 8) XShared ≡ fine
 less-fine = more-lost-fine (on 8) (losing 8 0 1) refl (omega arith) refl refl rule-one-board teams XShared lost-fine-list

@@ -1,21 +1,25 @@
 -- Document 02, request 7: boards that pay for a switch. Which ticks an owner is supplied; that what is left of its windows is a legal table, on which rule 1
 -- answers as the board does here; and that rule 2 without a loss answers as rule 1. One statement each, over every entry and any number of owners
 use mathlib.Core.Path.{_≡_, refl, sym, ap, _∙_}
-use mathlib.Core.Bool.{true}
+use mathlib.Core.Bool.{Bool, true}
 use mathlib.Core.Logic.{_↔_}
 use mathlib.Core.List.{List}
-use Prim.Native.Nat.{ℕ, _%_, _<_}
+use Prim.Native.Nat.{ℕ, _%_, _/_, _<_}
+use lib.ListN.{length}
+use Rattle.scope.specs.Numbers.{least}
 use Rattle.scope.specs.Limits.{teams}
+use Rattle.scope.specs.Ticks.{supply}
 use Rattle.scope.specs.Windows.{Board, framed, windowsOf, supplied, suppliedBy}
-use Rattle.scope.specs.Answers.{Fault.fine, ruleFault}
+use Rattle.scope.specs.Answers.{Fault.fine, Answer.given, ruleFault, leastSupplyAnswer}
 use Rattle.scope.specs.Trace.{timed, traceOf}
 use Rattle.scope.specs.Replay.{replayAnswer}
-use Rattle.scope.specs.Shared.{ownedOf, windowsFor, own, leftOf, ownLeft, asOwned, lostFault, sharedFault, ownFault, ownAnswer, ownOut, unlessRefused, askedFor, recordsFor, replayFor}
+use Rattle.scope.specs.Shared.{ownedOf, windowsFor, own, leftOf, ownLeft, asOwned, lostFault, sharedFault, ownFault, ownAnswer, ownOut, unlessRefused, askedFor, leastSupplyFor, recordsFor, replayFor}
 use Rattle.scope.specs.Summary.{summaryOf, summaryFault, Edit, tableIn, editedList, editFault, editAnswer, editWindows, editSummary}
 use Rattle.theory.specs.Gaps.{fits}
-use Rattle.theory.specs.Shared.{Gives, covers-given, given-covers, own-fine, asked-fine}
+use Rattle.theory.specs.Rows.{endOf, ends-answer}
+use Rattle.theory.specs.Shared.{Gives, covers-given, given-covers, own-fine, asked-fine, asked-given}
 use Rattle.theory.specs.Left.{left-supplied, left-even, left-whole, left-fine, left-legal}
-use Rattle.theory.specs.Alone.{Entry, table-same, supplied-same, whole-same, sliver-same, absent-same, left-same, on-alike, pairs-only, own-pairs, one-owner, or-nine, records-entry}
+use Rattle.theory.specs.Alone.{Entry, table-same, supplied-same, whole-same, sliver-same, absent-same, left-same, on-alike, pairs-only, own-pairs, one-owner, or-nine, least-supply-entry, records-entry}
 
 -- ---- a tick
 
@@ -66,6 +70,15 @@ module _ (owners : ℕ) (b : Board) (ws : List ℕ) (listed : sharedFault owners
       × (ownOut owners b ws out ≡ ownOut owners (onlyFor b o) (asOwned o (ownLeft b ws)) out)
   unfolding ownAnswer ownOut ownFault
   own-rule-one room out = (rw (listed, left-table, left-again), rw (listed, left-table, left-again))
+
+-- the starts for the amount are still window ends: the least supply is the least over the ends of what is left
+pub ends-left : (b : Board) (ws : List ℕ) (t v : ℕ) → leastSupplyFor b ws t ≡ given v →
+    v ≡ least (λ i. supply (suppliedBy b (own b ws)) (endOf (ownLeft b ws) i) t) (length (ownLeft b ws) / 2)
+unfolding leastSupplyFor
+ends-left b ws t v e =
+    let listed = asked-given teams b ws (λ l. leastSupplyAnswer b l t) v e .0 in
+    ends-answer (framed (b .frame)) (ownLeft b ws) t v refl (sym (asked-left (least-supply-entry t) teams b ws listed) ∙ e)
+    ∙ ap (λ (σ : ℕ → Bool). least (λ i. supply σ (endOf (ownLeft b ws) i) t) (length (ownLeft b ws) / 2)) (sym (left-supplied b (windowsOf (own b ws))))
 
 -- a trace, whose bytes are refused before any table, is answered as on that table too
 module _ (b : Board) (ws ts bytes : List ℕ) (listed : sharedFault teams b ws ≡ fine) where
