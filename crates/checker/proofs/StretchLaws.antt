@@ -20,7 +20,7 @@ use Rattle.checker.specs.declared.stretch.Stretch.{Stretch}
 use Rattle.checker.specs.Stretches.{onAt, slidOf, Slides, Spans}
 
 pub on-le : (b : Board) (ws : List ℕ) (c : Cursor) → onAt b ws c ≤ 1
-on-le b ws c = bit-le (gives b (windowAt (windowsOf ws) (c .window)) (c .tick))
+on-le b ws c = bit-le (gives (b .lost) (windowAt (windowsOf ws) (c .window)) (c .tick))
 
 module _ (b : Board) (ws : List ℕ) (ok : LegalTable b ws) where
   abbrev σ : ℕ → Bool

@@ -12,7 +12,7 @@ use Rattle.checker.specs.declared.stretch.Stretch.{Stretch}
 
 -- 1 where the window at hand gives the tick, else 0
 abbrev pub onAt : Board → List ℕ → Cursor → ℕ
-onAt b ws c = bit (gives b (windowAt (windowsOf ws) (c .window)) (c .tick))
+onAt b ws c = bit (gives (b .lost) (windowAt (windowsOf ws) (c .window)) (c .tick))
 
 -- one tick comes and one goes
 abbrev pub slidOf : Board → List ℕ → Stretch → Stretch

@@ -46,14 +46,14 @@ windowsFor o (w ∷ ws) = cond (eqb (w .owner) o) (w .window .start ∷ w .windo
 abbrev pub own : Board → List ℕ → List ℕ
 own b numbers = windowsFor (b .owner) (ownedOf numbers)
 
--- what the board leaves of windows, as a list of numbers in pairs: each start moved by the lost ticks, and windows no longer than these left out
-unfoldable pub leftOf : Board → List Window → List ℕ
-leftOf b [] = []
-leftOf b (w ∷ ws) = cond (ltb (b .lost) (w .end - w .start)) ((b .lost + w .start) ∷ w .end ∷ leftOf b ws) (leftOf b ws)
+-- what is left of windows of which the first q ticks are lost, as a list of numbers in pairs: each start moved by q, and windows no longer than q left out
+unfoldable pub leftOf : ℕ → List Window → List ℕ
+leftOf q [] = []
+leftOf q (w ∷ ws) = cond (ltb q (w .end - w .start)) ((q + w .start) ∷ w .end ∷ leftOf q ws) (leftOf q ws)
 
--- of the windows of the owner that is asked for
+-- what the board leaves of the windows of the owner that is asked for
 abbrev pub ownLeft : Board → List ℕ → List ℕ
-ownLeft b numbers = leftOf b (windowsOf (own b numbers))
+ownLeft b numbers = leftOf (b .lost) (windowsOf (own b numbers))
 
 -- a list of pairs, all read as owner o's
 unfoldable pub asOwned : ℕ → List ℕ → List ℕ
@@ -111,7 +111,7 @@ sliverFault b ws = shortestFault b orElse faultAt 12 (firstSliver b (ownedOf ws)
 
 -- 13, by the board and one owner's windows, in pairs: a rule or lost ticks that a board cannot have, then no tick is left
 unfoldable pub lostFault : Board → List ℕ → Fault
-lostFault b mine = ruleFault b orElse faultIf (eqb (length (leftOf b (windowsOf mine))) 0) 13 0
+lostFault b mine = ruleFault b orElse faultIf (eqb (length (leftOf (b .lost) (windowsOf mine))) 0) 13 0
 
 -- what an entry refuses of a table
 unfoldable pub sharedFault : ℕ → Board → List ℕ → Fault

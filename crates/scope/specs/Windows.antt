@@ -35,18 +35,18 @@ windowsOf = pieces 2 window
 abbrev pub windowAt : List Window → ℕ → Window
 windowAt ws i = getD ws i (window 0 0)
 
--- window w gives tick k of a frame: the first ticks of every window, as many as the board loses, are not given. Under rule 1 none are lost
-unfoldable pub gives : Board → Window → ℕ → Bool
-gives b w k = leb (b .lost + w .start) k && ltb k (w .end)
+-- window w gives tick k of a frame, where the first q ticks of every window are lost: under rule 1 q is 0
+unfoldable pub gives : ℕ → Window → ℕ → Bool
+gives q w k = leb (q + w .start) k && ltb k (w .end)
 
 -- one of the windows gives tick k of a frame
-unfoldable pub covers : Board → List Window → ℕ → Bool
-covers b [] k = false
-covers b (w ∷ ws) k = gives b w k || covers b ws k
+unfoldable pub covers : ℕ → List Window → ℕ → Bool
+covers q [] k = false
+covers q (w ∷ ws) k = gives q w k || covers q ws k
 
--- tick k is supplied if a window gives k mod P
+-- tick k is supplied if a window gives k mod P of what the board does not lose
 unfoldable pub supplied : Board → List Window → ℕ → Bool
-supplied b ws k = covers b ws (k % b .frame)
+supplied b ws k = covers (b .lost) ws (k % b .frame)
 
 -- the ticks that a table supplies, as an entry is given it: the windows are a list of numbers
 abbrev pub suppliedBy : Board → List ℕ → ℕ → Bool

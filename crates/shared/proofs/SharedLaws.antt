@@ -94,16 +94,16 @@ unfolding windowsFor
 gathers-own o = record { empty = refl; append = for-append o }
 
 abbrev pub leftFor : Board → List Owned → List ℕ
-leftFor b ws = leftOf b (windowsOf (windowsFor (b .owner) ws))
+leftFor b ws = leftOf (b .lost) (windowsOf (windowsFor (b .owner) ws))
 
-left-append : (b : Board) (vs ws : List Window) → leftOf b (vs ++ ws) ≡ leftOf b vs ++ leftOf b ws
+left-append : (b : Board) (vs ws : List Window) → leftOf (b .lost) (vs ++ ws) ≡ leftOf (b .lost) vs ++ leftOf (b .lost) ws
 unfolding leftOf
 left-append b [] ws = refl
 left-append b (v ∷ vs) ws = go (ltb (b .lost) (v .end - v .start)) (left-append b vs ws)
   where
-    go : (t : Bool) → leftOf b (vs ++ ws) ≡ leftOf b vs ++ leftOf b ws →
-        cond t ((b .lost + v .start) ∷ v .end ∷ leftOf b (vs ++ ws)) (leftOf b (vs ++ ws))
-        ≡ cond t ((b .lost + v .start) ∷ v .end ∷ leftOf b vs) (leftOf b vs) ++ leftOf b ws
+    go : (t : Bool) → leftOf (b .lost) (vs ++ ws) ≡ leftOf (b .lost) vs ++ leftOf (b .lost) ws →
+        cond t ((b .lost + v .start) ∷ v .end ∷ leftOf (b .lost) (vs ++ ws)) (leftOf (b .lost) (vs ++ ws))
+        ≡ cond t ((b .lost + v .start) ∷ v .end ∷ leftOf (b .lost) vs) (leftOf (b .lost) vs) ++ leftOf (b .lost) ws
     go true e = ap (λ (l : List ℕ). (b .lost + v .start) ∷ v .end ∷ l) e
     go false e = e
 
@@ -115,7 +115,7 @@ gathers-left b = record { empty = refl; append = append }
     append vs ws =
         let o = b .owner in
         let even = for-even o vs in
-        ap (λ (l : List ℕ). leftOf b (windowsOf l)) (for-append o vs ws)
+        ap (λ (l : List ℕ). leftOf (b .lost) (windowsOf l)) (for-append o vs ws)
         ∙ ap (leftOf b) (pieces-append Window 2 window (omega arith) (length (windowsFor o vs) / 2) (windowsFor o vs) (windowsFor o ws) (omega arith))
         ∙ left-append b (windowsOf (windowsFor o vs)) (windowsOf (windowsFor o ws))
 
@@ -205,7 +205,7 @@ module _ (b : Board) (ws : List ℕ) where
   -- of no window nothing is left
   pub left-present : (left : ℕ) → left ≡ length (ownLeft b ws) → left ≢ 0 → fine ≡ absentOwnerFault b ws
   left-present left e u =
-      let few = left-few b (windowsOf (own b ws)) in
+      let few = left-few (b .lost) (windowsOf (own b ws)) in
       let count = pieces-length Window 2 window (own b ws) in
       present-own (λ z. u (omega (arith, e, few, count, z)))
 

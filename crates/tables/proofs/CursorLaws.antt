@@ -106,7 +106,7 @@ module _ (b : Board) (ws : List ℕ) (ok : LegalTable b ws) where
   stands (suc k) = stands-after k (cursorAt b ws k) (stands k)
 
   -- the window at hand gives the tick exactly where the tick is supplied
-  pub on-at : (k : ℕ) (c : Cursor) → c ≡ cursorAt b ws k → gives b (windowAt (windowsOf ws) (c .window)) (c .tick) ≡ suppliedBy b ws k
+  pub on-at : (k : ℕ) (c : Cursor) → c ≡ cursorAt b ws k → gives (b .lost) (windowAt (windowsOf ws) (c .window)) (c .tick) ≡ suppliedBy b ws k
   unfolding supplied
   on-at k c e =
       let s : Stands k c = rw e (stands k) in

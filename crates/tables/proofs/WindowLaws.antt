@@ -55,26 +55,26 @@ unfitting b w n p e = breaks (windowFits b w) w 3 0 n p (e ∙ sym (window-alone
 
 -- window i, or one after it, gives tick k of a frame
 abbrev pub coversFrom : Board → List Window → ℕ → ℕ → Bool
-coversFrom b ws i k = covers b (drop i ws) k
+coversFrom (b .lost) ws i k = covers (b .lost) (drop i ws) k
 
 module _ (b : Board) (ws : List Window) (i k : ℕ) where
   -- window i, and then the windows after it
-  covers-step : i < length ws → coversFrom b ws i k ≡ (gives b (windowAt ws i) k || coversFrom b ws (i + 1) k)
+  covers-step : i < length ws → coversFrom (b .lost) ws i k ≡ (gives (b .lost) (windowAt ws i) k || coversFrom (b .lost) ws (i + 1) k)
   unfolding covers
   covers-step h = rw (add-one i, drop-cons ws i (window 0 0) h)
 
   -- a window w, read at i, gives the tick or does not
-  pub covers-hit : {w : Window} → i < length ws → w ≡ windowAt ws i → gives b w k ≡ true → coversFrom b ws i k ≡ true
+  pub covers-hit : {w : Window} → i < length ws → w ≡ windowAt ws i → gives (b .lost) w k ≡ true → coversFrom (b .lost) ws i k ≡ true
   covers-hit h r e = covers-step h ∙ rw (← r, e)
 
-  pub covers-skip : {w : Window} → i < length ws → w ≡ windowAt ws i → gives b w k ≡ false → coversFrom b ws i k ≡ coversFrom b ws (i + 1) k
+  pub covers-skip : {w : Window} → i < length ws → w ≡ windowAt ws i → gives (b .lost) w k ≡ false → coversFrom (b .lost) ws i k ≡ coversFrom (b .lost) ws (i + 1) k
   covers-skip h r e = covers-step h ∙ rw (← r, e)
 
   -- past the last window
-  pub covers-end : length ws ≤ i → coversFrom b ws i k ≡ false
+  pub covers-end : length ws ≤ i → coversFrom (b .lost) ws i k ≡ false
   unfolding covers
   covers-end h = none (drop i ws) (length-drop i ws ∙ omega arith)
     where
-      none : (rest : List Window) → length rest ≡ 0 → covers b rest k ≡ false
+      none : (rest : List Window) → length rest ≡ 0 → covers (b .lost) rest k ≡ false
       none [] e = refl
       none (w ∷ rest) e = absurd (omega arith)

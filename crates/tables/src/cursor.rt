@@ -43,7 +43,7 @@ impl Cursor {
 
     // Whether the window at hand gives the tick, where no tick is lost.
     pub fn is_on(self, windows: &[u32]) -> bool
-        ensures { λ r. ⌜ ((P : ℕ) → r ≡ gives (framed P) (windowAt (windowsOf (now (windows .entry))) (self .window)) (self .tick)) ⌝ }
+        ensures { λ r. ⌜ ((P : ℕ) → r ≡ gives 0 (windowAt (windowsOf (now (windows .entry))) (self .window)) (self .tick)) ⌝ }
     {
         let window = window_at(windows, self.window);
         window.holds(self.tick as u64)

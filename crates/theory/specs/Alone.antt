@@ -37,15 +37,9 @@ pub record Entry {R : Type 0} (refusal : ℕ → ℕ → R) (entry : Board → L
   pub checks : (b : Board) (ws : List ℕ) (n p : ℕ) → tableFault b ws ≡ fault n p → entry b ws ≡ refusal n p
   pub by-ticks : (b c : Board) (ws vs : List ℕ) → b .frame ≡ c .frame → tableFault b ws ≡ tableFault c vs → suppliedBy b ws ≡ suppliedBy c vs → entry b ws ≡ entry c vs
 
-covers-board : (b c : Board) (ws : List Window) → b .lost ≡ c .lost → (k : ℕ) → covers b ws k ≡ covers c ws k
-unfolding covers gives
-covers-board b c [] e k = refl
-covers-board b c (w ∷ ws) e k = rw (covers-board b c ws e k, e)
-
 pub supplied-same : (b c : Board) (ws : List ℕ) → b .frame ≡ c .frame → b .lost ≡ c .lost → suppliedBy b ws ≡ suppliedBy c ws
 unfolding supplied
-supplied-same b c ws e l =
-    fun-ext (λ k. ap (λ (P : ℕ). covers b (windowsOf ws) (k % P)) e ∙ covers-board b c (windowsOf ws) l (k % c .frame))
+supplied-same b c ws e l = rw (e, l)
 
 pub table-same : (b c : Board) (ws : List ℕ) → b .frame ≡ c .frame → tableFault b ws ≡ tableFault c ws
 unfolding tableFault frameFault windowFault badWindow windowLegal
@@ -157,15 +151,10 @@ pub absent-same : (b c : Board) (ws vs : List ℕ) → own b ws ≡ own c vs →
 unfolding absentOwnerFault
 absent-same b c ws vs same = ap (λ (l : List ℕ). faultIf (eqb (length l) 0) 1 0) same
 
-pub left-same : (b c : Board) → b .lost ≡ c .lost → (ws : List Window) → leftOf b ws ≡ leftOf c ws
-unfolding leftOf
-left-same b c e [] = refl
-left-same b c e (w ∷ ws) = rw (left-same b c e ws, e)
-
 -- 13 is by an owner's windows, the rule and the lost ticks alone
 pub lost-same : (b c : Board) (mine : List ℕ) → b .rule ≡ c .rule → b .lost ≡ c .lost → lostFault b mine ≡ lostFault c mine
 unfolding lostFault ruleFault
-lost-same b c mine r e = rw (left-same b c e (windowsOf mine), r, e)
+lost-same b c mine r e = rw (r, e)
 
 pub own-same : (b c : Board) (ws vs : List ℕ) → Alike b c → own b ws ≡ own c vs →
     (absentOwnerFault b ws orElse lostFault b (own b ws)) ≡ (absentOwnerFault c vs orElse lostFault c (own c vs))
@@ -276,7 +265,7 @@ own-alone owners b c ws vs e f a same room out =
     let g = shared-own owners b ws e in
     let h = shared-own owners c vs f in
     let s = own-same b c ws vs a same in
-    let l : ownLeft b ws ≡ ownLeft c vs = rw same (left-same b c (a .lost) (windowsOf (own c vs))) in
+    let l : ownLeft b ws ≡ ownLeft c vs = rw (same, a .lost) in
     (rw (g, h, s, l), rw (g, h, s, l))
 
 -- ---- a table with one owner
@@ -286,7 +275,7 @@ whole-left : (b : Board) (ws : List ℕ) → tableFault b ws ≡ fine → b .rul
 unfolding lostFault ruleFault
 whole-left b ws e r q =
     let ok = table-legal b ws e q in
-    let all = left-whole b q ws (ok .even) (λ i h. fits b (windowsOf ws) (ok .windows) i h .0) in
+    let all = left-whole (b .lost) q ws (ok .even) (λ i h. fits b (windowsOf ws) (ok .windows) i h .0) in
     rw (all, r, q, ne-eqb (length ws) 0 (λ z. omega (arith, ok .some)))
 
 module _ (o : ℕ) where

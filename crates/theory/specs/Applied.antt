@@ -64,7 +64,7 @@ use Rattle.theory.specs.Edits.{EditRefusal, edit-refusal, refusal-edit, 
 use Rattle.theory.specs.PlanBytes.{Writable, plan-length, round-trip, left-over, only-bytes}
 use Rattle.theory.specs.Lost.{supplied-exactly, asked-left, rule-one, left-table, own-rule-one, ends-left, replay-left, replay-rule-one}
 use Rattle.theory.specs.Lost.{NoLoss, no-loss-fault, no-loss, replay-no-loss, own-no-loss, edit-no-loss}
-use Rattle.theory.specs.Thirteen.{Thirteen, shared-thirteen, exactly-thirteen, own-thirteen, no-tick-left, TraceThirteen, replay-thirteen, PlanThirteen, plan-thirteen, EditThirteen, edit-thirteen}
+use Rattle.theory.specs.Thirteen.{Thirteen, shared-thirteen, exactly-thirteen, own-thirteen, no-tick-left, no-tick-asked, TraceThirteen, replay-thirteen, PlanThirteen, plan-thirteen, EditThirteen, edit-thirteen}
 use Rattle.theory.specs.MoreLost.{more-meets, more-lost-tick, more-lost-supply, more-lost-frame, more-lost-least, more-lost-amount, more-lost-fine, more-lost-meets, more-lost-thirteen, less-lost-not-thirteen}
 use Rattle.theory.specs.RulePlans.{oldest-form, oldest-refused, m-first-form, m-first-refused, m-first-plan, no-loss-plan}
 
@@ -946,7 +946,7 @@ left-as-owner = sym (rule-one (verdict-entry w4) teams (losing 8 0 1) XShared lo
 
 left-fine-list : sharedFault teams (onFor 8 1) (1 ∷ 2 ∷ 1 ∷ 6 ∷ 7 ∷ 1 ∷ []) ≡ fine
 unfolding everything
-left-fine-list = left-table teams (losing 8 0 1) XShared lost-fine-list 1 (omega arith)
+left-fine-list = left-table teams (losing 8 0 1) XShared 1 (omega arith) refl (omega arith)
 
 -- the least supply of five ticks is found at the ends of these windows, ticks 2 and 7
 lost-ends : 1 ≡ least (λ i. supply (suppliedBy (losing 8 0 1) X) (endOf (1 ∷ 2 ∷ 6 ∷ 7 ∷ []) i) 5) 2
@@ -1075,7 +1075,7 @@ x-no-tick = no-tick-left (losing 8 0 2) X refl .0 refl
 
 x-none-left : ownLeft (losing 8 0 2) XShared ≡ []
 unfolding everything
-x-none-left = no-tick-left (losing 8 0 2) X refl .1 x-no-tick
+x-none-left = no-tick-asked teams (losing 8 0 2) XShared refl refl .1 x-no-tick
 
 trace-thirteen : TraceThirteen (losing 8 0 2) XShared trace
 unfolding everything

@@ -130,16 +130,16 @@ module _ (q : ℕ) (pos : 1 ≤ q) where
       ]
 
   -- a finer window gives the parts of the ticks that the window gives
-  finer-gives : (b : Board) (w : Window) (y : ℕ) → gives (finerBoard q b) (window (q * w .start) (q * w .end)) y ≡ gives b w (y / q)
+  finer-gives : (lost : ℕ) (w : Window) (y : ℕ) → gives (q * lost) (window (q * w .start) (q * w .end)) y ≡ gives lost w (y / q)
   unfolding gives
-  finer-gives b w y =
-      let e : q * b .lost + q * w .start ≡ q * (b .lost + w .start) = omega arith in
-      rw (e, finer-start (b .lost + w .start) y, finer-end y (w .end))
+  finer-gives lost w y =
+      let e : q * lost + q * w .start ≡ q * (lost + w .start) = omega arith in
+      rw (e, finer-start (lost + w .start) y, finer-end y (w .end))
 
-  finer-covers : (b : Board) (ws : List Window) (y : ℕ) → covers (finerBoard q b) (finerWindows q ws) y ≡ covers b ws (y / q)
+  finer-covers : (lost : ℕ) (ws : List Window) (y : ℕ) → covers (q * lost) (finerWindows q ws) y ≡ covers lost ws (y / q)
   unfolding covers
-  finer-covers b [] y = refl
-  finer-covers b (w ∷ ws) y = rw (finer-gives b w y, finer-covers b ws y)
+  finer-covers lost [] y = refl
+  finer-covers lost (w ∷ ws) y = rw (finer-gives lost w y, finer-covers lost ws y)
 
   -- a part's place in the finer frame lies in the tick's place in the frame
   finer-place : (P k : ℕ) → 0 < P → (k % (q * P)) / q ≡ (k / q) % P
@@ -150,7 +150,7 @@ module _ (q : ℕ) (pos : 1 ≤ q) where
 
   finer-supplied : (b : Board) (ws : List Window) → 0 < b .frame → supplied (finerBoard q b) (finerWindows q ws) ≡ finer q (supplied b ws)
   unfolding supplied
-  finer-supplied b ws h = fun-ext (λ k. finer-covers b ws (k % (q * b .frame)) ∙ ap (covers b ws) (finer-place (b .frame) k h))
+  finer-supplied b ws h = fun-ext (λ k. finer-covers (b .lost) ws (k % (q * b .frame)) ∙ ap (covers (b .lost) ws) (finer-place (b .frame) k h))
 
 -- in q-th parts of a tick the least supply of t ticks is q times as much
 pub finer-least : (b : Board) (ws : List Window) (q : ℕ) → 0 < b .frame → 1 ≤ q → (t : ℕ) →

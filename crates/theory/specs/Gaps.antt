@@ -56,59 +56,59 @@ module _ (b : Board) (ws : List Window) (legal : badWindow b ws ≡ none) where
       ]
 
   -- past the end of window i no window up to it gives a tick, and before the start of window i none from it on
-  none-up-to : (i k : ℕ) → i < length ws → endOf i ≤ k → (j : ℕ) → j ≤ i → gives b (windowAt ws j) k ≡ false
+  none-up-to : (i k : ℕ) → i < length ws → endOf i ≤ k → (j : ℕ) → j ≤ i → gives (b .lost) (windowAt ws j) k ≡ false
   none-up-to i k h l j m =
-      gives-after b (windowAt ws j) k
+      gives-after (b .lost) (windowAt ws j) k
       (elim (ℕ-discrete j i) [ yes e ↦ rw e l | no u ↦ omega (arith, before j i (omega arith) h, fits i h .0) ])
 
-  none-from : (i k : ℕ) → i < length ws → k < startOf i → (j : ℕ) → i ≤ j → j < length ws → gives b (windowAt ws j) k ≡ false
+  none-from : (i k : ℕ) → i < length ws → k < startOf i → (j : ℕ) → i ≤ j → j < length ws → gives (b .lost) (windowAt ws j) k ≡ false
   none-from i k h l j m u =
-      gives-before b (windowAt ws j) k
+      gives-before (b .lost) (windowAt ws j) k
       (elim (ℕ-discrete i j) [ yes e ↦ rw (← e) (omega (arith, l)) | no v ↦ omega (arith, before i j (omega arith) u, fits i h .0) ])
 
-  here : (k : ℕ) → k < b .frame → σ k ≡ covers b ws k
+  here : (k : ℕ) → k < b .frame → σ k ≡ covers (b .lost) ws k
   unfolding supplied
-  here k h = ap (covers b ws) (mod-eq-of-lt h)
+  here k h = ap (covers (b .lost) ws) (mod-eq-of-lt h)
 
   -- the ticks of a window are supplied
   pub on-window : (i k : ℕ) → i < length ws → b .lost + startOf i ≤ k → k < endOf i → σ k ≡ true
   on-window i k h l m =
-      here k (omega (arith, fits i h .1)) ∙ covers-at b k ws i h (gives-in b (windowAt ws i) k l m)
+      here k (omega (arith, fits i h .1)) ∙ covers-at (b .lost) k ws i h (gives-in (b .lost) (windowAt ws i) k l m)
 
   -- those before the first, between two, and after the last are not
   off-head : (k : ℕ) → 0 < length ws → k < startOf 0 → σ k ≡ false
-  off-head k some h = here k (omega (arith, fits 0 some)) ∙ covers-no b k ws (λ j u. none-from 0 k some h j (omega arith) u)
+  off-head k some h = here k (omega (arith, fits 0 some)) ∙ covers-no (b .lost) k ws (λ j u. none-from 0 k some h j (omega arith) u)
 
   pub off-gap : (i k : ℕ) → i < length ws → endOf (i - 1) ≤ k → k < startOf i → σ k ≡ false
   off-gap i k h l m =
-      here k (omega (arith, fits i h)) ∙ covers-no b k ws
+      here k (omega (arith, fits i h)) ∙ covers-no (b .lost) k ws
       (λ j u. elim (decLt j i) [ yes v ↦ none-up-to (i - 1) k (omega arith) l j (omega arith) | no v ↦ none-from i k h m j (omega arith) u ])
 
   -- where the windows before window i have ended by k, and window i, if there is one, has not, only window i can give k
-  pub covers-by : (i k : ℕ) → i ≤ length ws → (0 < i → endOf (i - 1) ≤ k) → (i < length ws → k < endOf i) → covers b ws k ≡ gives b (windowAt ws i) k
+  pub covers-by : (i k : ℕ) → i ≤ length ws → (0 < i → endOf (i - 1) ≤ k) → (i < length ws → k < endOf i) → covers (b .lost) ws k ≡ gives (b .lost) (windowAt ws i) k
   covers-by i k h past ahead =
       elim (decLt i (length ws)) [
-        | yes l ↦ elim (bool-cases (gives b (windowAt ws i) k)) [
-          | inl e ↦ covers-at b k ws i l e ∙ sym e
-          | inr e ↦ covers-no b k ws (λ j u. elim (ℕ-discrete j i) [ yes z ↦ rw z e | no z ↦ other j u z ]) ∙ sym e
+        | yes l ↦ elim (bool-cases (gives (b .lost) (windowAt ws i) k)) [
+          | inl e ↦ covers-at (b .lost) k ws i l e ∙ sym e
+          | inr e ↦ covers-no (b .lost) k ws (λ j u. elim (ℕ-discrete j i) [ yes z ↦ rw z e | no z ↦ other j u z ]) ∙ sym e
         ]
         | no l ↦
             let past-it : windowAt ws i ≡ window 0 0 = List·getD-eq-default ws (window 0 0) (omega arith) in
-            covers-no b k ws (λ j u. before-it j (omega arith)) ∙ sym (ap (λ (w : Window). gives b w k) past-it ∙ gives-after b (window 0 0) k (omega arith))
+            covers-no (b .lost) k ws (λ j u. before-it j (omega arith)) ∙ sym (ap (λ (w : Window). gives (b .lost) w k) past-it ∙ gives-after (b .lost) (window 0 0) k (omega arith))
       ]
     where
-      before-it : (j : ℕ) → j < i → gives b (windowAt ws j) k ≡ false
+      before-it : (j : ℕ) → j < i → gives (b .lost) (windowAt ws j) k ≡ false
       before-it j v = none-up-to (i - 1) k (omega arith) (past (omega arith)) j (omega arith)
 
-      other : (j : ℕ) → j < length ws → (j ≡ i → ⊥) → gives b (windowAt ws j) k ≡ false
+      other : (j : ℕ) → j < length ws → (j ≡ i → ⊥) → gives (b .lost) (windowAt ws j) k ≡ false
       other j u z =
           elim (decLt j i) [
             | yes v ↦ before-it j v
-            | no v ↦ gives-before b (windowAt ws j) k (omega (arith, before i j (omega arith) u, ahead (omega arith)))
+            | no v ↦ gives-before (b .lost) (windowAt ws j) k (omega (arith, before i j (omega arith) u, ahead (omega arith)))
           ]
 
   off-tail : (k : ℕ) → endOf (length ws - 1) ≤ k → k < b .frame → σ k ≡ false
-  off-tail k l m = here k m ∙ covers-no b k ws (λ j u. none-up-to (length ws - 1) k (omega arith) l j (omega arith))
+  off-tail k l m = here k m ∙ covers-no (b .lost) k ws (λ j u. none-up-to (length ws - 1) k (omega arith) l j (omega arith))
 
   module _ (some : 0 < length ws) where
     pub table-periodic : Periodic σ (b .frame)

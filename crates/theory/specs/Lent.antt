@@ -14,8 +14,8 @@ use Rattle.scope.specs.Windows.{Board, framed}
 use Rattle.scope.specs.Answers.{Fault, Fault.fine, Fault.fault, Answer.given, Answer.refused, faultIf, _orElse_, tableFault, roomFault}
 use Rattle.scope.specs.Shared.{own, ownLeft, sharedFault, ownFault, ownAnswer, ownOut, askedFor}
 use Rattle.theory.specs.Answers.{fault-not-fine, orElse-fine, unless-given, unless-refused}
-use Rattle.theory.specs.Shared.{asked-fine, asked-refused}
-use Rattle.theory.specs.Left.{left-most, left-fine}
+use Rattle.theory.specs.Shared.{shared-parts, asked-fine, asked-refused}
+use Rattle.theory.specs.Left.{left-most, listed-left}
 use Rattle.theory.specs.Alone.{Entry}
 use Rattle.theory.specs.Lost.{asked-left}
 
@@ -35,9 +35,9 @@ module _ (owners : ℕ) (b : Board) (ws : List ℕ) where
       let front : take n after ≡ ownLeft b ws = rw (is, u .0, ← (u .1)) (take-append-seam (ownLeft b ws) (drop (length (ownLeft b ws)) before)) in
       record {
         shared = f;
-        few = omega (arith, left-most owners b ws f, u .1);
+        few = omega (arith, left-most owners b ws (shared-parts owners b ws f .0), u .1);
         front = front;
-        fine-front = ap (tableFault (framed (b .frame))) front ∙ left-fine owners b ws f;
+        fine-front = ap (tableFault (framed (b .frame))) front ∙ listed-left owners b ws f;
       }
 
   -- where there is room for as many windows as a table may have, only the list is refused
@@ -50,7 +50,7 @@ module _ (owners : ℕ) (b : Board) (ws : List ℕ) where
       go : (f : Fault) → sharedFault owners b ws ≡ f → (f orElse faultIf (ltb room (length (ownLeft b ws))) 8 (length (ownLeft b ws))) ≡ fault n p → f ≡ fault n p
       go (fault m q) s z = z
       go fine s z =
-          let few = left-most owners b ws s in
+          let few = left-most owners b ws (shared-parts owners b ws s .0) in
           let roomy : ltb room (length (ownLeft b ws)) ≡ false = le-ltb room (length (ownLeft b ws)) (omega arith) in
           absurd (fault-not-fine (sym (rw roomy at z)))
 

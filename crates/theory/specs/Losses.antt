@@ -20,7 +20,7 @@ pub data Cause (b : Board) (mine : List ℕ) : Type 0 where
   no-such-rule : b .rule ≢ 1 → b .rule ≢ 2 → Cause b mine
   too-many-lost : mostLost < b .lost → Cause b mine
   lost-under-one : b .rule ≡ 1 → 0 < b .lost → Cause b mine
-  none-left : leftOf b (windowsOf mine) ≡ [] → Cause b mine
+  none-left : leftOf (b .lost) (windowsOf mine) ≡ [] → Cause b mine
 
 -- a rule and lost ticks that a board can have
 pub record Ruled (b : Board) : Type 0 where
@@ -56,7 +56,7 @@ module _ (b : Board) where
   ruled-fine r = elim (ℕ-discrete (b .rule) 1) [ yes e ↦ one-fine e (r .whole e) | no u ↦ few-fine (r .few) (r .known u) ]
 
   -- or one that it cannot, by one of three causes
-  ruled-or : (mine : List ℕ) → (ruleFault b ≡ fault 13 0 → Cause b mine) × (Cause b mine → (leftOf b (windowsOf mine) ≡ [] → ⊥) → ruleFault b ≡ fault 13 0)
+  ruled-or : (mine : List ℕ) → (ruleFault b ≡ fault 13 0 → Cause b mine) × (Cause b mine → (leftOf (b .lost) (windowsOf mine) ≡ [] → ⊥) → ruleFault b ≡ fault 13 0)
   unfolding ruleFault
   ruled-or mine = (only, so)
     where
@@ -76,7 +76,7 @@ module _ (b : Board) where
             ]
           ]
 
-      so : Cause b mine → (leftOf b (windowsOf mine) ≡ [] → ⊥) → faultIf bad 13 0 ≡ fault 13 0
+      so : Cause b mine → (leftOf (b .lost) (windowsOf mine) ≡ [] → ⊥) → faultIf bad 13 0 ≡ fault 13 0
       so (no-such-rule r s) u = no-rule r s
       so (too-many-lost h) u = over-lost h
       so (lost-under-one r h) u = one-lost r h
@@ -92,7 +92,7 @@ module _ (b : Board) where
 
 module _ (b : Board) (mine : List ℕ) where
   abbrev left : List ℕ
-  left = leftOf b (windowsOf mine)
+  left = leftOf (b .lost) (windowsOf mine)
 
   -- no other number and no other place
   pub lost-thirteen : (n p : ℕ) → lostFault b mine ≡ fault n p → fault 13 0 ≡ fault n p

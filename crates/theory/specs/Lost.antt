@@ -13,13 +13,13 @@ use Rattle.scope.specs.Windows.{Board, framed, windowsOf, supplied, suppliedBy}
 use Rattle.scope.specs.Answers.{Fault.fine, Answer.given, ruleFault, leastSupplyAnswer}
 use Rattle.scope.specs.Trace.{timed, traceOf}
 use Rattle.scope.specs.Replay.{replayAnswer}
-use Rattle.scope.specs.Shared.{ownedOf, windowsFor, own, leftOf, ownLeft, asOwned, lostFault, sharedFault, ownFault, ownAnswer, ownOut, unlessRefused, askedFor, leastSupplyFor, recordsFor, replayFor}
+use Rattle.scope.specs.Shared.{ownedOf, windowsFor, own, leftOf, ownLeft, asOwned, wholeFault, lostFault, sharedFault, ownFault, ownAnswer, ownOut, unlessRefused, askedFor, leastSupplyFor, recordsFor, replayFor}
 use Rattle.scope.specs.Summary.{summaryOf, summaryFault, Edit, tableIn, editedList, editFault, editAnswer, editWindows, editSummary}
 use Rattle.theory.specs.Gaps.{fits}
 use Rattle.theory.specs.Rows.{endOf, ends-answer}
-use Rattle.theory.specs.Shared.{Gives, covers-given, given-covers, own-fine, asked-fine, asked-given}
-use Rattle.theory.specs.Left.{left-supplied, left-even, left-whole, left-fine, left-legal}
-use Rattle.theory.specs.Alone.{Entry, table-same, supplied-same, whole-same, sliver-same, absent-same, left-same, on-alike, pairs-only, own-pairs, one-owner, or-nine, least-supply-entry, records-entry}
+use Rattle.theory.specs.Shared.{Gives, covers-given, given-covers, shared-parts, own-fine, asked-fine, asked-given}
+use Rattle.theory.specs.Left.{left-supplied, left-even, left-whole, left-fine, left-some, listed-left, left-legal}
+use Rattle.theory.specs.Alone.{Entry, table-same, supplied-same, whole-same, sliver-same, absent-same, on-alike, pairs-only, own-pairs, one-owner, or-nine, least-supply-entry, records-entry}
 
 -- ---- a tick
 
@@ -41,7 +41,7 @@ module _ {R : Type 0} {refusal : ℕ → ℕ → R} {entry : Board → List ℕ 
   asked-left =
       asked-fine owners b ws refusal (entry b) listed
       ∙ is .by-ticks b (framed (b .frame)) (own b ws) (ownLeft b ws) refl
-      (own-fine owners b ws listed ∙ sym (left-fine owners b ws listed)) (left-supplied b (windowsOf (own b ws)))
+      (own-fine owners b ws listed ∙ sym (listed-left owners b ws listed)) (left-supplied b (windowsOf (own b ws)))
 
   -- so it is, as a table of one owner under rule 1, answered as the owner is here
   pub rule-one : (o : ℕ) → o < owners → askedFor owners b ws refusal (entry b) ≡ askedFor owners (onlyFor b o) (asOwned o (ownLeft b ws)) refusal (entry (onlyFor b o))
@@ -50,26 +50,29 @@ module _ {R : Type 0} {refusal : ℕ → ℕ → R} {entry : Board → List ℕ 
       ∙ on-alike is (framed (b .frame)) (onlyFor b o) (ownLeft b ws) (record { frame = refl; rule = refl; lost = refl })
       ∙ sym (one-owner owners (onlyFor b o) h (ownLeft b ws) refl refl refl is)
 
-module _ (owners : ℕ) (b : Board) (ws : List ℕ) (listed : sharedFault owners b ws ≡ fine) (o : ℕ) (exists : o < owners) where
-  -- that table is legal where every window is allowed and given whole
-  pub left-table : sharedFault owners (onlyFor b o) (asOwned o (ownLeft b ws)) ≡ fine
-  left-table =
+module _ (owners : ℕ) (b : Board) (ws : List ℕ) (o : ℕ) (exists : o < owners) where
+  -- that table, where it is not empty, is legal where every window is allowed and given whole
+  pub left-table : wholeFault owners b ws ≡ fine → 0 < length (ownLeft b ws) → sharedFault owners (onlyFor b o) (asOwned o (ownLeft b ws)) ≡ fine
+  left-table legal some =
       pairs-only owners (onlyFor b o) exists (ownLeft b ws) refl refl refl
-      ∙ table-same (onlyFor b o) (framed (b .frame)) (ownLeft b ws) refl ∙ left-fine owners b ws listed
+      ∙ table-same (onlyFor b o) (framed (b .frame)) (ownLeft b ws) refl ∙ left-fine owners b ws legal some
 
+module _ (owners : ℕ) (b : Board) (ws : List ℕ) (listed : sharedFault owners b ws ≡ fine) (o : ℕ) (exists : o < owners) where
   -- and nothing more is taken of it
   left-again : ownLeft (onlyFor b o) (asOwned o (ownLeft b ws)) ≡ ownLeft b ws
   left-again =
-      let even = left-even b (windowsOf (own b ws)) in
-      ap (λ (l : List ℕ). leftOf (onlyFor b o) (windowsOf l)) (own-pairs owners (onlyFor b o) exists (ownLeft b ws) even)
-      ∙ left-whole (onlyFor b o) refl (ownLeft b ws) even (λ i u. fits (framed (b .frame)) (windowsOf (ownLeft b ws)) (left-legal owners b ws listed .windows) i u .0)
+      let even = left-even (b .lost) (windowsOf (own b ws)) in
+      ap (λ (l : List ℕ). leftOf 0 (windowsOf l)) (own-pairs owners (onlyFor b o) exists (ownLeft b ws) even)
+      ∙ left-whole 0 refl (ownLeft b ws) even (λ i u. fits (framed (b .frame)) (windowsOf (ownLeft b ws)) (left-legal owners b ws listed .windows) i u .0)
 
   -- what is left, by itself and in lent memory, is what is left of it
   pub own-rule-one : (room : ℕ) (out : List ℕ) →
       (ownAnswer owners b ws room ≡ ownAnswer owners (onlyFor b o) (asOwned o (ownLeft b ws)) room)
       × (ownOut owners b ws out ≡ ownOut owners (onlyFor b o) (asOwned o (ownLeft b ws)) out)
   unfolding ownAnswer ownOut ownFault
-  own-rule-one room out = (rw (listed, left-table, left-again), rw (listed, left-table, left-again))
+  own-rule-one room out =
+      let table = left-table owners b ws o exists (shared-parts owners b ws listed .0) (left-some owners b ws listed) in
+      (rw (listed, table, left-again), rw (listed, table, left-again))
 
 -- the starts for the amount are still window ends: the least supply is the least over the ends of what is left
 pub ends-left : (b : Board) (ws : List ℕ) (t v : ℕ) → leastSupplyFor b ws t ≡ given v →
@@ -110,11 +113,11 @@ module _ (b c : Board) (alike : NoLoss b c) where
   same-own ws = ap (λ (o : ℕ). windowsFor o (ownedOf ws)) (alike .owner)
 
   same-left : (ws : List ℕ) → ownLeft b ws ≡ ownLeft c ws
-  same-left ws = rw (same-own ws) (left-same b c same-lost (windowsOf (own c ws)))
+  same-left ws = rw (same-own ws, same-lost)
 
   same-lost-fault : (mine : List ℕ) → lostFault b mine ≡ lostFault c mine
   unfolding lostFault ruleFault
-  same-lost-fault mine = rw (left-same b c same-lost (windowsOf mine), alike .one, alike .two, alike .whole, alike .nothing)
+  same-lost-fault mine = rw (alike .one, alike .two, alike .whole, alike .nothing)
 
   same-summary : (ws : List ℕ) → summaryOf b (own b ws) ≡ summaryOf c (own c ws)
   unfolding summaryOf

@@ -90,29 +90,29 @@ module _ (p : ℕ → Bool) (n k : ℕ) where
 
 -- ---- what windows cover, and one window more after them
 
-covers-last : (b : Board) (ws : List Window) (w : Window) (k : ℕ) → covers b (ws ++ (w ∷ [])) k ≡ (covers b ws k || gives b w k)
+covers-last : (q : ℕ) (ws : List Window) (w : Window) (k : ℕ) → covers q (ws ++ (w ∷ [])) k ≡ (covers q ws k || gives q w k)
 unfolding covers
-covers-last b [] w k = or-false (gives b w k)
-covers-last b (v ∷ ws) w k =
-    ap (λ (t : Bool). gives b v k || t) (covers-last b ws w k) ∙ sym (or-assoc (gives b v k) (covers b ws k) (gives b w k))
+covers-last q [] w k = or-false (gives q w k)
+covers-last q (v ∷ ws) w k =
+    ap (λ (t : Bool). gives q v k || t) (covers-last q ws w k) ∙ sym (or-assoc (gives q v k) (covers q ws k) (gives q w k))
 
-covers-more : (b : Board) (l : List ℕ) (s e k : ℕ) → length l % 2 ≡ 0 →
-    covers b (windowsOf (l ++ (s ∷ e ∷ []))) k ≡ (covers b (windowsOf l) k || gives b (window s e) k)
+covers-more : (q : ℕ) (l : List ℕ) (s e k : ℕ) → length l % 2 ≡ 0 →
+    covers q (windowsOf (l ++ (s ∷ e ∷ []))) k ≡ (covers q (windowsOf l) k || gives q (window s e) k)
 unfolding piecesFrom pieces
-covers-more b l s e k h =
-    ap (λ (ws : List Window). covers b ws k) (pieces-append Window 2 window (omega arith) (length l / 2) l (s ∷ e ∷ []) (omega arith))
-    ∙ covers-last b (windowsOf l) (window s e) k
+covers-more q l s e k h =
+    ap (λ (ws : List Window). covers q ws k) (pieces-append Window 2 window (omega arith) (length l / 2) l (s ∷ e ∷ []) (omega arith))
+    ∙ covers-last q (windowsOf l) (window s e) k
 
--- a window over the ticks s to n − 1, at all of which p holds, on a board that loses none
-within-window : (P : ℕ) (p : ℕ → Bool) (s n : ℕ) → s < n → ((x : ℕ) → s ≤ x → x < n → p x ≡ true) → (k : ℕ) →
-    (within p s k || gives (framed P) (window s n) k) ≡ within p n k
+-- a window over the ticks s to n − 1, at all of which p holds, where none are lost
+within-window : (p : ℕ → Bool) (s n : ℕ) → s < n → ((x : ℕ) → s ≤ x → x < n → p x ≡ true) → (k : ℕ) →
+    (within p s k || gives 0 (window s n) k) ≡ within p n k
 unfolding within
-within-window P p s n h run k =
+within-window p s n h run k =
     elim (decLt k s) [
-      | yes a ↦ rw (gives-before (framed P) (window s n) k (omega (arith, a)), lt-ltb k s a, lt-ltb k n (omega arith)) (or-false (p k))
+      | yes a ↦ rw (gives-before 0 (window s n) k (omega (arith, a)), lt-ltb k s a, lt-ltb k n (omega arith)) (or-false (p k))
       | no a ↦ elim (decLt k n) [
-        | yes c ↦ rw (gives-in (framed P) (window s n) k (omega arith) c, le-ltb k s (omega arith), lt-ltb k n c) (sym (run k (omega arith) c))
-        | no c ↦ rw (gives-after (framed P) (window s n) k (omega arith), le-ltb k s (omega arith), le-ltb k n (omega arith))
+        | yes c ↦ rw (gives-in 0 (window s n) k (omega arith) c, le-ltb k s (omega arith), lt-ltb k n c) (sym (run k (omega arith) c))
+        | no c ↦ rw (gives-after 0 (window s n) k (omega arith), le-ltb k s (omega arith), le-ltb k n (omega arith))
       ]
     ]
 
@@ -138,11 +138,11 @@ module _ (q : ℕ → Bool) where
   unfolding edge
   edge-is n a b e f = rw (e, f)
 
-module _ (P : ℕ) (q : ℕ → Bool) where
+module _ (q : ℕ → Bool) where
   -- the list l is of whole windows, which cover the ticks below n at which q holds
   record Closed (l : List ℕ) (n : ℕ) : Type 0 where
     even : length l % 2 ≡ 0
-    cover : (k : ℕ) → covers (framed P) (windowsOf l) k ≡ within q n k
+    cover : (k : ℕ) → covers 0 (windowsOf l) k ≡ within q n k
 
   -- after the whole windows l a run starts at s, and q has held since
   record Open (l : List ℕ) (s n : ℕ) : Type 0 where
@@ -164,8 +164,8 @@ module _ (P : ℕ) (q : ℕ → Bool) where
       record {
         even = omega (arith, length-append l (s ∷ n ∷ []), o .shut .even);
         cover = λ k.
-            covers-more (framed P) l s n k (o .shut .even) ∙ ap (λ (t : Bool). t || gives (framed P) (window s n) k) (o .shut .cover k)
-            ∙ within-window P q s n (o .start) (o .run) k;
+            covers-more 0 l s n k (o .shut .even) ∙ ap (λ (t : Bool). t || gives 0 (window s n) k) (o .shut .cover k)
+            ∙ within-window q s n (o .start) (o .run) k;
       }
 
   step : (n : ℕ) → (q n ≡ true) ⊎ (q n ≡ false) → State n → State (suc n)
@@ -202,11 +202,11 @@ module _ (P : ℕ) (q : ℕ → Bool) where
 
 module _ (p : ℕ → Bool) (n : ℕ) where
   -- no run is open past n, where the pattern is false
-  maximal-closed : Closed n (within p n) (maximalRuns p n) (suc n)
+  maximal-closed : Closed (within p n) (maximalRuns p n) (suc n)
   unfolding maximalRuns
-  maximal-closed = rw add-one (go (state n (within p n) (suc n)))
+  maximal-closed = rw add-one (go (state (within p n) (suc n)))
     where
-      go : State n (within p n) (suc n) → Closed n (within p n) (edges (within p n) (suc n)) (suc n)
+      go : State (within p n) (suc n) → Closed (within p n) (edges (within p n) (suc n)) (suc n)
       go (closed b c) = c
       go (opened b l s o) =
           absurd (true≢false (sym (sym (before-suc (within p n) n) ∙ b) ∙ within-out p n n (omega arith)))
@@ -215,7 +215,7 @@ module _ (p : ℕ → Bool) (n : ℕ) where
   maximal-even = maximal-closed .even
 
   -- the windows cover exactly the ticks below n at which p holds
-  pub maximal-cover : (k : ℕ) → covers (framed n) (windowsOf (maximalRuns p n)) k ≡ within p n k
+  pub maximal-cover : (k : ℕ) → covers 0 (windowsOf (maximalRuns p n)) k ≡ within p n k
   maximal-cover k =
       maximal-closed .cover k ∙ elim (decLt k (suc n)) [
         | yes h ↦ within-in (within p n) (suc n) k h

@@ -51,19 +51,19 @@ module _ (b c : Board) (ws vs ts : List ℕ) (framed : b .frame ≡ c .frame) (l
 -- ---- two boards of one frame, of which c loses no fewer ticks than b
 
 module _ (b c : Board) (framed : b .frame ≡ c .frame) (less : b .lost ≤ c .lost) where
-  covers-more : (ws : List Window) (k : ℕ) → covers c ws k ≡ true → covers b ws k ≡ true
+  covers-more : (ws : List Window) (k : ℕ) → covers (c .lost) ws k ≡ true → covers (b .lost) ws k ≡ true
   unfolding covers
   covers-more [] k e = e
   covers-more (w ∷ ws) k e =
-      elim (bool-cases (gives c w k)) [
-        | inl t ↦ let m = gives-when c w k t in rw (gives-in b w k (omega (arith, m .0)) (m .1))
-        | inr f ↦ rw (covers-more ws k (rw f at e)) (or-true (gives b w k))
+      elim (bool-cases (gives (c .lost) w k)) [
+        | inl t ↦ let m = gives-when (c .lost) w k t in rw (gives-in (b .lost) w k (omega (arith, m .0)) (m .1))
+        | inr f ↦ rw (covers-more ws k (rw f at e)) (or-true (gives (b .lost) w k))
       ]
 
   -- a tick that c supplies b supplies
   pub more-lost-tick : (ws : List Window) (k : ℕ) → supplied c ws k ≡ true → supplied b ws k ≡ true
   unfolding supplied
-  more-lost-tick ws k e = ap (λ (P : ℕ). covers b ws (k % P)) framed ∙ covers-more ws (k % c .frame) e
+  more-lost-tick ws k e = ap (λ (P : ℕ). covers (b .lost) ws (k % P)) framed ∙ covers-more ws (k % c .frame) e
 
   -- so the supply of every start and length is no more on c
   pub more-lost-supply : (ws : List Window) (s t : ℕ) → supply (supplied c ws) s t ≤ supply (supplied b ws) s t
@@ -79,19 +79,19 @@ module _ (b c : Board) (framed : b .frame ≡ c .frame) (less : b .lost ≤ c .l
       omega (arith, least-more (supplied c ws) (supplied b ws) (more-lost-tick ws) (c .frame) t, ap (λ (P : ℕ). leastSupply (supplied b ws) P t) framed)
 
   -- where b leaves nothing c leaves nothing
-  left-none : (ws : List Window) → leftOf b ws ≡ [] → leftOf c ws ≡ []
+  left-none : (ws : List Window) → leftOf (b .lost) ws ≡ [] → leftOf (c .lost) ws ≡ []
   unfolding leftOf
   left-none [] e = refl
   left-none (w ∷ ws) e =
       elim (decLt (b .lost) (w .end - w .start)) [
-        | yes h ↦ absurd (omega (arith, ap length (left-kept b w ws h), ap length e))
-        | no h ↦ left-out c w ws (omega arith) ∙ left-none ws (sym (left-out b w ws (omega arith)) ∙ e)
+        | yes h ↦ absurd (omega (arith, ap length (left-kept (b .lost) w ws h), ap length e))
+        | no h ↦ left-out (c .lost) w ws (omega arith) ∙ left-none ws (sym (left-out (b .lost) w ws (omega arith)) ∙ e)
       ]
 
-  left-some-less : (ws : List Window) → 0 < length (leftOf c ws) → 0 < length (leftOf b ws)
-  left-some-less ws h = go (leftOf b ws) refl
+  left-some-less : (ws : List Window) → 0 < length (leftOf (c .lost) ws) → 0 < length (leftOf (b .lost) ws)
+  left-some-less ws h = go (leftOf (b .lost) ws) refl
     where
-      go : (l : List ℕ) → leftOf b ws ≡ l → 0 < length l
+      go : (l : List ℕ) → leftOf (b .lost) ws ≡ l → 0 < length l
       go [] e = omega (arith, ap length (left-none ws e))
       go (a ∷ l) e = omega arith
 
@@ -115,7 +115,7 @@ module _ (b c : Board) (framed : b .frame ≡ c .frame) (less : b .lost ≤ c .l
     unfolding sharedFault
     more-lost-fine ruled owners ws e =
         let p = shared-parts owners c ws e in
-        let left : 0 < length (leftOf b (windowsOf (own b ws))) = rw (mine owner ws) (left-some-less (windowsOf (own c ws)) (left-some owners c ws e)) in
+        let left : 0 < length (leftOf (b .lost) (windowsOf (own b ws))) = rw (mine owner ws) (left-some-less (windowsOf (own c ws)) (left-some owners c ws e)) in
         rw (
           whole-same owners b c ws framed ∙ p .0,
           absent-same b c ws ws (mine owner ws) ∙ p .1,

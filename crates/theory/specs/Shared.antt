@@ -189,24 +189,24 @@ module _ (owners : ℕ) (b : Board) (o : ℕ) where
     pub until : k < endAt ws index
 
   -- an owner's tick is a tick of one of its windows, and the other way round
-  pub covers-given : (ws : List Owned) (k : ℕ) → covers b (windowsOf (windowsFor o ws)) k ≡ true → Gives ws k
+  pub covers-given : (ws : List Owned) (k : ℕ) → covers (b .lost) (windowsOf (windowsFor o ws)) k ≡ true → Gives ws k
   unfolding windowsFor covers pieces piecesFrom
   covers-given [] k e = absurd (false≢true e)
   covers-given (w ∷ ws) k e =
       elim (ℕ-discrete (w .owner) o) [
-        | yes z ↦ go z (rw (hit o w ws z) at e) (bool-cases (gives b (w .window) k)) (covers-given ws k)
+        | yes z ↦ go z (rw (hit o w ws z) at e) (bool-cases (gives (b .lost) (w .window) k)) (covers-given ws k)
         | no u ↦ later (covers-given ws k (rw (miss o w ws u) at e))
       ]
     where
       later : Gives ws k → Gives (w ∷ ws) k
       later g = record { index = suc (g .index); there = omega (arith, g .there); owner = g .owner; since = g .since; until = g .until }
 
-      go : w .owner ≡ o → (gives b (w .window) k || covers b (windowsOf (windowsFor o ws)) k) ≡ true → (gives b (w .window) k ≡ true) ⊎ (gives b (w .window) k ≡ false) →
-          (covers b (windowsOf (windowsFor o ws)) k ≡ true → Gives ws k) → Gives (w ∷ ws) k
-      go z e (inl t) g = let m = gives-when b (w .window) k t in record { index = 0; there = omega arith; owner = z; since = m .0; until = m .1 }
+      go : w .owner ≡ o → (gives (b .lost) (w .window) k || covers (b .lost) (windowsOf (windowsFor o ws)) k) ≡ true → (gives (b .lost) (w .window) k ≡ true) ⊎ (gives (b .lost) (w .window) k ≡ false) →
+          (covers (b .lost) (windowsOf (windowsFor o ws)) k ≡ true → Gives ws k) → Gives (w ∷ ws) k
+      go z e (inl t) g = let m = gives-when (b .lost) (w .window) k t in record { index = 0; there = omega arith; owner = z; since = m .0; until = m .1 }
       go z e (inr f) g = later (g (rw f at e))
 
-  pub given-covers : (ws : List Owned) (k : ℕ) → Gives ws k → covers b (windowsOf (windowsFor o ws)) k ≡ true
+  pub given-covers : (ws : List Owned) (k : ℕ) → Gives ws k → covers (b .lost) (windowsOf (windowsFor o ws)) k ≡ true
   unfolding windowsFor covers pieces piecesFrom
   given-covers [] k g = absurd (omega (arith, g .there))
   given-covers (w ∷ ws) k g =
@@ -224,10 +224,10 @@ module _ (owners : ℕ) (b : Board) (o : ℕ) where
         until = rw e at (g .until);
       }
 
-      go : (i : ℕ) (g : Gives (w ∷ ws) k) → g .index ≡ i → (Gives ws k → covers b (windowsOf (windowsFor o ws)) k ≡ true) →
-          (gives b (w .window) k || covers b (windowsOf (windowsFor o ws)) k) ≡ true
-      go zero g e h = rw (gives-in b (w .window) k (rw e at (g .since)) (rw e at (g .until)))
-      go (suc i) g e h = rw (h (rest i g e)) (or-true (gives b (w .window) k))
+      go : (i : ℕ) (g : Gives (w ∷ ws) k) → g .index ≡ i → (Gives ws k → covers (b .lost) (windowsOf (windowsFor o ws)) k ≡ true) →
+          (gives (b .lost) (w .window) k || covers (b .lost) (windowsOf (windowsFor o ws)) k) ≡ true
+      go zero g e h = rw (gives-in (b .lost) (w .window) k (rw e at (g .since)) (rw e at (g .until)))
+      go (suc i) g e h = rw (h (rest i g e)) (or-true (gives (b .lost) (w .window) k))
 
       later : w .owner ≢ o → (i : ℕ) (g : Gives (w ∷ ws) k) → g .index ≡ i → Gives ws k
       later u zero g e = absurd (u (rw e at (g .owner)))
@@ -269,18 +269,21 @@ module _ (owners : ℕ) (b : Board) (ws : List ℕ) where
   pub own-few : wholeFault owners b ws ≡ fine → length (own b ws) ≤ 2 * mostWindows
   own-few e = omega (arith, for-few (b .owner) (ownedOf ws), whole e .few)
 
-  -- the asked owner's windows are a list of windows without a fault
-  pub own-fine : sharedFault owners b ws ≡ fine → tableFault b (own b ws) ≡ fine
+  -- the windows of an owner that has one are a list of windows without a fault
+  pub present-fine : wholeFault owners b ws ≡ fine → absentOwnerFault b ws ≡ fine → tableFault b (own b ws) ≡ fine
   unfolding tableFault windowFault absentOwnerFault
-  own-fine e =
-      let p = shared-parts e in
-      let w = whole (p .0) in
-      let filled = eqb-false (length (own b ws)) 0 (faultIf-fine _ 1 0 (p .1)) in
+  present-fine e a =
+      let w = whole e in
+      let filled = eqb-false (length (own b ws)) 0 (faultIf-fine _ 1 0 a) in
       rw (
-        window-list-fine (own b ws) (for-even (b .owner) (ownedOf ws)) (omega (arith, filled)) (own-few (p .0)),
+        window-list-fine (own b ws) (for-even (b .owner) (ownedOf ws)) (omega (arith, filled)) (own-few e),
         w .framed,
         rising-rule b (own b ws) (for-rising owners b (b .owner) (ownedOf ws) (w .ruled)),
       )
+
+  -- so are those of the owner that is asked for
+  pub own-fine : sharedFault owners b ws ≡ fine → tableFault b (own b ws) ≡ fine
+  own-fine e = let p = shared-parts e in present-fine (p .0) (p .1)
 
   -- no such owner has a window in a list that keeps rule 3, so whoever asks for it is refused as an owner with no window is
   pub no-such-owner : wholeFault owners b ws ≡ fine → owners ≤ b .owner → sharedFault owners b ws ≡ fault 1 0

@@ -30,7 +30,7 @@ use Rattle.theory.specs.Answers.{fault-not-fine, unless-refused}
 use Rattle.theory.specs.Shared.{asked-refused}
 use Rattle.theory.specs.Losses.{lost-thirteen}
 use Rattle.theory.specs.Slivers.{Sliver, sliver-exactly, sliver-twelve, one-tick, smaller-fine}
-use Rattle.theory.specs.Alone.{Entry, Alike, on-alike, left-same, lost-same, whole-same, absent-same, records-entry, verdict-entry, or-nine}
+use Rattle.theory.specs.Alone.{Entry, Alike, on-alike, lost-same, whole-same, absent-same, records-entry, verdict-entry, or-nine}
 use Rattle.theory.specs.Seven.{UpTo, up-to-greatest}
 use Rattle.theory.specs.Forms.{withSettings, refused-behind, judged-behind}
 use Rattle.theory.specs.PlanBytes.{Writable, round-trip, read-settings}
@@ -379,7 +379,7 @@ unfolding ownAnswer ownOut ownFault
 own-smaller owners b c ws alike owner least less spared room out =
     let mine : own b ws ≡ own c ws = ap (λ (o : ℕ). windowsFor o (ownedOf ws)) owner in
     let same = smaller-fault owners b c ws alike owner least less spared in
-    let left : ownLeft b ws ≡ ownLeft c ws = rw mine (left-same b c (alike .lost) (windowsOf (own c ws))) in
+    let left : ownLeft b ws ≡ ownLeft c ws = rw (mine, alike .lost) in
     (rw (same, left), rw (same, left))
 
 -- ---- traces, whose bytes are refused by 9 before any table

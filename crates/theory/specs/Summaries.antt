@@ -42,22 +42,20 @@ ticks-none [] r h = refl
 ticks-none (s ∷ []) r h = refl
 ticks-none (s ∷ e ∷ l) r h = rw (le-leb r s (h 0 (omega arith)))
 
-module _ (b : Board) where
-  covers-none : (l : List ℕ) (k : ℕ) → ((i : ℕ) → i < length l → k < getD l i 0) → covers b (windowsOf l) k ≡ false
-  unfolding covers pieces piecesFrom
-  covers-none [] k h = refl
-  covers-none (s ∷ []) k h = refl
-  covers-none (s ∷ e ∷ l) k h =
-      rw (gives-before b (window s e) k (omega (arith, h 0 (omega arith)))) (covers-none l k (λ i u. h (suc (suc i)) (omega arith)))
+covers-none : (l : List ℕ) (k : ℕ) → ((i : ℕ) → i < length l → k < getD l i 0) → covers 0 (windowsOf l) k ≡ false
+unfolding covers pieces piecesFrom
+covers-none [] k h = refl
+covers-none (s ∷ []) k h = refl
+covers-none (s ∷ e ∷ l) k h = rw (gives-before 0 (window s e) k (omega (arith, h 0 (omega arith)))) (covers-none l k (λ i u. h (suc (suc i)) (omega arith)))
 
--- a window's ticks before r, one tick later, on a board that loses none
-window-ticks : (P s e r : ℕ) → s < e → min (suc r) e - s ≡ min r e - s + bit (gives (framed P) (window s e) r)
-window-ticks P s e r h =
+-- a window's ticks before r, one tick later, where none are lost
+window-ticks : (s e r : ℕ) → s < e → min (suc r) e - s ≡ min r e - s + bit (gives 0 (window s e) r)
+window-ticks s e r h =
     elim (decLt r s) [
-      | yes u ↦ rw (gives-before (framed P) (window s e) r (omega (arith, u))) (omega arith)
+      | yes u ↦ rw (gives-before 0 (window s e) r (omega (arith, u))) (omega arith)
       | no u ↦ elim (decLt r e) [
-        | yes v ↦ rw (gives-in (framed P) (window s e) r (omega arith) v) (omega arith)
-        | no v ↦ rw (gives-after (framed P) (window s e) r (omega arith)) (omega arith)
+        | yes v ↦ rw (gives-in 0 (window s e) r (omega arith) v) (omega arith)
+        | no v ↦ rw (gives-after 0 (window s e) r (omega arith)) (omega arith)
       ]
     ]
 
@@ -66,61 +64,57 @@ bit-apart : (x y : Bool) → (x ≡ true → y ≡ false) → bit (x || y) ≡ b
 bit-apart true y h = rw (h refl)
 bit-apart false y h = omega arith
 
-module _ (P : ℕ) where
-  abbrev b : Board
-  b = framed P
+module _ (s e : ℕ) (l : List ℕ) (n : ℕ) (up : Rising (s ∷ e ∷ l) n) where
+  ordered : s < e
+  ordered = rising-above s (e ∷ l) n up 0 (omega arith)
 
-  module _ (s e : ℕ) (l : List ℕ) (n : ℕ) (up : Rising (s ∷ e ∷ l) n) where
-    ordered : s < e
-    ordered = rising-above s (e ∷ l) n up 0 (omega arith)
+  later : (i : ℕ) → i < length l → e < getD l i 0
+  later = rising-above e l n (rising-rest s (e ∷ l) n up)
 
-    later : (i : ℕ) → i < length l → e < getD l i 0
-    later = rising-above e l n (rising-rest s (e ∷ l) n up)
+  -- where the count ends early, the later windows have no such tick
+  ticks-first : (r : ℕ) → ticksBefore (windowsOf (s ∷ e ∷ l)) r ≡ min r e - s + ticksBefore (windowsOf l) r
+  unfolding ticksBefore pieces piecesFrom
+  ticks-first r =
+      elim (decLt s r) [
+        | yes u ↦ rw (lt-leb r s u)
+        | no u ↦ rw (le-leb r s (omega arith)) (omega (arith, ordered, ticks-none l r (λ i h. omega (arith, ordered, later i h))))
+      ]
 
-    -- where the count ends early, the later windows have no such tick
-    ticks-first : (r : ℕ) → ticksBefore (windowsOf (s ∷ e ∷ l)) r ≡ min r e - s + ticksBefore (windowsOf l) r
-    unfolding ticksBefore pieces piecesFrom
-    ticks-first r =
-        elim (decLt s r) [
-          | yes u ↦ rw (lt-leb r s u)
-          | no u ↦ rw (le-leb r s (omega arith)) (omega (arith, ordered, ticks-none l r (λ i h. omega (arith, ordered, later i h))))
-        ]
+  covers-first : (k : ℕ) → bit (covers 0 (windowsOf (s ∷ e ∷ l)) k) ≡ bit (gives 0 (window s e) k) + bit (covers 0 (windowsOf l) k)
+  unfolding covers pieces piecesFrom
+  covers-first k = bit-apart (gives 0 (window s e) k) (covers 0 (windowsOf l) k) apart
+    where
+      apart : gives 0 (window s e) k ≡ true → covers 0 (windowsOf l) k ≡ false
+      apart g =
+          covers-none l k (λ i h. omega (arith, later i h, gives-when 0 (window s e) k g))
 
-    covers-first : (k : ℕ) → bit (covers b (windowsOf (s ∷ e ∷ l)) k) ≡ bit (gives b (window s e) k) + bit (covers b (windowsOf l) k)
-    unfolding covers pieces piecesFrom
-    covers-first k = bit-apart (gives b (window s e) k) (covers b (windowsOf l) k) apart
-      where
-        apart : gives b (window s e) k ≡ true → covers b (windowsOf l) k ≡ false
-        apart g =
-            covers-none b l k (λ i h. omega (arith, later i h, gives-when b (window s e) k g))
+no-windows : (r : ℕ) → ticksBefore [] (suc r) ≡ ticksBefore [] r + bit (covers 0 [] r)
+unfolding ticksBefore covers
+no-windows r = refl
 
-  no-windows : (r : ℕ) → ticksBefore [] (suc r) ≡ ticksBefore [] r + bit (covers b [] r)
-  unfolding ticksBefore covers
-  no-windows r = refl
+-- one tick later
+ticks-step : (l : List ℕ) (n : ℕ) → Rising l n → (r : ℕ) →
+    ticksBefore (windowsOf l) (suc r) ≡ ticksBefore (windowsOf l) r + bit (covers 0 (windowsOf l) r)
+unfolding pieces piecesFrom
+ticks-step [] n up r = no-windows r
+ticks-step (s ∷ []) n up r = no-windows r
+ticks-step (s ∷ e ∷ l) n up r =
+    let rest = rising-rest e l n (rising-rest s (e ∷ l) n up) in
+    omega (
+      arith,
+      ticks-first s e l n up (suc r),
+      ticks-first s e l n up r,
+      window-ticks s e r (ordered s e l n up),
+      covers-first s e l n up r,
+      ticks-step l n rest r,
+    )
 
-  -- one tick later
-  ticks-step : (l : List ℕ) (n : ℕ) → Rising l n → (r : ℕ) →
-      ticksBefore (windowsOf l) (suc r) ≡ ticksBefore (windowsOf l) r + bit (covers b (windowsOf l) r)
-  unfolding pieces piecesFrom
-  ticks-step [] n up r = no-windows r
-  ticks-step (s ∷ []) n up r = no-windows r
-  ticks-step (s ∷ e ∷ l) n up r =
-      let rest = rising-rest e l n (rising-rest s (e ∷ l) n up) in
-      omega (
-        arith,
-        ticks-first s e l n up (suc r),
-        ticks-first s e l n up r,
-        window-ticks P s e r (ordered s e l n up),
-        covers-first s e l n up r,
-        ticks-step l n rest r,
-      )
-
-  -- of any rising numbers: a number left over at the end makes no window
-  pub ticks-before : (l : List ℕ) (n : ℕ) → Rising l n → (r : ℕ) → ticksBefore (windowsOf l) r ≡ supply (covers b (windowsOf l)) 0 r
-  unfolding supply
-  ticks-before l n up zero = ticks-none l 0 (λ i h. omega arith)
-  ticks-before l n up (suc r) =
-      omega (arith, ticks-step l n up r, ticks-before l n up r, ap (λ (k : ℕ). bit (covers b (windowsOf l) k)) (zero-add r))
+-- of any rising numbers: a number left over at the end makes no window
+pub ticks-before : (l : List ℕ) (n : ℕ) → Rising l n → (r : ℕ) → ticksBefore (windowsOf l) r ≡ supply (covers 0 (windowsOf l)) 0 r
+unfolding supply
+ticks-before l n up zero = ticks-none l 0 (λ i h. omega arith)
+ticks-before l n up (suc r) =
+    omega (arith, ticks-step l n up r, ticks-before l n up r, ap (λ (k : ℕ). bit (covers 0 (windowsOf l) k)) (zero-add r))
 
 -- ---- the least supply from a summary
 
@@ -141,9 +135,9 @@ module _ (σ : ℕ → Bool) (P : ℕ) where
   unfolding supplied
   critical-ticks per r h =
       let l = critical σ P in
-      ticks-before P l (P + 1) critical-rising r
-      ∙ supply-below (covers (framed P) (windowsOf l)) (suppliedBy (framed P) l) r
-      (λ k u. let in-frame : k < P = omega arith in ap (covers (framed P) (windowsOf l)) (sym (mod-eq-of-lt in-frame)))
+      ticks-before l (P + 1) critical-rising r
+      ∙ supply-below (covers 0 (windowsOf l)) (suppliedBy (framed P) l) r
+      (λ k u. let in-frame : k < P = omega arith in ap (covers 0 (windowsOf l)) (sym (mod-eq-of-lt in-frame)))
       ∙ critical-supply σ P per r
 
 module _ (b : Board) (ws s : List ℕ) where

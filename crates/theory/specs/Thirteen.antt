@@ -22,7 +22,7 @@ use Rattle.scope.specs.Summary.{Edit, tableIn, editedList, editAnswer}
 use Rattle.theory.specs.Windows.{gives-in, covers-at}
 use Rattle.theory.specs.Gaps.{fits}
 use Rattle.theory.specs.Answers.{table-legal}
-use Rattle.theory.specs.Shared.{asked-refused}
+use Rattle.theory.specs.Shared.{present-fine, asked-refused}
 use Rattle.theory.specs.Slivers.{sliver-twelve}
 use Rattle.theory.specs.Left.{left-out, left-supplied}
 use Rattle.theory.specs.Losses.{Cause, lost-thirteen, lost-exactly}
@@ -87,7 +87,7 @@ module _ (owners : ℕ) (b : Board) (ws : List ℕ) where
 -- ---- the fourth cause: of a list of windows without a fault nothing is left exactly when no tick is supplied
 
 module _ (b : Board) where
-  left-or : (ws : List Window) → (leftOf b ws ≡ []) ⊎ ((i : ℕ) × (i < length ws) × (b .lost < (windowAt ws i) .end - (windowAt ws i) .start))
+  left-or : (ws : List Window) → (leftOf (b .lost) ws ≡ []) ⊎ ((i : ℕ) × (i < length ws) × (b .lost < (windowAt ws i) .end - (windowAt ws i) .start))
   unfolding leftOf
   left-or [] = inl refl
   left-or (w ∷ ws) =
@@ -96,20 +96,20 @@ module _ (b : Board) where
         | no h ↦ later (omega arith) (left-or ws)
       ]
     where
-      later : w .end - w .start ≤ b .lost → (leftOf b ws ≡ []) ⊎ ((i : ℕ) × (i < length ws) × (b .lost < (windowAt ws i) .end - (windowAt ws i) .start)) →
-          (leftOf b (w ∷ ws) ≡ []) ⊎ ((i : ℕ) × (i < length (w ∷ ws)) × (b .lost < (windowAt (w ∷ ws) i) .end - (windowAt (w ∷ ws) i) .start))
-      later h (inl e) = inl (left-out b w ws h ∙ e)
+      later : w .end - w .start ≤ b .lost → (leftOf (b .lost) ws ≡ []) ⊎ ((i : ℕ) × (i < length ws) × (b .lost < (windowAt ws i) .end - (windowAt ws i) .start)) →
+          (leftOf (b .lost) (w ∷ ws) ≡ []) ⊎ ((i : ℕ) × (i < length (w ∷ ws)) × (b .lost < (windowAt (w ∷ ws) i) .end - (windowAt (w ∷ ws) i) .start))
+      later h (inl e) = inl (left-out (b .lost) w ws h ∙ e)
       later h (inr (i, l, u)) = inr (suc i, omega arith, u)
 
-  pub no-tick-left : (mine : List ℕ) → tableFault b mine ≡ fine → (leftOf b (windowsOf mine) ≡ []) ↔ ((k : ℕ) → suppliedBy b mine k ≡ false)
+  pub no-tick-left : (mine : List ℕ) → tableFault b mine ≡ fine → (leftOf (b .lost) (windowsOf mine) ≡ []) ↔ ((k : ℕ) → suppliedBy b mine k ≡ false)
   unfolding supplied covers pieces piecesFrom
   no-tick-left mine fine-list = (only, so (left-or (windowsOf mine)))
     where
-      only : leftOf b (windowsOf mine) ≡ [] → (k : ℕ) → suppliedBy b mine k ≡ false
+      only : leftOf (b .lost) (windowsOf mine) ≡ [] → (k : ℕ) → suppliedBy b mine k ≡ false
       only e k = ap (λ (σ : ℕ → Bool). σ k) (left-supplied b (windowsOf mine)) ∙ ap (λ (l : List ℕ). suppliedBy (framed (b .frame)) l k) e
 
-      so : (leftOf b (windowsOf mine) ≡ []) ⊎ ((i : ℕ) × (i < length (windowsOf mine)) × (b .lost < (windowAt (windowsOf mine) i) .end - (windowAt (windowsOf mine) i) .start)) →
-          ((k : ℕ) → suppliedBy b mine k ≡ false) → leftOf b (windowsOf mine) ≡ []
+      so : (leftOf (b .lost) (windowsOf mine) ≡ []) ⊎ ((i : ℕ) × (i < length (windowsOf mine)) × (b .lost < (windowAt (windowsOf mine) i) .end - (windowAt (windowsOf mine) i) .start)) →
+          ((k : ℕ) → suppliedBy b mine k ≡ false) → leftOf (b .lost) (windowsOf mine) ≡ []
       so (inl e) h = e
       so (inr (i, l, u)) h =
           let w : Window = windowAt (windowsOf mine) i in
@@ -117,8 +117,13 @@ module _ (b : Board) where
           let f = fits (framed (b .frame)) (windowsOf mine) (whole .windows) i l in
           let k : ℕ = b .lost + w .start in
           let place : k % b .frame ≡ k = mod-eq-of-lt (omega (arith, f .1)) in
-          let given-tick : suppliedBy b mine k ≡ true = rw place (covers-at b k (windowsOf mine) i l (gives-in b w k (omega arith) (omega arith))) in
+          let given-tick : suppliedBy b mine k ≡ true = rw place (covers-at (b .lost) k (windowsOf mine) i l (gives-in (b .lost) w k (omega arith) (omega arith))) in
           absurd (true≢false (sym given-tick ∙ h k))
+
+-- so of a list of windows, in the request's words: the asked owner is left no tick
+pub no-tick-asked : (owners : ℕ) (b : Board) (ws : List ℕ) → wholeFault owners b ws ≡ fine → absentOwnerFault b ws ≡ fine →
+    (ownLeft b ws ≡ []) ↔ ((k : ℕ) → suppliedBy b (own b ws) k ≡ false)
+no-tick-asked owners b ws e a = no-tick-left b (own b ws) (present-fine owners b ws e a)
 
 -- ---- traces and plan files
 

@@ -15,7 +15,7 @@ use Rattle.tables.proofs.window.window_at.Reads as window-at-reads
 
 abbrev Inv-loop : tie.InvT-loop
 Inv-loop windows k count i₀ i =
-    (i ≤ count) × (count ≡ length (windowsOf windows)) × ((P : ℕ) → covers (framed P) (windowsOf windows) k ≡ coversFrom (framed P) (windowsOf windows) i k)
+    (i ≤ count) × (count ≡ length (windowsOf windows)) × ((P : ℕ) → covers 0 (windowsOf windows) k ≡ coversFrom 0 (windowsOf windows) i k)
 
 abbrev μ-loop : tie.MeasureT-loop
 μ-loop windows k count i₀ i = count - i
@@ -34,7 +34,7 @@ returns c P =
     let a = c .before .before .before .before .before .before .args in
     let l = c .before .before .before .before .loop in
     let ws = windowsOf (a .windows .now) in
-    sym (l .inv .2 P ∙ covers-hit (framed P) ws (l .i) (a .k) (omega arith)
+    sym (l .inv .2 P ∙ covers-hit 0 ws (l .i) (a .k) (omega arith)
     (c .before .before .window-at .ensures) (sym (c .before .holds .ensures P) ∙ c .if1 .taken))
 
 add-i : tie.Need-add-i Inv-loop μ-loop
@@ -50,14 +50,14 @@ loop-again c =
     let ws = windowsOf (a .windows .now) in (
       omega arith,
       l .inv .1,
-      λ P. l .inv .2 P ∙ covers-skip (framed P) ws (l .i) (a .k) (omega arith)
+      λ P. l .inv .2 P ∙ covers-skip 0 ws (l .i) (a .k) (omega arith)
           (c .before .before .window-at .ensures) (sym (c .before .holds .ensures P) ∙ c .if1 .left),
     )
 
 returns-2 : tie.Need-returns-2 Inv-loop μ-loop
 returns-2 c P =
     let a = c .before .before .before .args in
-    sym (c .before .loop .inv .2 P ∙ covers-end (framed P) (windowsOf (a .windows .now)) (c .before .loop .i) (a .k) (omega arith))
+    sym (c .before .loop .inv .2 P ∙ covers-end 0 (windowsOf (a .windows .now)) (c .before .loop .i) (a .k) (omega arith))
 
 pub covered-spec : {M : Type 1} → statement M
 covered-spec =

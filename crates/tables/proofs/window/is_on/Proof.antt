@@ -18,7 +18,7 @@ returns : tie.Need-returns
 unfolding supplied
 returns c =
     let a = c .before .before .before .args in
-    c .covered .ensures (a .frame) ∙ ap (covers (framed (a .frame)) (windowsOf (a .windows .now))) (c .before .place-of .ensures)
+    c .covered .ensures (a .frame) ∙ ap (covers 0 (windowsOf (a .windows .now))) (c .before .place-of .ensures)
 
 pub is-on-spec : {M : Type 1} → statement M
 is-on-spec = tie.close (tie.spec place-of-requires covered-requires returns)

@@ -20,7 +20,7 @@ holds-requires c κs = search needs
 returns : tie.Need-returns
 returns c P =
     let a = c .before .before .before .before .args in
-    c .holds .ensures P ∙ ap (λ (w : Window). gives (framed P) w (a .self .tick)) (c .before .before .window-at .ensures)
+    c .holds .ensures P ∙ ap (λ (w : Window). gives 0 w (a .self .tick)) (c .before .before .window-at .ensures)
 
 pub is-on-spec : {M : Type 1} → statement M
 is-on-spec = tie.close (tie.spec window-at-requires cast-holds holds-requires returns)
