@@ -10,7 +10,7 @@ use mathlib.Core.List.{List, [], _∷_, map}
 use lib.Dec.{eqb}
 use lib.IntN.{ℤ, ℤ.negsuc, pos}
 use lib.ListN.{length, replicate}
-use Rattle.scope.specs.Windows.{Board, framed, Window, window}
+use Rattle.scope.specs.Windows.{Board, framedFor, framed, Window, window}
 use Rattle.scope.specs.Tasks.{Task, task, tasksOf}
 use Rattle.scope.specs.Verdict.{Verdict, Verdict.meets, Verdict.miss}
 use Rattle.scope.specs.Bound.{Bound, Bound.bound}
@@ -114,7 +114,7 @@ onAtLeast P o m = onRule P o m 1 0
 
 -- and allows every window
 abbrev pub onFor : ℕ → ℕ → Board
-onFor P o = onAtLeast P o 1
+onFor = framedFor
 
 -- and asks for owner 0
 abbrev pub on : ℕ → Board

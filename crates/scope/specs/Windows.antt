@@ -16,9 +16,13 @@ pub record Board : Type 0 where
   pub rule : ℕ
   pub lost : ℕ
 
--- the board of which only the frame is told: it asks for owner 0, allows every window, and is rule 1, which gives the whole window
+-- the board of which only the frame and the owner are told: it allows every window, and is rule 1, which gives the whole window
+abbrev pub framedFor : ℕ → ℕ → Board
+framedFor P o = record { frame = P; owner = o; shortest = 1; rule = 1; lost = 0 }
+
+-- only the frame: it asks for owner 0
 abbrev pub framed : ℕ → Board
-framed P = record { frame = P; owner = 0; shortest = 1; rule = 1; lost = 0 }
+framed P = framedFor P 0
 
 -- the ticks `start` up to but not including `end`
 pub record Window : Type 0 where

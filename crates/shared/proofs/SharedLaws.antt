@@ -21,7 +21,7 @@ use Rattle.theory.specs.Lists.{pieces-length, pieces-append}
 use Rattle.theory.specs.Buffers.{written-more}
 use Rattle.theory.specs.Shared.{for-even}
 use Rattle.theory.specs.Left.{left-few}
-use Rattle.theory.specs.Losses.{rule-number}
+use Rattle.theory.specs.Losses.{rule-or}
 use Rattle.theory.specs.Alone.{owned-length}
 use Rattle.tables.proofs.FaultLaws.{keeps, breaks}
 
@@ -211,11 +211,7 @@ module _ (b : Board) (ws : List ℕ) where
 
 module _ (b : Board) (left : ℕ) where
   pub none-left : left ≡ 0 → fault 13 0 ≡ (ruleFault b orElse faultIf (eqb left 0) 13 0)
-  none-left e = rw (eq-eqb left 0 e) (go (ruleFault b) (rule-number b))
-    where
-      go : (f : Fault) → ((n p : ℕ) → f ≡ fault n p → fault 13 0 ≡ fault n p) → fault 13 0 ≡ (f orElse fault 13 0)
-      go fine h = refl
-      go (fault n p) h = h n p refl
+  none-left e = rw (eq-eqb left 0 e) (rule-or b)
 
   pub some-left : left ≢ 0 → ruleFault b ≡ (ruleFault b orElse faultIf (eqb left 0) 13 0)
   some-left u = rw (ne-eqb left 0 u) (go (ruleFault b))

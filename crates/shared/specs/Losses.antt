@@ -13,15 +13,13 @@ use Rattle.scope.specs.Examples.{XShared}
 use Rattle.scope.specs.Computing.{everything}
 use Rattle.theory.specs.Alone.{Entry, verdict-entry}
 use Rattle.theory.specs.Shortest.{Known, verdict-known}
-use Rattle.theory.specs.Losses.{Ruled}
-use Rattle.theory.specs.Lost.{onlyFor, rule-one, NoLoss, no-loss}
+use Rattle.theory.specs.Lost.{rule-one, NoLoss, no-loss}
 use Rattle.theory.specs.Thirteen.{Thirteen, exactly-thirteen}
-use Rattle.theory.specs.MoreLost.{more-lost-amount, more-lost-meets}
+use Rattle.theory.specs.MoreLost.{more-lost-amount, less-lost-meets}
 use Rattle.theory.specs.Applied.{w4, in-five}
 use Rattle.tables.specs.declared.board.Board.{Board}
 use Rattle.tables.specs.declared.answer.Refusal.{Refusal}
 use Rattle.tables.specs.declared.answer.Refusal.the-variants.{Loss}
-use Rattle.tables.specs.declared.answer.Amount.{Amount}
 use Rattle.tables.specs.declared.answer.Amount.the-variants.{Of}
 use Rattle.tables.specs.declared.answer.Verdict.{Verdict}
 use Rattle.tables.specs.declared.answer.Verdict.the-variants.{Meets, Miss, Refused}
@@ -41,7 +39,7 @@ module _ {R A : Type 0} (told : R → Answer A) (by : Refusal → R) (tells : (r
     pub no-loss-answered : NoLoss (boardOf b) (boardOf c) → (y : R) → told y ≡ askedFor teams (boardOf c) ws refused (entry (boardOf c)) → x ≡ y
     no-loss-answered alike y promised′ = determined x y (promised ∙ no-loss (boardOf b) (boardOf c) alike is teams ws ∙ sym promised′)
 
-    pub left-answered : sharedFault teams (boardOf b) ws ≡ fine → (o : ℕ) → o < teams → boardOf c ≡ onlyFor (boardOf b) o →
+    pub left-answered : sharedFault teams (boardOf b) ws ≡ fine → (o : ℕ) → o < teams → boardOf c ≡ Windows.framedFor (b .frame) o →
         (y : R) → told y ≡ askedFor teams (boardOf c) (asOwned o (ownLeft (boardOf b) ws)) refused (entry (boardOf c)) → x ≡ y
     left-answered listed o exists only y promised′ =
         determined x y (promised ∙ rule-one is teams (boardOf b) ws listed o exists ∙ rw (← only) (sym promised′))
@@ -57,7 +55,7 @@ module _ (b : Board) (ws ts : List ℕ) (v : Verdict) (promised : toldVerdict v 
   unfolding verdictFor
   verdict-no-loss = no-loss-answered toldVerdict Refused (λ r. refl) verdict-determined (λ d l. verdictAnswer d l ts) b ws v promised (verdict-entry ts)
 
-  pub verdict-left : (c : Board) → sharedFault teams (boardOf b) ws ≡ fine → (o : ℕ) → o < teams → boardOf c ≡ onlyFor (boardOf b) o →
+  pub verdict-left : (c : Board) → sharedFault teams (boardOf b) ws ≡ fine → (o : ℕ) → o < teams → boardOf c ≡ Windows.framedFor (b .frame) o →
       (w : Verdict) → toldVerdict w ≡ verdictFor (boardOf c) (asOwned o (ownLeft (boardOf b) ws)) ts → v ≡ w
   unfolding verdictFor
   verdict-left = left-answered toldVerdict Refused (λ r. refl) verdict-determined (λ d l. verdictAnswer d l ts) b ws v promised (verdict-entry ts)
@@ -70,10 +68,10 @@ module _ (b c : Board) (framed : b .frame ≡ c .frame) (less : b .lost ≤ c .l
   amount-more-lost t p q e f = more-lost-amount (boardOf b) (boardOf c) framed less owner ws t p q (sym e) (sym f)
 
   -- and who is let in on c is let in on b
-  pub verdict-less-lost : b .shortest ≡ c .shortest → Ruled (boardOf b) → (ts : List ℕ) (H : ℕ) → toldVerdict (Meets H) ≡ verdictFor (boardOf c) ws ts →
+  pub verdict-less-lost : b .shortest ≡ c .shortest → b .rule ≡ c .rule → (ts : List ℕ) (H : ℕ) → toldVerdict (Meets H) ≡ verdictFor (boardOf c) ws ts →
       (v : Verdict) → toldVerdict v ≡ verdictFor (boardOf b) ws ts → v ≡ Meets H
-  verdict-less-lost shortest ruled ts H e v promised =
-      verdict-determined v (Meets H) (promised ∙ more-lost-meets (boardOf b) (boardOf c) framed less owner shortest ruled ws ts H (sym e))
+  verdict-less-lost shortest rule ts H e v promised =
+      verdict-determined v (Meets H) (promised ∙ less-lost-meets (boardOf b) (boardOf c) framed less owner shortest rule ws ts H (sym e))
 
 -- ---- at X among two teams, of whose windows a board that loses one tick leaves (1,2) and (6,7), and one that loses two nothing
 
@@ -96,7 +94,6 @@ x-left v promised = verdict-left (board 2 1) XShared w4 v promised (board 1 0) r
 x-less : (t p q : ℕ) → toldAmount (Of p) ≡ leastSupplyFor (boardOf (board 2 1)) XShared t → toldAmount (Of q) ≡ leastSupplyFor (boardOf (board 1 0)) XShared t → p ≤ q
 x-less = amount-more-lost (board 1 0) (board 2 1) refl (omega arith) refl XShared
 
-x-less-lost : (v : Verdict) → toldVerdict v ≡ verdictFor (boardOf (board 1 0)) XShared in-five → v ≡ Meets 8
+x-less-lost : (v : Verdict) → toldVerdict v ≡ verdictFor (boardOf (board 2 0)) XShared in-five → v ≡ Meets 8
 unfolding everything
-x-less-lost =
-    verdict-less-lost (board 1 0) (board 2 1) refl (omega arith) refl XShared refl (record { known = λ u. absurd (u refl); few = omega arith; whole = λ e. refl }) in-five 8 refl
+x-less-lost = verdict-less-lost (board 2 0) (board 2 1) refl (omega arith) refl XShared refl refl in-five 8 refl

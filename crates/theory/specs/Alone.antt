@@ -63,10 +63,19 @@ pub record Alike (b c : Board) : Type 0 where
 pub itself : (b : Board) → Alike b b
 itself b = record { frame = refl; rule = refl; lost = refl }
 
--- on them the same windows get the same
-pub on-alike : {R : Type 0} {refusal : ℕ → ℕ → R} {entry : Board → List ℕ → R} → Entry refusal entry →
-    (b c : Board) (ws : List ℕ) → Alike b c → entry b ws ≡ entry c ws
-on-alike is b c ws a = is .by-ticks b c ws ws (a .frame) (table-same b c ws (a .frame)) (supplied-same b c ws (a .frame) (a .lost))
+-- the same windows get the same in equal frames with equal loss
+pub windows-same : {R : Type 0} {refusal : ℕ → ℕ → R} {entry : Board → List ℕ → R} → Entry refusal entry →
+    (b c : Board) (ws : List ℕ) → b .frame ≡ c .frame → b .lost ≡ c .lost → entry b ws ≡ entry c ws
+windows-same is b c ws e l = is .by-ticks b c ws ws e (table-same b c ws e) (supplied-same b c ws e l)
+
+-- as does a summary
+pub summary-same : (b c : Board) (ws vs : List ℕ) → b .frame ≡ c .frame → b .lost ≡ c .lost → ws ≡ vs → summaryOf b ws ≡ summaryOf c vs
+unfolding summaryOf
+summary-same b c ws vs e l same = rw (same, supplied-same b c vs e l, e)
+
+-- who is asked for says whose windows these are
+pub own-owner : (b c : Board) (ws : List ℕ) → b .owner ≡ c .owner → own b ws ≡ own c ws
+own-owner b c ws e = ap (λ (o : ℕ). windowsFor o (ownedOf ws)) e
 
 pub supplied-entry : (k : ℕ) → Entry refused (λ b ws. suppliedAnswer b ws k)
 unfolding suppliedAnswer
@@ -167,7 +176,7 @@ pub alone : {R : Type 0} {refusal : ℕ → ℕ → R} {entry : Board → List �
 unfolding askedFor
 alone {R} {refusal} {entry} is owners b c ws vs e f a same =
     rw (shared-own owners b ws e, shared-own owners c vs f, own-same b c ws vs a same, same)
-    (ap (unlessRefused (absentOwnerFault c vs orElse lostFault c (own c vs)) refusal) (on-alike is b c (own c vs) a))
+    (ap (unlessRefused (absentOwnerFault c vs orElse lostFault c (own c vs)) refusal) (windows-same is b c (own c vs) (a .frame) (a .lost)))
 
 -- ---- what may depend on every team: 1 and 2, at place 0, 3, at a window of the whole list, and 12, at such a window or at 64
 

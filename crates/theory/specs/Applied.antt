@@ -22,10 +22,10 @@ use Rattle.scope.specs.Plan.{Read.read, Plan, planOf, numberBytesWithin, number
 use Rattle.scope.specs.Line.{lineAnswer, lineOut}
 use Rattle.scope.specs.Run.{Outcome.met, outcome, countOf, counts}
 use Rattle.scope.specs.Answers.{Fault.fine, Fault.fault, Answer.given, Answer.refused, windowListFault, taskListFault, verdictAnswer, boundAnswer, runAnswer, runOut, criticalAnswer}
-use Rattle.scope.specs.Answers.{groupFault, criticalOf, criticalOut, leastSupplyAnswer, outageAnswer}
+use Rattle.scope.specs.Answers.{ruleFault, groupFault, criticalOf, criticalOut, leastSupplyAnswer, outageAnswer}
 use Rattle.scope.specs.Trace.{Stamped, traceOf, Record, timed, ticksOf, releases, completion, completions, traceBytes, stampedFrom}
 use Rattle.scope.specs.Replay.{endedFrom, recorded, Replayed.same, Replayed.differs, Replayed.missed, replayAnswer}
-use Rattle.scope.specs.Shared.{ownedOf, own, ownLeft, asOwned, sharedFault, ownAnswer, ownOut, leastSupplyFor, marginFor, verdictFor, runOutFor, replayFor, planAnswer}
+use Rattle.scope.specs.Shared.{ownedOf, own, ownLeft, asOwned, sharedFault, ownAnswer, ownOut, leastSupplyFor, marginFor, verdictFor, runOutFor, replayFor, planBoard, planAnswer}
 use Rattle.scope.specs.Summary.{summaryOf, makeAnswer, makeOut, begins, summaryFault, ticksBefore, leastFrom, marginFrom, marginsAnswer, marginsOut, makeFor, makeOutFor}
 use Rattle.scope.specs.Summary.{leastFromFor, marginsFor, marginsOutFor, Edit, Edit.move, Edit.add, Edit.remove, tableIn, editedList, editAnswer, editWindows, editSummary}
 use Rattle.scope.specs.Demands.{Silent, LeastMiss, Way, Served}
@@ -51,9 +51,9 @@ use Rattle.theory.specs.Traces.{shift-answer}
 use Rattle.theory.specs.Replays.{replay-given, same-completions, FirstPair, machineEnded, replayed-differs, meets-no-miss}
 use Rattle.theory.specs.Recorded.{recorded-same, recorded-met, recorded-missed}
 use Rattle.theory.specs.Shared.{one-owner-a-tick, no-such-owner, Gives}
-use Rattle.theory.specs.Losses.{Cause.no-such-rule, Cause.too-many-lost, Cause.lost-under-one, Cause.none-left, Ruled}
+use Rattle.theory.specs.Losses.{Cause.no-such-rule, Cause.too-many-lost, Cause.lost-under-one, Cause.none-left}
 use Rattle.theory.specs.Alone.{Alike, itself, verdict-entry, run-out-entry, make-out-entry, margins-out-entry, teamsFault, alone, WholeRefusal, whole-refusal, Told, told-apart, own-alone, one-owner, replay-alone, replay-one-owner}
-use Rattle.theory.specs.Shortest.{verdict-known, least-from-known, Twelve, exactly-twelve, one-answer, never-twelve, smaller-same, replay-smaller, TraceTwelve, replay-twelve, PlanTwelve, plan-twelve}
+use Rattle.theory.specs.Shortest.{verdict-known, least-from-known, Twelve, exactly-twelve, one-answer, never-twelve, smaller-same, replay-smaller, OfTrace, replay-twelve, OfPlan, plan-twelve}
 use Rattle.theory.specs.Shortest.{own-twelve, own-smaller, smaller-plan, old-form, old-refused}
 use Rattle.theory.specs.Buffers.{begins-written}
 use Rattle.theory.specs.Summaries.{fine-begins, least-from-exact, margin-from-exact, summary-agrees, summary-answers, not-belonging, fourteen}
@@ -64,9 +64,9 @@ use Rattle.theory.specs.Edits.{EditRefusal, edit-refusal, refusal-edit, 
 use Rattle.theory.specs.PlanBytes.{Writable, plan-length, round-trip, left-over, only-bytes}
 use Rattle.theory.specs.Lost.{supplied-exactly, asked-left, rule-one, left-table, own-rule-one, ends-left, replay-left, replay-rule-one}
 use Rattle.theory.specs.Lost.{NoLoss, no-loss-fault, no-loss, replay-no-loss, own-no-loss, edit-no-loss}
-use Rattle.theory.specs.Thirteen.{Thirteen, shared-thirteen, exactly-thirteen, own-thirteen, no-tick-left, no-tick-asked, TraceThirteen, replay-thirteen, PlanThirteen, plan-thirteen, EditThirteen, edit-thirteen}
-use Rattle.theory.specs.MoreLost.{more-meets, more-lost-tick, more-lost-supply, more-lost-frame, more-lost-least, more-lost-amount, more-lost-fine, more-lost-meets, more-lost-thirteen, less-lost-not-thirteen}
-use Rattle.theory.specs.RulePlans.{oldest-form, oldest-refused, m-first-form, m-first-refused, m-first-plan, no-loss-plan}
+use Rattle.theory.specs.Thirteen.{Thirteen, shared-thirteen, exactly-thirteen, own-thirteen, no-tick-left, no-tick-asked, replay-thirteen, plan-thirteen, EditThirteen, edit-thirteen}
+use Rattle.theory.specs.MoreLost.{more-meets, more-lost-tick, more-lost-supply, more-lost-frame, more-lost-least, more-lost-amount, more-lost-fine, more-lost-meets, less-lost-meets, more-lost-thirteen, less-lost-not-thirteen}
+use Rattle.theory.specs.RulePlans.{oldest-form, oldest-refused, m-first-form, m-first-refused, no-loss-plan}
 
 abbrev pub w6 : List ℕ
 w6 = 1 ∷ 4 ∷ 4 ∷ 2 ∷ 8 ∷ 6 ∷ []
@@ -605,7 +605,7 @@ trace-smaller : replayFor (onAtLeast 8 0 2) (asOwned 0 X) w7 trace ≡ replayFor
 unfolding everything
 trace-smaller = replay-smaller (onAtLeast 8 0 2) (on 8) (asOwned 0 X) w7 trace (at-least 2) refl (omega arith) (omega arith) (λ p e. fault-not-fine (sym e))
 
-trace-sliver : TraceTwelve (onAtLeast 8 0 3) (asOwned 0 X) trace 0
+trace-sliver : OfTrace trace (Twelve teams (onAtLeast 8 0 3) (asOwned 0 X) 0)
 unfolding everything
 trace-sliver = replay-twelve (onAtLeast 8 0 3) (asOwned 0 X) w7 trace 0 .0 refl
 
@@ -625,10 +625,10 @@ early-behind = refused-behind (200 ∷ []) (0 ∷ 65 ∷ []) (up-to-greatest mos
 w6-smaller-plan : planAnswer 1 (planBytes (withSettings (2 ∷ []) w6-plan)) ≡ planAnswer 1 (planBytes (withSettings (1 ∷ []) w6-plan))
 unfolding everything
 w6-smaller-plan =
-    smaller-plan w6-plan w6-writable 2 1 (up-to-greatest mostNumber (2 ∷ []) (omega arith)) (up-to-greatest mostNumber (1 ∷ []) (omega arith)) (omega arith) (omega arith)
+    smaller-plan w6-plan w6-writable [] 2 1 (up-to-greatest mostNumber (2 ∷ []) (omega arith)) (up-to-greatest mostNumber (1 ∷ []) (omega arith)) (omega arith) (omega arith)
     (λ q e. let z : _≡_ {A = ℕ} 0 1 = cc in omega arith)
 
-w6-plan-twelve : PlanTwelve 1 (3 ∷ w6-file) 0
+w6-plan-twelve : OfPlan 1 (3 ∷ w6-file) (λ p. Twelve teams (planBoard p) (asOwned 0 (p .windows)) 0)
 unfolding everything
 w6-plan-twelve = plan-twelve 1 (3 ∷ w6-file) 0 .0 refl
 
@@ -994,8 +994,9 @@ moved-by-rule-two = sym (edit-no-loss (on 8) (losing 8 0 0) (by-rule-two 0) team
 
 -- ---- more lost ticks: none, one and two of each of X's windows
 
-rule-one-board : Ruled (on 8)
-rule-one-board = record { known = λ u. absurd (u refl); few = omega arith; whole = λ e. refl }
+rule-one-board : ruleFault (on 8) ≡ fine
+unfolding everything
+rule-one-board = refl
 
 lost-no-new-tick : suppliedBy (on 8) X 9 ≡ true
 unfolding everything
@@ -1020,6 +1021,10 @@ less-fine = more-lost-fine (on 8) (losing 8 0 1) refl (omega arith) refl refl ru
 -- the task that meets with one tick lost meets with none lost
 less-meets : verdictFor (on 8) XShared in-five ≡ given (meets 8)
 less-meets = more-lost-meets (on 8) (losing 8 0 1) refl (omega arith) refl refl rule-one-board XShared in-five 8 lost-meets
+
+-- and by rule 2 with none lost
+less-by-rule-two : verdictFor (losing 8 0 0) XShared in-five ≡ given (meets 8)
+less-by-rule-two = less-lost-meets (losing 8 0 0) (losing 8 0 1) refl (omega arith) refl refl refl XShared in-five 8 lost-meets
 
 -- and W7's group, which meets on X, on a table that supplies every tick
 full-meets : verdictAnswer (on 8) (0 ∷ 8 ∷ []) w7 ≡ given (meets 8)
@@ -1077,14 +1082,14 @@ x-none-left : ownLeft (losing 8 0 2) XShared ≡ []
 unfolding everything
 x-none-left = no-tick-asked teams (losing 8 0 2) XShared refl refl .1 x-no-tick
 
-trace-thirteen : TraceThirteen (losing 8 0 2) XShared trace
+trace-thirteen : OfTrace trace (Thirteen teams (losing 8 0 2) XShared × (_≡_ {A = ℕ} 0 0))
 unfolding everything
-trace-thirteen = replay-thirteen (losing 8 0 2) XShared w7 trace 0 .0 refl .0
+trace-thirteen = replay-thirteen (losing 8 0 2) XShared w7 trace 0 .0 refl
 
 -- W6's file, behind m = 1, rule 2 and two lost ticks
-w6-plan-thirteen : PlanThirteen 3 (1 ∷ 2 ∷ 2 ∷ w6-file)
+w6-plan-thirteen : OfPlan 3 (1 ∷ 2 ∷ 2 ∷ w6-file) (λ p. Thirteen teams (planBoard p) (asOwned 0 (p .windows)) × (_≡_ {A = ℕ} 0 0))
 unfolding everything
-w6-plan-thirteen = plan-thirteen 3 (1 ∷ 2 ∷ 2 ∷ w6-file) 0 .0 refl .0
+w6-plan-thirteen = plan-thirteen 3 (1 ∷ 2 ∷ 2 ∷ w6-file) 0 .0 refl
 
 -- a removal that leaves a window of one tick on a board that loses one; and on a board that loses three a window of three
 removal-thirteen : EditThirteen teams (losing 8 0 1) 2 (0 ∷ 2 ∷ 0 ∷ 5 ∷ 6 ∷ 0 ∷ []) (1 ∷ 7 ∷ 1 ∷ 7 ∷ 8 ∷ []) (remove 0)
@@ -1108,14 +1113,13 @@ w6-oldest-left-over b rest = oldest-refused (w6-file ++ (b ∷ rest)) 9 13 (w6-l
 -- m = 200 takes two bytes, and X's windows are shorter
 w6-m-first : planAnswer 3 (200 ∷ 1 ∷ 1 ∷ 0 ∷ w6-file) ≡ planAnswer 1 (200 ∷ 1 ∷ w6-file)
 unfolding numberBytes numberBytesWithin
-w6-m-first = m-first-form w6-file 200 (omega arith) w6-plan w6-reads
+w6-m-first = m-first-form 200 (omega arith) w6-file w6-plan w6-reads
 
 w6-m-left-over : (b : ℕ) (rest : List ℕ) → planAnswer 3 (200 ∷ 1 ∷ 1 ∷ 0 ∷ (w6-file ++ (b ∷ rest))) ≡ refused 9 17
 unfolding numberBytes numberBytesWithin
-w6-m-left-over b rest = m-first-refused (w6-file ++ (b ∷ rest)) 200 (omega arith) 9 13 (w6-left-over b rest) .1
+w6-m-left-over b rest = m-first-refused 200 (omega arith) (w6-file ++ (b ∷ rest)) 9 13 (w6-left-over b rest) .1
 
-w6-m-plan : planAnswer 1 (planBytes (withSettings (2 ∷ []) w6-plan)) ≡ planAnswer 3 (planBytes (withSettings (2 ∷ 1 ∷ 0 ∷ []) w6-plan))
-w6-m-plan = m-first-plan w6-plan w6-writable 2 (omega arith)
-
-w6-two-plan : planAnswer 3 (planBytes (withSettings (2 ∷ 1 ∷ 0 ∷ []) w6-plan)) ≡ planAnswer 3 (planBytes (withSettings (2 ∷ 2 ∷ 0 ∷ []) w6-plan))
-w6-two-plan = no-loss-plan w6-plan w6-writable 2 (omega arith)
+-- with a byte left over too
+w6-two-plan : (rest : List ℕ) → planAnswer 3 (200 ∷ 1 ∷ 1 ∷ 0 ∷ (w6-file ++ rest)) ≡ planAnswer 3 (200 ∷ 1 ∷ 2 ∷ 0 ∷ (w6-file ++ rest))
+unfolding numberBytes numberBytesWithin
+w6-two-plan rest = no-loss-plan 200 (omega arith) (w6-file ++ rest)

@@ -20,14 +20,14 @@ use Rattle.scope.specs.Shared.{ownLeft, sliver, firstSliver, sliverFault, lostF
 use Rattle.scope.specs.Summary.{summaryOf, makeFault, makeAnswer, makeOut, makeFor, makeOutFor, begins, summaryFault, Edit, Edit.move, Edit.add, Edit.remove, spliced, edited, indexFault, tableIn, countFault}
 use Rattle.scope.specs.Summary.{editedList, editedSummary, editFault, Edited, editAnswer, editWindows, editSummary}
 use Rattle.theory.specs.Numbers.{first-some}
-use Rattle.theory.specs.Lists.{pieces-length, pieces-append, whole-count}
+use Rattle.theory.specs.Lists.{none-listed, pieces-length, pieces-append, whole-count}
 use Rattle.theory.specs.Answers.{fault-not-fine, faultIf-fine, orElse-fine, unless-given, unless-refused, room-fine, fine-room, room-fault}
 use Rattle.theory.specs.Refused.{edit-kept}
 use Rattle.theory.specs.Summaries.{fine-begins, begins-fine}
 use Rattle.theory.specs.Buffers.{length-written, take-written, written-begins, begins-length, begins-written}
 use Rattle.theory.specs.Shared.{shared-parts, whole, own-fine, asked-fine}
 use Rattle.theory.specs.Losses.{Cause, Cause.none-left, lost-thirteen, lost-exactly}
-use Rattle.theory.specs.Alone.{supplied-same, Alike, own-same, teamsFault, WholeRefusal, WholeRefusal.by-count, WholeRefusal.by-frame, WholeRefusal.by-window, WholeRefusal.by-range, WholeRefusal.by-sliver, whole-refusal}
+use Rattle.theory.specs.Alone.{Alike, summary-same, own-same, teamsFault, WholeRefusal, WholeRefusal.by-count, WholeRefusal.by-frame, WholeRefusal.by-window, WholeRefusal.by-range, WholeRefusal.by-sliver, whole-refusal}
 
 -- ---- what an edit that is made has checked
 
@@ -439,11 +439,6 @@ other-owner owners b count memory summary edit x e u =
 
 -- ---- what of an edit may depend on the other team
 
--- a summary depends on the frame, the owner's windows and the lost ticks
-pub summary-same : (b c : Board) (ws vs : List ℕ) → Alike b c → ws ≡ vs → summaryOf b ws ≡ summaryOf c vs
-unfolding summaryOf
-summary-same b c ws vs alike same = rw (same, supplied-same b c vs (alike .frame) (alike .lost), alike .frame)
-
 -- not the summary, nor how many numbers it has: two edits that are made, whatever else they find, leave the same where the owner has the same windows after them
 pub edit-own : (owners : ℕ) (b c : Board) (count n : ℕ) (memory m summary : List ℕ) (edit change : Edit) (x y : Edited) →
     editAnswer owners b count memory summary edit ≡ given x → editAnswer owners c n m summary change ≡ given y →
@@ -452,7 +447,7 @@ pub edit-own : (owners : ℕ) (b c : Board) (count n : ℕ) (memory m summary : 
 edit-own owners b c count n memory m summary edit change x y e f alike same =
     let g = edit-given owners b count memory summary edit x e in
     let h = edit-given owners c n m summary change y f in
-    let z = summary-same b c (own b (editedList count memory edit)) (own c (editedList n m change)) alike same in
+    let z = summary-same b c (own b (editedList count memory edit)) (own c (editedList n m change)) (alike .frame) (alike .lost) same in
     (g .numbers ∙ ap length z ∙ sym (h .numbers), g .summary-memory ∙ ap (λ (l : List ℕ). written l summary) z ∙ sym (h .summary-memory))
 
 -- every refusal of the table that an edit would leave: by its number of windows, at one of them, for an owner that has none left, at a sliver, for an owner
@@ -487,10 +482,6 @@ module _ (owners : ℕ) (b : Board) (count : ℕ) (memory summary : List ℕ) (e
     no-summary-room : Fitting owners b count memory summary edit → 3 * countAfter edit count ≤ length memory → length summary < length (editedSummary b count memory edit) →
         EditRefusal 8 (length (editedSummary b count memory edit))
 
-no-numbers : (l : List ℕ) → length l ≡ 0 → l ≡ []
-no-numbers [] e = refl
-no-numbers (a ∷ l) e = absurd (omega arith)
-
 -- the refusal of a list for an owner: one that may depend on every team, that the owner has no window there, or that it is left no tick by such a board
 data SharedRefusal (b : Board) (ws : List ℕ) (n p : ℕ) : Type 0 where
   by-teams : WholeRefusal (length (ownedOf ws)) n p → SharedRefusal b ws n p
@@ -507,7 +498,7 @@ shared-refusal owners b ws n p = go (wholeFault owners b ws) refl
 
     absent : wholeFault owners b ws ≡ fine → (t : Bool) → eqb (length (own b ws)) 0 ≡ t → (faultIf t 1 0 orElse sliverFault b ws orElse lostFault b (own b ws)) ≡ fault n p →
         SharedRefusal b ws n p
-    absent e true z f = by-absence (no-numbers (own b ws) (eqb-true (length (own b ws)) 0 z)) f
+    absent e true z f = by-absence (none-listed (own b ws) (eqb-true (length (own b ws)) 0 z)) f
     absent e false z f = slivers e (sliverFault b ws) refl f
 
     go : (g : Fault) → wholeFault owners b ws ≡ g → (g orElse faultIf (eqb (length (own b ws)) 0) 1 0 orElse sliverFault b ws orElse lostFault b (own b ws)) ≡ fault n p →
@@ -567,7 +558,7 @@ module _ (owners : ℕ) (b : Board) (ws : List ℕ) (windows : ℕ)
       none-left = eqb (length (ownLeft b ws)) 0
 
       loss : own b ws ≢ [] → (t : Bool) → none-left ≡ t → faultIf t 13 0 ≡ fault n p → NewRefusal b ws windows n p
-      loss u true z e = is (new-loss u (no-numbers (ownLeft b ws) (eqb-true (length (ownLeft b ws)) 0 z))) e
+      loss u true z e = is (new-loss u (none-listed (ownLeft b ws) (eqb-true (length (ownLeft b ws)) 0 z))) e
       loss u false z e = absurd (fault-not-fine (sym e))
 
       slivered : own b ws ≢ [] → (o : Option ℕ) → short ≡ o → (faultAt 12 o orElse faultIf none-left 13 0) ≡ fault n p → NewRefusal b ws windows n p
@@ -577,7 +568,7 @@ module _ (owners : ℕ) (b : Board) (ws : List ℕ) (windows : ℕ)
           is (new-sliver i (omega (arith, s .0, count-read))) e
 
       absent : (t : Bool) → eqb (length (own b ws)) 0 ≡ t → (faultIf t 1 0 orElse faultAt 12 short orElse faultIf none-left 13 0) ≡ fault n p → NewRefusal b ws windows n p
-      absent true z e = is (new-absent (no-numbers (own b ws) (eqb-true (length (own b ws)) 0 z))) e
+      absent true z e = is (new-absent (none-listed (own b ws) (eqb-true (length (own b ws)) 0 z))) e
       absent false z e = slivered (λ w. eqb-false (length (own b ws)) 0 z (ap length w)) short refl e
 
       bad : Option ℕ
@@ -783,7 +774,7 @@ pub fourteen-own : (owners : ℕ) (b c : Board) (count n : ℕ) (memory m summar
     Alike b c → own b (tableIn count memory) ≡ own c (tableIn n m) →
     (editAnswer owners b count memory summary edit ≡ refused 14 0) ↔ (editAnswer owners c n m summary change ≡ refused 14 0)
 fourteen-own owners b c count n memory m summary edit change k e j f alike same =
-    let z = summary-same b c (own b (tableIn count memory)) (own c (tableIn n m)) alike same in
+    let z = summary-same b c (own b (tableIn count memory)) (own c (tableIn n m)) (alike .frame) (alike .lost) same in
     let to = exactly-fourteen owners b count memory summary edit 0 in
     let fro = exactly-fourteen owners c n m summary change 0 in (
       λ a. fro .1 (record { counted = j; before = f; stale = rw (← z) (to .0 a .0 .stale) }, refl),
@@ -805,7 +796,6 @@ pub record EditTold (owners : ℕ) (b : Board) (count : ℕ) (memory summary : L
   pub is : TeamsRefusal (countAfter edit count) number place
   pub answered : editAnswer owners b count memory summary edit ≡ refused number place
 
--- a list without a fault has a window of the owner
 -- what is refused for an owner by its own windows and the board: 1 and 13
 abbrev ownedFaults : Board → List ℕ → Fault
 ownedFaults b ws = absentOwnerFault b ws orElse lostFault b (own b ws)
@@ -816,16 +806,17 @@ absent-own b ws h = rw h
 
 present-own : (b : Board) (ws : List ℕ) → own b ws ≢ [] → ownedFaults b ws ≡ lostFault b (own b ws)
 unfolding absentOwnerFault
-present-own b ws u = rw (ne-eqb (length (own b ws)) 0 (λ z. u (no-numbers (own b ws) z)))
+present-own b ws u = rw (ne-eqb (length (own b ws)) 0 (λ z. u (none-listed (own b ws) z)))
 
+-- a list without a fault has a window of the owner, which is left a tick
 never-own : (owners : ℕ) (b : Board) (ws : List ℕ) → sharedFault owners b ws ≡ fine → ownedFaults b ws ≡ fine
 never-own owners b ws f = let p = shared-parts owners b ws f in rw (p .1, p .3)
 
 module _ (owners : ℕ) (b : Board) (count : ℕ) (memory summary : List ℕ) (edit : Edit) where
   -- an edit that none of these refuses: the owner has no window left, or no tick, or only room for the summary is asked
   pub data Untold : Type 0 where
-    left-own : (n p : ℕ) → ownedFaults b (editedList count memory edit) ≡ fault n p → editAnswer owners b count memory summary edit ≡ refused n p → Untold
-    left-legal : sharedFault owners b (editedList count memory edit) ≡ fine →
+    still-owned : (n p : ℕ) → ownedFaults b (editedList count memory edit) ≡ fault n p → editAnswer owners b count memory summary edit ≡ refused n p → Untold
+    still-legal : sharedFault owners b (editedList count memory edit) ≡ fine →
         editFault owners b count memory summary edit ≡ roomFault (length (editedSummary b count memory edit)) (length summary) → Untold
 
   told-or-not : Ready owners b count memory summary → EditTold owners b count memory summary edit ⊎ Untold
@@ -854,9 +845,9 @@ module _ (owners : ℕ) (b : Board) (count : ℕ) (memory summary : List ℕ) (e
       new-told n p (too-few h) e = inl (so by-number e)
       new-told n p (too-many h) e = inl (so by-number e)
       new-told n p (new-window i h) e = inl (so (by-rule i h) e)
-      new-told n p (new-absent h) e = inr (left-own 1 0 (absent-own b new h) (rw (behind ∙ e)))
+      new-told n p (new-absent h) e = inr (still-owned 1 0 (absent-own b new h) (rw (behind ∙ e)))
       new-told n p (new-sliver i h) e = inl (so (by-short i h) e)
-      new-told n p (new-loss u h) e = inr (left-own 13 0 (present-own b new u ∙ lost-exactly b (own b new) .1 (none-left h)) (rw (behind ∙ e)))
+      new-told n p (new-loss u h) e = inr (still-owned 13 0 (present-own b new u ∙ lost-exactly b (own b new) .1 (none-left h)) (rw (behind ∙ e)))
 
       roomy : indexFault edit count ≡ fine → sharedFault owners b new ≡ fine → (t : Bool) → ltb (length memory) (length new) ≡ t → T
       roomy i a true z =
@@ -864,7 +855,7 @@ module _ (owners : ℕ) (b : Board) (count : ℕ) (memory summary : List ℕ) (e
           let full = room-fault (length new) (length memory) (ltb-true (length memory) (length new) z) in
           let e : later ≡ fault 8 (length new) = rw (i, a, full) in
           inl (so by-room (e ∙ ap (fault 8) long))
-      roomy i a false z = inr (left-legal a (behind ∙ rw (i, a, fine-room (length new) (length memory) (ltb-false (length memory) (length new) z))))
+      roomy i a false z = inr (still-legal a (behind ∙ rw (i, a, fine-room (length new) (length memory) (ltb-false (length memory) (length new) z))))
 
       after : indexFault edit count ≡ fine → (g : Fault) → sharedFault owners b new ≡ g → T
       after i fine z = roomy i z (ltb (length memory) (length new)) refl
@@ -904,18 +895,18 @@ module _ (owners : ℕ) (b c : Board) (count k : ℕ) (memory m summary : List �
         editFault owners c k m summary change ≡ roomFault (length (editedSummary c k m change)) (length summary) → Same
     unfolding editAnswer editSummary
     both-legal e f =
-        let z = summary-same b c (own b (editedList count memory edit)) (own c (editedList k m change)) alike after in
+        let z = summary-same b c (own b (editedList count memory edit)) (own c (editedList k m change)) (alike .frame) (alike .lost) after in
         (rw (e, f, numbers-unless, numbers-unless, z), rw (e, f, z))
 
     untold-same : Untold owners b count memory summary edit → Untold owners c k m summary change → Same
-    untold-same (left-own n p a e) (left-own o q d f) =
+    untold-same (still-owned n p a e) (still-owned o q d f) =
         let z : fault n p ≡ fault o q = sym a ∙ faults ∙ d in
         let x : o ≡ n = cc in
         let y : q ≡ p = cc in
         refused-same n p e (rw (← x, ← y) f)
-    untold-same (left-own n p a e) (left-legal l f) = absurd (fault-not-fine (sym a ∙ faults ∙ never-own owners c (editedList k m change) l))
-    untold-same (left-legal l e) (left-own o q d f) = absurd (fault-not-fine (sym d ∙ sym faults ∙ never-own owners b (editedList count memory edit) l))
-    untold-same (left-legal l e) (left-legal g f) = both-legal e f
+    untold-same (still-owned n p a e) (still-legal l f) = absurd (fault-not-fine (sym a ∙ faults ∙ never-own owners c (editedList k m change) l))
+    untold-same (still-legal l e) (still-owned o q d f) = absurd (fault-not-fine (sym d ∙ sym faults ∙ never-own owners b (editedList count memory edit) l))
+    untold-same (still-legal l e) (still-legal g f) = both-legal e f
 
     pub edit-told-apart : 3 * count ≤ length memory → sharedFault owners b (tableIn count memory) ≡ fine →
         3 * k ≤ length m → sharedFault owners c (tableIn k m) ≡ fine → own b (tableIn count memory) ≡ own c (tableIn k m) →
@@ -923,7 +914,7 @@ module _ (owners : ℕ) (b c : Board) (count k : ℕ) (memory m summary : List �
     edit-told-apart i e j f before differ = go (begins (summaryIn b count memory) summary) refl
       where
         stale : begins (summaryIn b count memory) summary ≡ begins (summaryIn c k m) summary
-        stale = ap (λ (l : List ℕ). begins l summary) (summary-same b c (own b (tableIn count memory)) (own c (tableIn k m)) alike before)
+        stale = ap (λ (l : List ℕ). begins l summary) (summary-same b c (own b (tableIn count memory)) (own c (tableIn k m)) (alike .frame) (alike .lost) before)
 
         both : EditTold owners b count memory summary edit ⊎ Untold owners b count memory summary edit →
             EditTold owners c k m summary change ⊎ Untold owners c k m summary change →

@@ -15,7 +15,7 @@ use Rattle.scope.specs.Limits.{mostWindows}
 use Rattle.scope.specs.Windows.{Board, framed, Window, window, windowsOf, windowAt, gives, covers, supplied, suppliedBy}
 use Rattle.scope.specs.Answers.{Fault.fine, frameFault, windowFault, tableFault, ruleFault}
 use Rattle.scope.specs.Shared.{ownedOf, own, leftOf, ownLeft, wholeFault, lostFault, sharedFault}
-use Rattle.theory.specs.Lists.{pieces-length, Rising, rising-rest, rising-above, rising-cons}
+use Rattle.theory.specs.Lists.{pieces-length, Rising, rising-rest, rising-above, rising-two}
 use Rattle.theory.specs.Windows.{gives-before, gives-after}
 use Rattle.theory.specs.MaximalRuns.{rising-rule}
 use Rattle.theory.specs.Gaps.{on-first}
@@ -105,14 +105,9 @@ module _ (q : ℕ) where
       elim (decLt q (e - s)) [
         | yes v ↦
             rw (left-kept (window s e) (windowsOf l) v)
-            (rising-cons (q + s) (e ∷ leftOf q (windowsOf l)) n (omega arith) (starts past (omega arith)) (rising-cons e (leftOf q (windowsOf l)) n top past rest))
+            (rising-two (q + s) e (leftOf q (windowsOf l)) n (omega arith) top past rest)
         | no v ↦ rw (left-out (window s e) (windowsOf l) (omega arith)) rest
       ]
-    where
-      starts : ((k : ℕ) → k < length (leftOf q (windowsOf l)) → e < getD (leftOf q (windowsOf l)) k 0) → q + s < e →
-          (k : ℕ) → k < length (e ∷ leftOf q (windowsOf l)) → q + s < getD (e ∷ leftOf q (windowsOf l)) k 0
-      starts past h zero i = h
-      starts past h (suc k) i = omega (arith, past k (omega arith))
 
   -- nothing is left out of a list whose windows each have a tick, where none is lost
   pub left-whole : q ≡ 0 → (l : List ℕ) → length l % 2 ≡ 0 → ((i : ℕ) → i < length (windowsOf l) → (windowAt (windowsOf l) i) .start < (windowAt (windowsOf l) i) .end) →

@@ -15,6 +15,11 @@ use borrow.Author.Tests.{lt-ltb, le-ltb, ltb-false, eqb-true, eq-eqb, ne-eqb, no
 use Rattle.scope.specs.Numbers.{Of, piecesFrom, pieces, badCount, keep}
 use Rattle.theory.specs.Numbers.{bool-cases, or-neither}
 
+-- a list of no numbers
+pub none-listed : (l : List ℕ) → length l ≡ 0 → l ≡ []
+none-listed [] e = refl
+none-listed (a ∷ l) e = absurd (omega arith)
+
 -- ---- k at a time
 
 -- what the k numbers from place n on make
@@ -223,6 +228,14 @@ rising-cons a l n h up r = record { below = below; up = rising }
     rising i zero u v = absurd (omega arith)
     rising zero (suc j) u v = up j (omega arith)
     rising (suc i) (suc j) u v = r .up i j (omega arith) (omega arith)
+
+-- a pair before them
+pub rising-two : (s e : ℕ) (l : List ℕ) (n : ℕ) → s < e → e < n → ((k : ℕ) → k < length l → e < getD l k 0) → Rising l n → Rising (s ∷ e ∷ l) n
+rising-two s e l n h top past r = rising-cons s (e ∷ l) n (omega arith) first (rising-cons e l n top past r)
+  where
+    first : (k : ℕ) → k < length (e ∷ l) → s < getD (e ∷ l) k 0
+    first zero i = h
+    first (suc k) i = omega (arith, past k (omega arith))
 
 rising-none : Rising [] 0
 rising-none = record { below = λ i h. absurd (omega arith); up = λ i j l h. absurd (omega arith) }

@@ -8,11 +8,12 @@ use native.Mathlib.Omega.{arith}
 use native.Mathlib.Decide.{ℕ-discrete, decLt}
 use lib.Dec.{ltb, eqb}
 use lib.ListN.{length}
-use borrow.Author.Tests.{ltb-true, ltb-false, lt-ltb, le-ltb, eqb-true, eqb-false, eq-eqb, ne-eqb}
+use borrow.Author.Tests.{lt-ltb, le-ltb, eqb-true, eqb-false, ne-eqb}
 use Rattle.scope.specs.Limits.{mostLost}
-use Rattle.scope.specs.Windows.{Board, windowsOf, suppliedBy}
+use Rattle.scope.specs.Windows.{Board, windowsOf}
 use Rattle.scope.specs.Answers.{Fault, Fault.fine, Fault.fault, faultIf, _orElse_, ruleFault}
 use Rattle.scope.specs.Shared.{leftOf, lostFault}
+use Rattle.theory.specs.Lists.{none-listed}
 use Rattle.theory.specs.Answers.{fault-not-fine}
 
 -- the four causes. What is left is nothing where every window is no longer than the lost ticks (Left, `left-supplied`: then no tick is supplied)
@@ -21,12 +22,6 @@ pub data Cause (b : Board) (mine : List ℕ) : Type 0 where
   too-many-lost : mostLost < b .lost → Cause b mine
   lost-under-one : b .rule ≡ 1 → 0 < b .lost → Cause b mine
   none-left : leftOf (b .lost) (windowsOf mine) ≡ [] → Cause b mine
-
--- a rule and lost ticks that a board can have
-pub record Ruled (b : Board) : Type 0 where
-  pub known : (b .rule ≢ 1) → b .rule ≡ 2
-  pub few : b .lost ≤ mostLost
-  pub whole : b .rule ≡ 1 → b .lost ≡ 0
 
 module _ (b : Board) where
   abbrev bad : Bool
@@ -51,9 +46,6 @@ module _ (b : Board) where
   pub one-lost : b .rule ≡ 1 → 0 < b .lost → ruleFault b ≡ fault 13 0
   unfolding ruleFault
   one-lost r h = rw (r, lt-ltb 0 (b .lost) h, or-true (ltb mostLost (b .lost)))
-
-  pub ruled-fine : Ruled b → ruleFault b ≡ fine
-  ruled-fine r = elim (ℕ-discrete (b .rule) 1) [ yes e ↦ one-fine e (r .whole e) | no u ↦ few-fine (r .few) (r .known u) ]
 
   -- or one that it cannot, by one of three causes
   ruled-or : (mine : List ℕ) → (ruleFault b ≡ fault 13 0 → Cause b mine) × (Cause b mine → (leftOf (b .lost) (windowsOf mine) ≡ [] → ⊥) → ruleFault b ≡ fault 13 0)
@@ -90,6 +82,31 @@ module _ (b : Board) where
       go true e = e
       go false e = absurd (fault-not-fine (sym e))
 
+  -- so where 13 comes in any case it is no matter which cause comes first
+  pub rule-or : fault 13 0 ≡ (ruleFault b orElse fault 13 0)
+  rule-or = go (ruleFault b) rule-number
+    where
+      go : (f : Fault) → ((n p : ℕ) → f ≡ fault n p → fault 13 0 ≡ fault n p) → fault 13 0 ≡ (f orElse fault 13 0)
+      go fine h = refl
+      go (fault n p) h = h n p refl
+
+-- a rule and lost ticks that a board can have, it can have with fewer lost
+pub less-ruled : (b c : Board) → b .rule ≡ c .rule → b .lost ≤ c .lost → ruleFault c ≡ fine → ruleFault b ≡ fine
+less-ruled b c rule less can =
+    elim (ℕ-discrete (c .rule) 1) [
+      | yes e ↦ elim (ℕ-discrete (c .lost) 0) [
+        | yes z ↦ one-fine b (rule ∙ e) (omega arith)
+        | no z ↦ absurd (fault-not-fine (sym (one-lost c e (omega arith)) ∙ can))
+      ]
+      | no u ↦ elim (ℕ-discrete (c .rule) 2) [
+        | yes e ↦ elim (decLt mostLost (c .lost)) [
+          | yes h ↦ absurd (fault-not-fine (sym (over-lost c h) ∙ can))
+          | no h ↦ few-fine b (omega arith) (rule ∙ e)
+        ]
+        | no v ↦ absurd (fault-not-fine (sym (no-rule c u v) ∙ can))
+      ]
+    ]
+
 module _ (b : Board) (mine : List ℕ) where
   abbrev left : List ℕ
   left = leftOf (b .lost) (windowsOf mine)
@@ -104,10 +121,6 @@ module _ (b : Board) (mine : List ℕ) where
       go fine r true e = e
       go fine r false e = absurd (fault-not-fine (sym e))
 
-  no-numbers : (l : List ℕ) → length l ≡ 0 → l ≡ []
-  no-numbers [] e = refl
-  no-numbers (a ∷ l) e = absurd (omega arith)
-
   pub lost-exactly : (lostFault b mine ≡ fault 13 0) ↔ Cause b mine
   unfolding lostFault
   lost-exactly = (only (ruleFault b) refl, so (eqb (length left) 0) refl)
@@ -117,17 +130,13 @@ module _ (b : Board) (mine : List ℕ) where
       only fine r e = nothing (eqb (length left) 0) refl e
         where
           nothing : (t : Bool) → eqb (length left) 0 ≡ t → faultIf t 13 0 ≡ fault 13 0 → Cause b mine
-          nothing true z e = none-left (no-numbers left (eqb-true (length left) 0 z))
+          nothing true z e = none-left (none-listed left (eqb-true (length left) 0 z))
           nothing false z e = absurd (fault-not-fine (sym e))
 
-      same : (f : Fault) → ((n p : ℕ) → f ≡ fault n p → fault 13 0 ≡ fault n p) → (f orElse fault 13 0) ≡ fault 13 0
-      same fine h = refl
-      same (fault n p) h = sym (h n p refl)
-
       so : (t : Bool) → eqb (length left) 0 ≡ t → Cause b mine → (ruleFault b orElse faultIf t 13 0) ≡ fault 13 0
-      so true z c = same (ruleFault b) (rule-number b)
+      so true z c = sym (rule-or b)
       so false z c = rw (ruled-or b mine .1 c (λ e. eqb-false (length left) 0 z (ap length e)))
 
-  pub lost-fine : Ruled b → 0 < length left → lostFault b mine ≡ fine
+  pub lost-fine : ruleFault b ≡ fine → 0 < length left → lostFault b mine ≡ fine
   unfolding lostFault
-  lost-fine r h = rw (ruled-fine b r, ne-eqb (length left) 0 (λ z. omega arith))
+  lost-fine can h = rw (can, ne-eqb (length left) 0 (λ z. omega arith))

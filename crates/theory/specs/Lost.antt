@@ -9,7 +9,7 @@ use lib.ListN.{length}
 use Rattle.scope.specs.Numbers.{least}
 use Rattle.scope.specs.Limits.{teams}
 use Rattle.scope.specs.Ticks.{supply}
-use Rattle.scope.specs.Windows.{Board, framed, windowsOf, supplied, suppliedBy}
+use Rattle.scope.specs.Windows.{Board, framedFor, framed, windowsOf, supplied, suppliedBy}
 use Rattle.scope.specs.Answers.{Fault.fine, Answer.given, ruleFault, leastSupplyAnswer}
 use Rattle.scope.specs.Trace.{timed, traceOf}
 use Rattle.scope.specs.Replay.{replayAnswer}
@@ -19,7 +19,7 @@ use Rattle.theory.specs.Gaps.{fits}
 use Rattle.theory.specs.Rows.{endOf, ends-answer}
 use Rattle.theory.specs.Shared.{Gives, covers-given, given-covers, shared-parts, own-fine, asked-fine, asked-given}
 use Rattle.theory.specs.Left.{left-supplied, left-even, left-whole, left-fine, left-some, listed-left, left-legal}
-use Rattle.theory.specs.Alone.{Entry, table-same, supplied-same, whole-same, sliver-same, absent-same, on-alike, pairs-only, own-pairs, one-owner, or-nine, least-supply-entry, records-entry}
+use Rattle.theory.specs.Alone.{Entry, table-same, windows-same, summary-same, own-owner, whole-same, sliver-same, absent-same, pairs-only, own-pairs, one-owner, or-nine, least-supply-entry, records-entry}
 
 -- ---- a tick
 
@@ -29,10 +29,6 @@ unfolding supplied
 supplied-exactly owners b ws k = (covers-given owners b (b .owner) (ownedOf ws) (k % b .frame), given-covers owners b (b .owner) (ownedOf ws) (k % b .frame))
 
 -- ---- the table that is left
-
--- the board of the same frame that asks for owner o, allows every window, and gives it whole
-abbrev pub onlyFor : Board → ℕ → Board
-onlyFor b o = record { frame = b .frame; owner = o; shortest = 1; rule = 1; lost = 0 }
 
 module _ {R : Type 0} {refusal : ℕ → ℕ → R} {entry : Board → List ℕ → R} (is : Entry refusal entry) (owners : ℕ) (b : Board) (ws : List ℕ)
     (listed : sharedFault owners b ws ≡ fine) where
@@ -44,31 +40,31 @@ module _ {R : Type 0} {refusal : ℕ → ℕ → R} {entry : Board → List ℕ 
       (own-fine owners b ws listed ∙ sym (listed-left owners b ws listed)) (left-supplied b (windowsOf (own b ws)))
 
   -- so it is, as a table of one owner under rule 1, answered as the owner is here
-  pub rule-one : (o : ℕ) → o < owners → askedFor owners b ws refusal (entry b) ≡ askedFor owners (onlyFor b o) (asOwned o (ownLeft b ws)) refusal (entry (onlyFor b o))
+  pub rule-one : (o : ℕ) → o < owners → askedFor owners b ws refusal (entry b) ≡ askedFor owners (framedFor (b .frame) o) (asOwned o (ownLeft b ws)) refusal (entry (framedFor (b .frame) o))
   rule-one o h =
       asked-left
-      ∙ on-alike is (framed (b .frame)) (onlyFor b o) (ownLeft b ws) (record { frame = refl; rule = refl; lost = refl })
-      ∙ sym (one-owner owners (onlyFor b o) h (ownLeft b ws) refl refl refl is)
+      ∙ windows-same is (framed (b .frame)) (framedFor (b .frame) o) (ownLeft b ws) refl refl
+      ∙ sym (one-owner owners (framedFor (b .frame) o) h (ownLeft b ws) refl refl refl is)
 
 module _ (owners : ℕ) (b : Board) (ws : List ℕ) (o : ℕ) (exists : o < owners) where
   -- that table, where it is not empty, is legal where every window is allowed and given whole
-  pub left-table : wholeFault owners b ws ≡ fine → 0 < length (ownLeft b ws) → sharedFault owners (onlyFor b o) (asOwned o (ownLeft b ws)) ≡ fine
+  pub left-table : wholeFault owners b ws ≡ fine → 0 < length (ownLeft b ws) → sharedFault owners (framedFor (b .frame) o) (asOwned o (ownLeft b ws)) ≡ fine
   left-table legal some =
-      pairs-only owners (onlyFor b o) exists (ownLeft b ws) refl refl refl
-      ∙ table-same (onlyFor b o) (framed (b .frame)) (ownLeft b ws) refl ∙ left-fine owners b ws legal some
+      pairs-only owners (framedFor (b .frame) o) exists (ownLeft b ws) refl refl refl
+      ∙ table-same (framedFor (b .frame) o) (framed (b .frame)) (ownLeft b ws) refl ∙ left-fine owners b ws legal some
 
 module _ (owners : ℕ) (b : Board) (ws : List ℕ) (listed : sharedFault owners b ws ≡ fine) (o : ℕ) (exists : o < owners) where
   -- and nothing more is taken of it
-  left-again : ownLeft (onlyFor b o) (asOwned o (ownLeft b ws)) ≡ ownLeft b ws
+  left-again : ownLeft (framedFor (b .frame) o) (asOwned o (ownLeft b ws)) ≡ ownLeft b ws
   left-again =
       let even = left-even (b .lost) (windowsOf (own b ws)) in
-      ap (λ (l : List ℕ). leftOf 0 (windowsOf l)) (own-pairs owners (onlyFor b o) exists (ownLeft b ws) even)
+      ap (λ (l : List ℕ). leftOf 0 (windowsOf l)) (own-pairs owners (framedFor (b .frame) o) exists (ownLeft b ws) even)
       ∙ left-whole 0 refl (ownLeft b ws) even (λ i u. fits (framed (b .frame)) (windowsOf (ownLeft b ws)) (left-legal owners b ws listed .windows) i u .0)
 
   -- what is left, by itself and in lent memory, is what is left of it
   pub own-rule-one : (room : ℕ) (out : List ℕ) →
-      (ownAnswer owners b ws room ≡ ownAnswer owners (onlyFor b o) (asOwned o (ownLeft b ws)) room)
-      × (ownOut owners b ws out ≡ ownOut owners (onlyFor b o) (asOwned o (ownLeft b ws)) out)
+      (ownAnswer owners b ws room ≡ ownAnswer owners (framedFor (b .frame) o) (asOwned o (ownLeft b ws)) room)
+      × (ownOut owners b ws out ≡ ownOut owners (framedFor (b .frame) o) (asOwned o (ownLeft b ws)) out)
   unfolding ownAnswer ownOut ownFault
   own-rule-one room out =
       let table = left-table owners b ws o exists (shared-parts owners b ws listed .0) (left-some owners b ws listed) in
@@ -89,7 +85,7 @@ module _ (b : Board) (ws ts bytes : List ℕ) (listed : sharedFault teams b ws �
   unfolding replayFor recordsFor replayAnswer
   replay-left = or-nine (traceOf bytes) _ _ (λ rs next. asked-left (records-entry ts (timed rs)) teams b ws listed)
 
-  pub replay-rule-one : (o : ℕ) → o < teams → replayFor b ws ts bytes ≡ replayFor (onlyFor b o) (asOwned o (ownLeft b ws)) ts bytes
+  pub replay-rule-one : (o : ℕ) → o < teams → replayFor b ws ts bytes ≡ replayFor (framedFor (b .frame) o) (asOwned o (ownLeft b ws)) ts bytes
   unfolding replayFor recordsFor
   replay-rule-one o h = or-nine (traceOf bytes) _ _ (λ rs next. rule-one (records-entry ts (timed rs)) teams b ws listed o h)
 
@@ -110,7 +106,7 @@ module _ (b c : Board) (alike : NoLoss b c) where
   same-lost = alike .whole ∙ sym (alike .nothing)
 
   same-own : (ws : List ℕ) → own b ws ≡ own c ws
-  same-own ws = ap (λ (o : ℕ). windowsFor o (ownedOf ws)) (alike .owner)
+  same-own ws = own-owner b c ws (alike .owner)
 
   same-left : (ws : List ℕ) → ownLeft b ws ≡ ownLeft c ws
   same-left ws = rw (same-own ws, same-lost)
@@ -120,8 +116,7 @@ module _ (b c : Board) (alike : NoLoss b c) where
   same-lost-fault mine = rw (alike .one, alike .two, alike .whole, alike .nothing)
 
   same-summary : (ws : List ℕ) → summaryOf b (own b ws) ≡ summaryOf c (own c ws)
-  unfolding summaryOf
-  same-summary ws = rw (same-own ws, supplied-same b c (own c ws) (alike .frame) same-lost, alike .frame)
+  same-summary ws = summary-same b c (own b ws) (own c ws) (alike .frame) same-lost (same-own ws)
 
   -- they refuse the same lists, by the same numbers and at the same places
   pub no-loss-fault : (owners : ℕ) (ws : List ℕ) → sharedFault owners b ws ≡ sharedFault owners c ws
@@ -134,8 +129,7 @@ module _ (b c : Board) (alike : NoLoss b c) where
       askedFor owners b ws refusal (entry b) ≡ askedFor owners c ws refusal (entry c)
   unfolding askedFor
   no-loss {R} {refusal} {entry} is owners ws =
-      let ticks = is .by-ticks b c (own c ws) (own c ws) (alike .frame) (table-same b c (own c ws) (alike .frame)) (supplied-same b c (own c ws) (alike .frame) same-lost) in
-      rw (no-loss-fault owners ws, same-own ws) (ap (unlessRefused (sharedFault owners c ws) refusal) ticks)
+      rw (no-loss-fault owners ws, same-own ws) (ap (unlessRefused (sharedFault owners c ws) refusal) (windows-same is b c (own c ws) (alike .frame) same-lost))
 
   -- so a trace
   pub replay-no-loss : (ws ts bytes : List ℕ) → replayFor b ws ts bytes ≡ replayFor c ws ts bytes

@@ -14,8 +14,8 @@ use Rattle.scope.specs.Windows.{Board, Window, windowsOf, gives, covers, suppli
 use Rattle.scope.specs.Tasks.{tasksOf}
 use Rattle.scope.specs.Cycle.{cycle}
 use Rattle.scope.specs.Verdict.{Verdict.meets, verdict}
-use Rattle.scope.specs.Answers.{Fault.fine, Answer, Answer.given, Answer.refused, _orElse_, tableFault, groupFault, lengthFault, cycleFault, leastSupplyAnswer, verdictAnswer}
-use Rattle.scope.specs.Shared.{ownedOf, windowsFor, own, leftOf, sharedFault, askedFor, leastSupplyFor, verdictFor}
+use Rattle.scope.specs.Answers.{Fault.fine, Answer, Answer.given, Answer.refused, _orElse_, tableFault, groupFault, ruleFault, lengthFault, cycleFault, leastSupplyAnswer, verdictAnswer}
+use Rattle.scope.specs.Shared.{own, leftOf, lostFault, sharedFault, askedFor, leastSupplyFor, verdictFor}
 use Rattle.theory.specs.Numbers.{bool-cases}
 use Rattle.theory.specs.Ticks.{supply-more, least-more}
 use Rattle.theory.specs.Windows.{gives-in, gives-when}
@@ -23,8 +23,8 @@ use Rattle.theory.specs.Answers.{orElse-fine, unless-given}
 use Rattle.theory.specs.Exact.{exact-meets}
 use Rattle.theory.specs.Shared.{shared-parts, own-fine, asked-fine, asked-given}
 use Rattle.theory.specs.Left.{left-kept, left-out, left-some}
-use Rattle.theory.specs.Losses.{Cause, Cause.no-such-rule, Cause.too-many-lost, Cause.lost-under-one, Cause.none-left, Ruled, lost-fine}
-use Rattle.theory.specs.Alone.{whole-same, sliver-same, absent-same}
+use Rattle.theory.specs.Losses.{Cause, Cause.no-such-rule, Cause.too-many-lost, Cause.lost-under-one, Cause.none-left, less-ruled, lost-fine}
+use Rattle.theory.specs.Alone.{own-owner, whole-same, sliver-same, absent-same}
 use Rattle.theory.specs.Shortest.{Known}
 use Rattle.theory.specs.Thirteen.{Thirteen, exactly-thirteen}
 
@@ -96,9 +96,6 @@ module _ (b c : Board) (framed : b .frame ≡ c .frame) (less : b .lost ≤ c .l
       go (a ∷ l) e = omega arith
 
   module _ (owner : b .owner ≡ c .owner) where
-    mine : (ws : List ℕ) → own b ws ≡ own c ws
-    mine ws = ap (λ (o : ℕ). windowsFor o (ownedOf ws)) owner
-
     -- so an owner is answered no greater least supply on c
     pub more-lost-amount : (ws : List ℕ) (t p q : ℕ) → leastSupplyFor c ws t ≡ given p → leastSupplyFor b ws t ≡ given q → p ≤ q
     unfolding leastSupplyFor leastSupplyAnswer
@@ -107,39 +104,47 @@ module _ (b c : Board) (framed : b .frame ≡ c .frame) (less : b .lost ≤ c .l
         let h = asked-given teams b ws (λ l. leastSupplyAnswer b l t) q f in
         let u = unless-given (tableFault c (own c ws) orElse lengthFault t) (leastSupply (suppliedBy c (own c ws)) (c .frame) t) p (g .1) in
         let v = unless-given (tableFault b (own b ws) orElse lengthFault t) (leastSupply (suppliedBy b (own b ws)) (b .frame) t) q (h .1) in
-        omega (arith, u .1, v .1, more-lost-least (windowsOf (own c ws)) t, ap (λ (l : List ℕ). leastSupply (suppliedBy b l) (b .frame) t) (mine ws))
+        omega (arith, u .1, v .1, more-lost-least (windowsOf (own c ws)) t, ap (λ (l : List ℕ). leastSupply (suppliedBy b l) (b .frame) t) (own-owner b c ws owner))
 
   module _ (owner : b .owner ≡ c .owner) (shortest : b .shortest ≡ c .shortest) where
     -- a list that c does not refuse is not refused by b, if b is a board that can be
-    pub more-lost-fine : Ruled b → (owners : ℕ) (ws : List ℕ) → sharedFault owners c ws ≡ fine → sharedFault owners b ws ≡ fine
+    pub more-lost-fine : ruleFault b ≡ fine → (owners : ℕ) (ws : List ℕ) → sharedFault owners c ws ≡ fine → sharedFault owners b ws ≡ fine
     unfolding sharedFault
-    more-lost-fine ruled owners ws e =
+    more-lost-fine can owners ws e =
         let p = shared-parts owners c ws e in
-        let left : 0 < length (leftOf (b .lost) (windowsOf (own b ws))) = rw (mine owner ws) (left-some-less (windowsOf (own c ws)) (left-some owners c ws e)) in
+        let left : 0 < length (leftOf (b .lost) (windowsOf (own b ws))) = rw (own-owner b c ws owner) (left-some-less (windowsOf (own c ws)) (left-some owners c ws e)) in
         rw (
           whole-same owners b c ws framed ∙ p .0,
-          absent-same b c ws ws (mine owner ws) ∙ p .1,
+          absent-same b c ws ws (own-owner b c ws owner) ∙ p .1,
           sliver-same b c ws shortest ∙ p .2,
-          lost-fine b (own b ws) ruled left,
+          lost-fine b (own b ws) can left,
         )
 
     -- and a group that meets on c meets on b
-    pub more-lost-meets : Ruled b → (ws ts : List ℕ) (H : ℕ) → verdictFor c ws ts ≡ given (meets H) → verdictFor b ws ts ≡ given (meets H)
+    pub more-lost-meets : ruleFault b ≡ fine → (ws ts : List ℕ) (H : ℕ) → verdictFor c ws ts ≡ given (meets H) → verdictFor b ws ts ≡ given (meets H)
     unfolding verdictFor
-    more-lost-meets ruled ws ts H e =
+    more-lost-meets can ws ts H e =
         let g = asked-given teams c ws (λ l. verdictAnswer c l ts) (meets H) e in
-        let f = more-lost-fine ruled teams ws (g .0) in
+        let f = more-lost-fine can teams ws (g .0) in
         asked-fine teams b ws refused (λ l. verdictAnswer b l ts) f
-        ∙ more-meets b c (own b ws) (own c ws) ts framed (own-fine teams b ws f) (λ k t. rw (mine owner ws) (more-lost-tick (windowsOf (own c ws)) k t)) H (g .1)
+        ∙ more-meets b c (own b ws) (own c ws) ts framed (own-fine teams b ws f) (λ k t. rw (own-owner b c ws owner) (more-lost-tick (windowsOf (own c ws)) k t)) H (g .1)
+
+    -- as b can be where it has c's rule: "meets" at a loss is "meets" at every smaller one
+    pub less-lost-meets : b .rule ≡ c .rule → (ws ts : List ℕ) (H : ℕ) → verdictFor c ws ts ≡ given (meets H) → verdictFor b ws ts ≡ given (meets H)
+    unfolding verdictFor lostFault
+    less-lost-meets rule ws ts H e =
+        let f = asked-given teams c ws (λ l. verdictAnswer c l ts) (meets H) e .0 in
+        let can = orElse-fine (ruleFault c) _ (shared-parts teams c ws f .3) .0 in
+        more-lost-meets (less-ruled b c rule less can) ws ts H e
 
     module _ (rule : b .rule ≡ c .rule) (owners : ℕ) (ws : List ℕ) where
       -- what b refuses by 13 c does too, where the rule is the same
       pub more-lost-thirteen : Thirteen owners b ws → Thirteen owners c ws
       more-lost-thirteen t = record {
         whole = sym (whole-same owners b c ws framed) ∙ t .whole;
-        present = sym (absent-same b c ws ws (mine owner ws)) ∙ t .present;
+        present = sym (absent-same b c ws ws (own-owner b c ws owner)) ∙ t .present;
         long = sym (sliver-same b c ws shortest) ∙ t .long;
-        cause = by (rw (mine owner ws) at (t .cause));
+        cause = by (rw (own-owner b c ws owner) at (t .cause));
       }
         where
           by : Cause b (own c ws) → Cause c (own c ws)

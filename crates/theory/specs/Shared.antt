@@ -20,7 +20,7 @@ use Rattle.scope.specs.Answers.{windowListFault, frameFault, windowFault, table
 use Rattle.scope.specs.Shared.{Owned, owned, ownedOf, ownedAt, windowsFor, own, asOwned, follows, ownedLegal, badOwned, ownedListFault, ownedFault}
 use Rattle.scope.specs.Shared.{wholeFault, absentOwnerFault, sliverFault, lostFault, sharedFault, unlessRefused, askedFor}
 use Rattle.theory.specs.Numbers.{and-both, both-and, bool-cases, or-neither, first-none}
-use Rattle.theory.specs.Lists.{pieces-length, count-fine, Rising, rising-cons}
+use Rattle.theory.specs.Lists.{pieces-length, count-fine, Rising, rising-two}
 use Rattle.theory.specs.Windows.{gives-in, gives-when}
 use Rattle.theory.specs.MaximalRuns.{rising-rule}
 use Rattle.theory.specs.Answers.{fault-not-fine, faultIf-fine, faultAt-fine, orElse-fine, unless-given, unless-refused, LegalTable, table-legal, window-list-fine}
@@ -168,16 +168,9 @@ module _ (owners : ℕ) (b : Board) (o : ℕ) where
       elim (ℕ-discrete (w .owner) o) [
         | yes e ↦
             let past = above (w .window .end) ws tail (λ i l z. r .apart 0 (suc i) (omega arith) (omega arith) .1 (e ∙ sym z)) in
-            let ends = rising-cons (w .window .end) (windowsFor o ws) (b .frame + 1) (omega (arith, f .1)) past (for-rising ws tail) in
-            rw (hit o w ws e) (rising-cons (w .window .start) (w .window .end ∷ windowsFor o ws) (b .frame + 1) (omega (arith, f)) (starts past f) ends)
+            rw (hit o w ws e) (rising-two (w .window .start) (w .window .end) (windowsFor o ws) (b .frame + 1) (f .0) (omega (arith, f .1)) past (for-rising ws tail))
         | no u ↦ rw (miss o w ws u) (for-rising ws tail)
       ]
-    where
-      starts : ((k : ℕ) → k < length (windowsFor o ws) → w .window .end < getD (windowsFor o ws) k 0) →
-          ((w .window .start < w .window .end) × (w .window .end ≤ b .frame)) →
-          (k : ℕ) → k < length (w .window .end ∷ windowsFor o ws) → w .window .start < getD (w .window .end ∷ windowsFor o ws) k 0
-      starts past f zero h = f .0
-      starts past f (suc k) h = omega (arith, past k (omega arith), f .0)
 
   -- ---- which ticks an owner is supplied: those of its windows
 

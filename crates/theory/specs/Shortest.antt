@@ -26,11 +26,12 @@ use Rattle.scope.specs.Replay.{extentFault, recordFault, replayFault, recordsAn
 use Rattle.scope.specs.Shared.{ownedOf, windowsFor, own, ownLeft, ownedListFault, ownedFault, badOwned, wholeFault, absentOwnerFault, sliverFault, lostFault, sharedFault}
 use Rattle.scope.specs.Shared.{ownFault, ownAnswer, ownOut, asOwned, unlessRefused, askedFor, verdictFor, recordsFor, replayFor, planBoard, planAnswer}
 use Rattle.scope.specs.Summary.{summaryOf, makeFault, makeAnswer, begins, summaryFault, leastFromAnswer, lengthsFault, marginsFault, marginsAnswer}
+use Rattle.theory.specs.Lists.{none-listed}
 use Rattle.theory.specs.Answers.{fault-not-fine, unless-refused}
 use Rattle.theory.specs.Shared.{asked-refused}
 use Rattle.theory.specs.Losses.{lost-thirteen}
 use Rattle.theory.specs.Slivers.{Sliver, sliver-exactly, sliver-twelve, one-tick, smaller-fine}
-use Rattle.theory.specs.Alone.{Entry, Alike, on-alike, lost-same, whole-same, absent-same, records-entry, verdict-entry, or-nine}
+use Rattle.theory.specs.Alone.{Entry, Alike, windows-same, own-owner, lost-same, whole-same, absent-same, records-entry, verdict-entry, or-nine}
 use Rattle.theory.specs.Seven.{UpTo, up-to-greatest}
 use Rattle.theory.specs.Forms.{withSettings, refused-behind, judged-behind}
 use Rattle.theory.specs.PlanBytes.{Writable, round-trip, read-settings}
@@ -239,6 +240,99 @@ module _ (b : Board) where
       (group-else ts (extentFault rs orElse each) (base-else (extentFault rs) each (extent-base rs) (record-base (tasksOf ts) rs))) n p
       (unless-refused (replayFault b l ts rs) _ n p e))
 
+-- ---- 12 and 13 are refusals of a list of windows: whatever is asked of one is refused by them exactly where the list is. Once over the number m, with S what
+-- the list is refused so by
+
+-- a file's own refusals, before its plan is judged, are document 01's
+pub plan-base : (k : ℕ) (bytes : List ℕ) (n p : ℕ) → planOf k bytes ≡ refused n p → n ≤ 11
+unfolding planOf planFrom listsFrom countedFrom restFault
+plan-base k bytes n p =
+    read-base (readNumbers bytes k 0) _ (λ settings next. read-base (readNumber bytes next) _ (λ P after.
+    then-base (countedFrom 2 windowCountFault bytes after) _ (counted 2 windowCountFault after (λ c. base-if (ltb c 1 || ltb mostWindows c) 1 0 (omega arith))) (λ ws.
+    then-base (countedFrom 3 taskCountFault bytes (ws .next)) _ (counted 3 taskCountFault (ws .next) (λ c. base-if (ltb c 0 || ltb mostTasks c) 4 0 (omega arith))) (λ ts e.
+    base-if (ltb (ts .next) (length bytes)) 9 (ts .next) (omega arith) n p (unless-refused (restFault bytes (ts .next)) _ n p e)))))
+  where
+    given-not-refused : {A : Type 0} {a : A} → given a ≡ refused n p → ⊥
+    given-not-refused e = let z : _≡_ {A = ℕ} 0 1 = cc in omega arith
+
+    read-base : {A B : Type 0} (r : Read A) (f : A → ℕ → Answer B) → ((a : A) (next : ℕ) → f a next ≡ refused n p → n ≤ 11) → orNine r f ≡ refused n p → n ≤ 11
+    read-base (read a next) f h e = h a next e
+    read-base (bad o) f h e = let z : 9 ≡ n = cc in omega arith
+
+    past-base : {A : Type 0} (f : Fault) (a : Answer A) → Base f → (a ≡ refused n p → n ≤ 11) → past f a ≡ refused n p → n ≤ 11
+    past-base fine a b h e = h e
+    past-base (fault m q) a b h e = let x : m ≡ n = cc in let y : q ≡ p = cc in b n p (rw (x, y))
+
+    then-base : {A B : Type 0} (a : Answer A) (f : A → Answer B) → (a ≡ refused n p → n ≤ 11) → ((v : A) → f v ≡ refused n p → n ≤ 11) → andThen a f ≡ refused n p → n ≤ 11
+    then-base (given v) f g h e = h v e
+    then-base (refused m q) f g h e = let x : m ≡ n = cc in let y : q ≡ p = cc in g (rw (x, y))
+
+    counted : (each : ℕ) (check : ℕ → Fault) (at : ℕ) → ((c : ℕ) → Base (check c)) → countedFrom each check bytes at ≡ refused n p → n ≤ 11
+    counted each check at h =
+        read-base (readNumber bytes at) _ (λ c next. past-base (check c) _ (h c) (read-base (readNumbers bytes (each * c) next) _ (λ l end e. absurd (given-not-refused e))))
+
+-- bytes that read to records, and what holds beside them
+pub record OfTrace (bytes : List ℕ) (S : Type 0) : Type 0 where
+  pub records : List Stamped
+  pub end : ℕ
+  pub reads : traceOf bytes ≡ read records end
+  pub listed : S
+
+-- bytes that read to a plan, and what holds of it
+pub record OfPlan (k : ℕ) (bytes : List ℕ) (S : Plan → Type 0) : Type 0 where
+  pub plan : Plan
+  pub reads : planOf k bytes ≡ given plan
+  pub listed : S plan
+
+module _ (m : ℕ) (least : 12 ≤ m) (most : m ≤ 13) where
+  module _ (owners : ℕ) (b : Board) (ws : List ℕ) (p : ℕ) {S : Type 0} (exactly : (sharedFault owners b ws ≡ fault m p) ↔ S) where
+    pub asked-listed : {A : Type 0} (entry : List ℕ → Answer A) → Known entry → (askedFor owners b ws refused entry ≡ refused m p) ↔ S
+    unfolding askedFor
+    asked-listed entry is = (go (sharedFault owners b ws) refl, λ t. asked-refused owners b ws refused entry (exactly .1 t))
+      where
+        go : (f : Fault) → sharedFault owners b ws ≡ f → unlessRefused f refused (entry (own b ws)) ≡ refused m p → S
+        go fine s e = absurd (is m least most (own b ws) p e)
+        go (fault n q) s e = let x : n ≡ m = cc in let y : q ≡ p = cc in exactly .0 (rw (← x, ← y) s)
+
+    pub own-listed : (room : ℕ) → (ownAnswer owners b ws room ≡ refused m p) ↔ S
+    unfolding ownAnswer ownFault roomFault
+    own-listed room = (go (sharedFault owners b ws) refl, λ t. rw (exactly .1 t))
+      where
+        short : (t : Bool) → unless (faultIf t 8 (length (ownLeft b ws))) (length (ownLeft b ws)) ≡ refused m p → ⊥
+        short true e = let z : 8 ≡ m = cc in omega arith
+        short false e = let z : _≡_ {A = ℕ} 0 1 = cc in omega arith
+
+        go : (f : Fault) → sharedFault owners b ws ≡ f → unless (f orElse faultIf (ltb room (length (ownLeft b ws))) 8 (length (ownLeft b ws))) (length (ownLeft b ws)) ≡ refused m p → S
+        go fine s e = absurd (short (ltb room (length (ownLeft b ws))) e)
+        go (fault n q) s e = let x : n ≡ m = cc in let y : q ≡ p = cc in exactly .0 (rw (← x, ← y) s)
+
+  -- a trace, whose bytes are refused by 9 before any table
+  pub trace-listed : (b : Board) (ws : List ℕ) (p : ℕ) {S : Type 0} → ((sharedFault teams b ws ≡ fault m p) ↔ S) →
+      (ts bytes : List ℕ) → (replayFor b ws ts bytes ≡ refused m p) ↔ OfTrace bytes S
+  unfolding replayFor recordsFor
+  trace-listed b ws p {S} exactly ts bytes = (go (traceOf bytes) refl, λ t. rw (t .reads) (asked (t .records) .1 (t .listed)))
+    where
+      asked : (rs : List Stamped) → (askedFor teams b ws refused (λ l. recordsAnswer b l ts (timed rs)) ≡ refused m p) ↔ S
+      asked rs = asked-listed teams b ws p exactly _ (records-known b ts (timed rs))
+
+      go : (r : Read (List Stamped)) → traceOf bytes ≡ r → orNine r (λ rs end. askedFor teams b ws refused (λ l. recordsAnswer b l ts (timed rs))) ≡ refused m p → OfTrace bytes S
+      go (read rs end) e f = record { records = rs; end = end; reads = e; listed = asked rs .0 f }
+      go (bad o) e f = let z : 9 ≡ m = cc in absurd (omega arith)
+
+  -- a plan file, whose own refusals come before its plan is judged
+  pub plan-listed : (p : ℕ) (S : Board → List ℕ → Type 0) → ((b : Board) (ws : List ℕ) → (sharedFault teams b ws ≡ fault m p) ↔ S b ws) →
+      (k : ℕ) (bytes : List ℕ) → (planAnswer k bytes ≡ refused m p) ↔ OfPlan k bytes (λ q. S (planBoard q) (asOwned 0 (q .windows)))
+  unfolding planAnswer verdictFor
+  plan-listed p S exactly k bytes = (go (planOf k bytes) refl, λ t. rw (t .reads) (asked (t .plan) .1 (t .listed)))
+    where
+      asked : (q : Plan) → (verdictFor (planBoard q) (asOwned 0 (q .windows)) (q .tasks) ≡ refused m p) ↔ S (planBoard q) (asOwned 0 (q .windows))
+      asked q = asked-listed teams (planBoard q) (asOwned 0 (q .windows)) p (exactly (planBoard q) (asOwned 0 (q .windows))) _ (verdict-known (planBoard q) (q .tasks))
+
+      go : (a : Answer Plan) → planOf k bytes ≡ a → andThen a (λ q. verdictFor (planBoard q) (asOwned 0 (q .windows)) (q .tasks)) ≡ refused m p →
+          OfPlan k bytes (λ q. S (planBoard q) (asOwned 0 (q .windows)))
+      go (given q) r e = record { plan = q; reads = r; listed = asked q .0 e }
+      go (refused n o) r e = let x : n ≡ m = cc in absurd (omega (arith, plan-base k bytes n o r))
+
 -- ---- 12, exactly when: the list has no fault 1, 2 or 3, the owner has a window, and m is out of its range or some window shorter than m
 
 pub whole-base : (owners : ℕ) (b : Board) (ws : List ℕ) → Base (wholeFault owners b ws orElse absentOwnerFault b ws)
@@ -269,9 +363,10 @@ module _ (owners : ℕ) (b : Board) (ws : List ℕ) where
     pub present : absentOwnerFault b ws ≡ fine
     pub at : Sliver b ws p
 
-  shared-twelve : (p : ℕ) → sharedFault owners b ws ≡ fault 12 p → Twelve p
+  -- a list is refused by 12 exactly then
+  pub shared-twelve : (p : ℕ) → (sharedFault owners b ws ≡ fault 12 p) ↔ Twelve p
   unfolding sharedFault
-  shared-twelve p = go (wholeFault owners b ws) (absentOwnerFault b ws) refl refl (whole-base owners b ws)
+  shared-twelve p = (go (wholeFault owners b ws) (absentOwnerFault b ws) refl refl (whole-base owners b ws), so)
     where
       at : (f : Fault) → sliverFault b ws ≡ f → (f orElse lostFault b (own b ws)) ≡ fault 12 p → Sliver b ws p
       at (fault n q) s e = sliver-exactly b ws p .0 (s ∙ e)
@@ -283,17 +378,12 @@ module _ (owners : ℕ) (b : Board) (ws : List ℕ) where
       go fine (fault n q) e a base s = absurd (omega (arith, base 12 p (rw (e, a) s)))
       go fine fine e a base s = record { whole = e; present = a; at = at (sliverFault b ws) refl s }
 
-  twelve-shared : (p : ℕ) → Twelve p → sharedFault owners b ws ≡ fault 12 p
-  unfolding sharedFault
-  twelve-shared p t = rw (t .whole, t .present, sliver-exactly b ws p .1 (t .at))
+      so : Twelve p → sharedFault owners b ws ≡ fault 12 p
+      so t = rw (t .whole, t .present, sliver-exactly b ws p .1 (t .at))
 
+  -- and so does every entry refuse that does not give 12 itself
   pub exactly-twelve : {A : Type 0} (entry : List ℕ → Answer A) → Known entry → (p : ℕ) → (askedFor owners b ws refused entry ≡ refused 12 p) ↔ Twelve p
-  unfolding askedFor
-  exactly-twelve entry is p = (go (sharedFault owners b ws) refl, λ t. asked-refused owners b ws refused entry (twelve-shared p t))
-    where
-      go : (f : Fault) → sharedFault owners b ws ≡ f → unlessRefused f refused (entry (own b ws)) ≡ refused 12 p → Twelve p
-      go fine s e = absurd (is 12 (omega arith) (omega arith) (own b ws) p e)
-      go (fault n q) s e = let x : n ≡ 12 = cc in let y : q ≡ p = cc in shared-twelve p (rw (← x, ← y) s)
+  exactly-twelve entry is p = asked-listed 12 (omega arith) (omega arith) owners b ws p (shared-twelve p) entry is
 
   -- ---- m = 1 refuses nothing: only what request 4 refuses is refused, and 13
 
@@ -328,7 +418,7 @@ module _ (owners : ℕ) (b c : Board) (ws : List ℕ) (alike : Alike b c) (owner
   smaller-fault : ((p : ℕ) → sharedFault owners b ws ≡ fault 12 p → ⊥) → sharedFault owners b ws ≡ sharedFault owners c ws
   unfolding sharedFault
   smaller-fault spared =
-      let mine : own b ws ≡ own c ws = ap (λ (o : ℕ). windowsFor o (ownedOf ws)) owner in
+      let mine = own-owner b c ws owner in
       rw (← whole-same owners b c ws (alike .frame), ← absent-same b c ws ws mine, ← mine, ← lost-same b c (own b ws) (alike .rule) (alike .lost))
       (go (wholeFault owners b ws) (absentOwnerFault b ws) (sliverFault b ws) refl refl refl)
     where
@@ -345,8 +435,8 @@ module _ (owners : ℕ) (b c : Board) (ws : List ℕ) (alike : Alike b c) (owner
       askedFor owners b ws refusal (entry b) ≡ askedFor owners c ws refusal (entry c)
   unfolding askedFor
   smaller-same {R} {refusal} {entry} is spared =
-      let mine : own b ws ≡ own c ws = ap (λ (o : ℕ). windowsFor o (ownedOf ws)) owner in
-      rw (smaller-fault spared) (ap (unlessRefused (sharedFault owners c ws) refusal) (ap (entry b) mine ∙ on-alike is b c (own c ws) alike))
+      let mine = own-owner b c ws owner in
+      rw (smaller-fault spared) (ap (unlessRefused (sharedFault owners c ws) refusal) (ap (entry b) mine ∙ windows-same is b c (own c ws) (alike .frame) (alike .lost)))
 
   -- of a refusal in the answer
   pub smaller-answer : {A : Type 0} {entry : Board → List ℕ → Answer A} → Entry refused entry →
@@ -354,30 +444,17 @@ module _ (owners : ℕ) (b c : Board) (ws : List ℕ) (alike : Alike b c) (owner
       askedFor owners b ws refused (entry b) ≡ askedFor owners c ws refused (entry c)
   smaller-answer {A} {entry} is spared = smaller-same is (λ p s. spared p (asked-refused owners b ws refused (entry b) s))
 
--- ---- an owner's windows by themselves, whose memory may be too short
+-- ---- what is left of an owner's windows by itself, whose memory may be too short
 
 pub own-twelve : (owners : ℕ) (b : Board) (ws : List ℕ) (room p : ℕ) → (ownAnswer owners b ws room ≡ refused 12 p) ↔ Twelve owners b ws p
-unfolding ownAnswer ownFault roomFault
-own-twelve owners b ws room p = (only, λ t. rw (twelve-shared owners b ws p t))
-  where
-    short : (t : Bool) → unless (faultIf t 8 (length (ownLeft b ws))) (length (ownLeft b ws)) ≡ refused 12 p → ⊥
-    short true e = let z : _≡_ {A = ℕ} 8 12 = cc in omega arith
-    short false e = let z : _≡_ {A = ℕ} 0 1 = cc in omega arith
-
-    go : (f : Fault) → sharedFault owners b ws ≡ f → unless (f orElse faultIf (ltb room (length (ownLeft b ws))) 8 (length (ownLeft b ws))) (length (ownLeft b ws)) ≡ refused 12 p →
-        Twelve owners b ws p
-    go fine s e = absurd (short (ltb room (length (ownLeft b ws))) e)
-    go (fault n q) s e = let x : n ≡ 12 = cc in let y : q ≡ p = cc in shared-twelve owners b ws p (rw (← x, ← y) s)
-
-    only : ownAnswer owners b ws room ≡ refused 12 p → Twelve owners b ws p
-    only e = go (sharedFault owners b ws) refl e
+own-twelve owners b ws room p = own-listed 12 (omega arith) (omega arith) owners b ws p (shared-twelve owners b ws p) room
 
 pub own-smaller : (owners : ℕ) (b c : Board) (ws : List ℕ) → Alike b c → b .owner ≡ c .owner → 1 ≤ c .shortest → c .shortest ≤ b .shortest →
     ((p : ℕ) → sharedFault owners b ws ≡ fault 12 p → ⊥) →
     (room : ℕ) (out : List ℕ) → (ownAnswer owners b ws room ≡ ownAnswer owners c ws room) × (ownOut owners b ws out ≡ ownOut owners c ws out)
 unfolding ownAnswer ownOut ownFault
 own-smaller owners b c ws alike owner least less spared room out =
-    let mine : own b ws ≡ own c ws = ap (λ (o : ℕ). windowsFor o (ownedOf ws)) owner in
+    let mine = own-owner b c ws owner in
     let same = smaller-fault owners b c ws alike owner least less spared in
     let left : ownLeft b ws ≡ ownLeft c ws = rw (mine, alike .lost) in
     (rw (same, left), rw (same, left))
@@ -390,90 +467,29 @@ unfolding replayFor recordsFor
 replay-smaller b c ws ts bytes alike owner least less spared =
     or-nine (traceOf bytes) _ _ (λ rs next. smaller-same teams b c ws alike owner least less (records-entry ts (timed rs)) spared)
 
--- a trace is refused by 12 exactly when its bytes read to records and the list of windows is
-pub record TraceTwelve (b : Board) (ws bytes : List ℕ) (p : ℕ) : Type 0 where
-  pub records : List Stamped
-  pub end : ℕ
-  pub reads : traceOf bytes ≡ read records end
-  pub twelve : Twelve teams b ws p
-
-pub replay-twelve : (b : Board) (ws ts bytes : List ℕ) (p : ℕ) → (replayFor b ws ts bytes ≡ refused 12 p) ↔ TraceTwelve b ws bytes p
-unfolding replayFor recordsFor
-replay-twelve b ws ts bytes p = (go (traceOf bytes) refl, λ t. rw (t .reads) (exactly (t .records) .1 (t .twelve)))
-  where
-    exactly : (rs : List Stamped) → (askedFor teams b ws refused (λ l. recordsAnswer b l ts (timed rs)) ≡ refused 12 p) ↔ Twelve teams b ws p
-    exactly rs = exactly-twelve teams b ws _ (records-known b ts (timed rs)) p
-
-    go : (r : Read (List Stamped)) → traceOf bytes ≡ r → orNine r (λ rs end. askedFor teams b ws refused (λ l. recordsAnswer b l ts (timed rs))) ≡ refused 12 p →
-        TraceTwelve b ws bytes p
-    go (read rs end) e f = record { records = rs; end = end; reads = e; twelve = exactly rs .0 f }
-    go (bad o) e f = let z : _≡_ {A = ℕ} 9 12 = cc in absurd (omega arith)
+pub replay-twelve : (b : Board) (ws ts bytes : List ℕ) (p : ℕ) → (replayFor b ws ts bytes ≡ refused 12 p) ↔ OfTrace bytes (Twelve teams b ws p)
+replay-twelve b ws ts bytes p = trace-listed 12 (omega arith) (omega arith) b ws p (shared-twelve teams b ws p) ts bytes
 
 -- ---- plan files
 
--- a file's own refusals, before its plan is judged, are document 01's
-pub plan-base : (k : ℕ) (bytes : List ℕ) (n p : ℕ) → planOf k bytes ≡ refused n p → n ≤ 11
-unfolding planOf planFrom listsFrom countedFrom restFault
-plan-base k bytes n p =
-    read-base (readNumbers bytes k 0) _ (λ settings next. read-base (readNumber bytes next) _ (λ P after.
-    then-base (countedFrom 2 windowCountFault bytes after) _ (counted 2 windowCountFault after (λ c. base-if (ltb c 1 || ltb mostWindows c) 1 0 (omega arith))) (λ ws.
-    then-base (countedFrom 3 taskCountFault bytes (ws .next)) _ (counted 3 taskCountFault (ws .next) (λ c. base-if (ltb c 0 || ltb mostTasks c) 4 0 (omega arith))) (λ ts e.
-    base-if (ltb (ts .next) (length bytes)) 9 (ts .next) (omega arith) n p (unless-refused (restFault bytes (ts .next)) _ n p e)))))
-  where
-    given-not-refused : {A : Type 0} {a : A} → given a ≡ refused n p → ⊥
-    given-not-refused e = let z : _≡_ {A = ℕ} 0 1 = cc in omega arith
-
-    read-base : {A B : Type 0} (r : Read A) (f : A → ℕ → Answer B) → ((a : A) (next : ℕ) → f a next ≡ refused n p → n ≤ 11) → orNine r f ≡ refused n p → n ≤ 11
-    read-base (read a next) f h e = h a next e
-    read-base (bad o) f h e = let z : 9 ≡ n = cc in omega arith
-
-    past-base : {A : Type 0} (f : Fault) (a : Answer A) → Base f → (a ≡ refused n p → n ≤ 11) → past f a ≡ refused n p → n ≤ 11
-    past-base fine a b h e = h e
-    past-base (fault m q) a b h e = let x : m ≡ n = cc in let y : q ≡ p = cc in b n p (rw (x, y))
-
-    then-base : {A B : Type 0} (a : Answer A) (f : A → Answer B) → (a ≡ refused n p → n ≤ 11) → ((v : A) → f v ≡ refused n p → n ≤ 11) → andThen a f ≡ refused n p → n ≤ 11
-    then-base (given v) f g h e = h v e
-    then-base (refused m q) f g h e = let x : m ≡ n = cc in let y : q ≡ p = cc in g (rw (x, y))
-
-    counted : (each : ℕ) (check : ℕ → Fault) (at : ℕ) → ((c : ℕ) → Base (check c)) → countedFrom each check bytes at ≡ refused n p → n ≤ 11
-    counted each check at h =
-        read-base (readNumber bytes at) _ (λ c next. past-base (check c) _ (h c) (read-base (readNumbers bytes (each * c) next) _ (λ l end e. absurd (given-not-refused e))))
-
--- a file is refused by 12 exactly when it reads to a plan whose windows are
-pub record PlanTwelve (k : ℕ) (bytes : List ℕ) (p : ℕ) : Type 0 where
-  pub plan : Plan
-  pub reads : planOf k bytes ≡ given plan
-  pub twelve : Twelve teams (planBoard plan) (asOwned 0 (plan .windows)) p
-
-pub plan-twelve : (k : ℕ) (bytes : List ℕ) (p : ℕ) → (planAnswer k bytes ≡ refused 12 p) ↔ PlanTwelve k bytes p
-unfolding planAnswer verdictFor
-plan-twelve k bytes p = (
-  go (planOf k bytes) refl,
-  λ t.
-      rw (t .reads) (exactly-twelve teams (planBoard (t .plan)) (asOwned 0 (t .plan .windows)) _ (verdict-known (planBoard (t .plan)) (t .plan .tasks)) p .1 (t .twelve)),
-)
-  where
-    go : (a : Answer Plan) → planOf k bytes ≡ a → andThen a (λ q. verdictFor (planBoard q) (asOwned 0 (q .windows)) (q .tasks)) ≡ refused 12 p → PlanTwelve k bytes p
-    go (given q) r e = record {
-      plan = q;
-      reads = r;
-      twelve = exactly-twelve teams (planBoard q) (asOwned 0 (q .windows)) _ (verdict-known (planBoard q) (q .tasks)) p .0 e;
-    }
-    go (refused m o) r e = let x : m ≡ 12 = cc in absurd (omega (arith, plan-base k bytes m o r))
+pub plan-twelve : (k : ℕ) (bytes : List ℕ) (p : ℕ) → (planAnswer k bytes ≡ refused 12 p) ↔ OfPlan k bytes (λ q. Twelve teams (planBoard q) (asOwned 0 (q .windows)) p)
+plan-twelve k bytes p = plan-listed 12 (omega arith) (omega arith) p (λ b ws. Twelve teams b ws p) (λ b ws. shared-twelve teams b ws p) k bytes
 
 module _ (p : Plan) (w : Writable p) where
   pub writable-with : (l : List ℕ) → UpTo mostNumber l → Writable (withSettings l p)
   writable-with l u = record { settings = u; frame = w .frame; windows = w .windows; tasks = w .tasks; windowList = w .windowList; taskList = w .taskList }
 
-  -- what is not refused by 12 with m first is answered the same with every smaller m from 1 on
-  pub smaller-plan : (m n : ℕ) → UpTo mostNumber (m ∷ []) → UpTo mostNumber (n ∷ []) → 1 ≤ n → n ≤ m →
-      ((q : ℕ) → planAnswer 1 (planBytes (withSettings (m ∷ []) p)) ≡ refused 12 q → ⊥) →
-      planAnswer 1 (planBytes (withSettings (m ∷ []) p)) ≡ planAnswer 1 (planBytes (withSettings (n ∷ []) p))
+  -- what is not refused by 12 with m first is answered the same with every smaller m from 1 on, whatever settings follow
+  pub smaller-plan : (rest : List ℕ) (m n : ℕ) → UpTo mostNumber (m ∷ rest) → UpTo mostNumber (n ∷ rest) → 1 ≤ n → n ≤ m →
+      ((q : ℕ) → planAnswer (length (m ∷ rest)) (planBytes (withSettings (m ∷ rest) p)) ≡ refused 12 q → ⊥) →
+      planAnswer (length (m ∷ rest)) (planBytes (withSettings (m ∷ rest) p)) ≡ planAnswer (length (n ∷ rest)) (planBytes (withSettings (n ∷ rest) p))
   unfolding planAnswer verdictFor
-  smaller-plan m n u v least less spared =
-      rw (round-trip (withSettings (m ∷ []) p) (writable-with (m ∷ []) u), round-trip (withSettings (n ∷ []) p) (writable-with (n ∷ []) v))
-      (smaller-answer teams (planBoard (withSettings (m ∷ []) p)) (planBoard (withSettings (n ∷ []) p)) (asOwned 0 (p .windows)) (record { frame = refl; rule = refl; lost = refl }) refl least less
-      (verdict-entry (p .tasks)) (λ q e. spared q (rw (round-trip (withSettings (m ∷ []) p) (writable-with (m ∷ []) u)) e)))
+  smaller-plan rest m n u v least less spared =
+      let big = round-trip (withSettings (m ∷ rest) p) (writable-with (m ∷ rest) u) in
+      let small = round-trip (withSettings (n ∷ rest) p) (writable-with (n ∷ rest) v) in
+      rw (big, small)
+      (smaller-answer teams (planBoard (withSettings (m ∷ rest) p)) (planBoard (withSettings (n ∷ rest) p)) (asOwned 0 (p .windows)) (record { frame = refl; rule = refl; lost = refl }) refl least less
+      (verdict-entry (p .tasks)) (λ q e. spared q (rw big e)))
 
 -- an old file is answered as the same bytes with m = 1 before them, and what is no plan of the old form is refused as there, 9 one byte later
 module _ (bytes : List ℕ) where
@@ -484,12 +500,7 @@ module _ (bytes : List ℕ) where
   pub old-form : (p : Plan) → planOf 0 bytes ≡ given p → planAnswer 1 (1 ∷ bytes) ≡ planAnswer 0 bytes
   unfolding planAnswer numbersBytes numberBytes numberBytesWithin
   old-form p e =
-      let none : p .settings ≡ [] = empty (p .settings) (read-settings 0 bytes p e) in
-      judged-behind (1 ∷ []) bytes one-first p e ∙ rw (e, none)
-    where
-      empty : (l : List ℕ) → length l ≡ 0 → l ≡ []
-      empty [] z = refl
-      empty (a ∷ l) z = absurd (omega arith)
+      judged-behind (1 ∷ []) bytes one-first p e ∙ rw (e, none-listed (p .settings) (read-settings 0 bytes p e))
 
   pub old-refused : (n o : ℕ) → planOf 0 bytes ≡ refused n o → planAnswer 1 (1 ∷ bytes) ≡ refused n (cond (eqb n 9) (1 + o) o)
   unfolding numbersBytes numberBytes numberBytesWithin

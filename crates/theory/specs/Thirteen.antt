@@ -27,7 +27,7 @@ use Rattle.theory.specs.Slivers.{sliver-twelve}
 use Rattle.theory.specs.Left.{left-out, left-supplied}
 use Rattle.theory.specs.Losses.{Cause, lost-thirteen, lost-exactly}
 use Rattle.theory.specs.Alone.{table-same, WholeRefusal, WholeRefusal.by-count, WholeRefusal.by-frame, WholeRefusal.by-window, WholeRefusal.by-range, WholeRefusal.by-sliver}
-use Rattle.theory.specs.Shortest.{Known, verdict-known, records-known, whole-base, plan-base}
+use Rattle.theory.specs.Shortest.{Known, whole-base, OfTrace, OfPlan, asked-listed, own-listed, trace-listed, plan-listed}
 use Rattle.theory.specs.Edits.{Ready, Allowed, NewRefusal, EditRefusal, edit-refusal, refusal-edit, new-refused}
 
 -- ---- of lists of windows and every entry
@@ -63,26 +63,11 @@ module _ (owners : ℕ) (b : Board) (ws : List ℕ) where
 
   -- and so does every entry refuse that does not give 13 itself
   pub exactly-thirteen : {A : Type 0} (entry : List ℕ → Answer A) → Known entry → (p : ℕ) → (askedFor owners b ws refused entry ≡ refused 13 p) ↔ (Thirteen × (p ≡ 0))
-  unfolding askedFor
-  exactly-thirteen entry is p = (go (sharedFault owners b ws) refl, λ t. asked-refused owners b ws refused entry (shared-thirteen p .1 t))
-    where
-      go : (f : Fault) → sharedFault owners b ws ≡ f → unlessRefused f refused (entry (own b ws)) ≡ refused 13 p → Thirteen × (p ≡ 0)
-      go fine s e = absurd (is 13 (omega arith) (omega arith) (own b ws) p e)
-      go (fault n q) s e = let x : n ≡ 13 = cc in let y : q ≡ p = cc in shared-thirteen p .0 (rw (← x, ← y) s)
+  exactly-thirteen entry is p = asked-listed 13 (omega arith) (omega arith) owners b ws p (shared-thirteen p) entry is
 
   -- what is left of an owner's windows by itself, whose memory may be too short
   pub own-thirteen : (room p : ℕ) → (ownAnswer owners b ws room ≡ refused 13 p) ↔ (Thirteen × (p ≡ 0))
-  unfolding ownAnswer ownFault roomFault
-  own-thirteen room p = (go (sharedFault owners b ws) refl, λ t. rw (shared-thirteen p .1 t))
-    where
-      short : (t : Bool) → unless (faultIf t 8 (length (ownLeft b ws))) (length (ownLeft b ws)) ≡ refused 13 p → ⊥
-      short true e = let z : _≡_ {A = ℕ} 8 13 = cc in omega arith
-      short false e = let z : _≡_ {A = ℕ} 0 1 = cc in omega arith
-
-      go : (f : Fault) → sharedFault owners b ws ≡ f → unless (f orElse faultIf (ltb room (length (ownLeft b ws))) 8 (length (ownLeft b ws))) (length (ownLeft b ws)) ≡ refused 13 p →
-          Thirteen × (p ≡ 0)
-      go fine s e = absurd (short (ltb room (length (ownLeft b ws))) e)
-      go (fault n q) s e = let x : n ≡ 13 = cc in let y : q ≡ p = cc in shared-thirteen p .0 (rw (← x, ← y) s)
+  own-thirteen room p = own-listed 13 (omega arith) (omega arith) owners b ws p (shared-thirteen p) room
 
 -- ---- the fourth cause: of a list of windows without a fault nothing is left exactly when no tick is supplied
 
@@ -125,43 +110,14 @@ pub no-tick-asked : (owners : ℕ) (b : Board) (ws : List ℕ) → wholeFault ow
     (ownLeft b ws ≡ []) ↔ ((k : ℕ) → suppliedBy b (own b ws) k ≡ false)
 no-tick-asked owners b ws e a = no-tick-left b (own b ws) (present-fine owners b ws e a)
 
--- ---- traces and plan files
+-- ---- traces and plan files: exactly where their bytes read and the list of windows is refused so
 
--- a trace is refused by 13 exactly when its bytes read to records and the list of windows is
-pub record TraceThirteen (b : Board) (ws bytes : List ℕ) : Type 0 where
-  pub records : List Stamped
-  pub end : ℕ
-  pub reads : traceOf bytes ≡ read records end
-  pub thirteen : Thirteen teams b ws
+pub replay-thirteen : (b : Board) (ws ts bytes : List ℕ) (p : ℕ) → (replayFor b ws ts bytes ≡ refused 13 p) ↔ OfTrace bytes (Thirteen teams b ws × (p ≡ 0))
+replay-thirteen b ws ts bytes p = trace-listed 13 (omega arith) (omega arith) b ws p (shared-thirteen teams b ws p) ts bytes
 
-pub replay-thirteen : (b : Board) (ws ts bytes : List ℕ) (p : ℕ) → (replayFor b ws ts bytes ≡ refused 13 p) ↔ (TraceThirteen b ws bytes × (p ≡ 0))
-unfolding replayFor recordsFor
-replay-thirteen b ws ts bytes p = (go (traceOf bytes) refl, λ t. rw (t .0 .reads) (exactly (t .0 .records) .1 (t .0 .thirteen, t .1)))
-  where
-    exactly : (rs : List Stamped) → (askedFor teams b ws refused (λ l. recordsAnswer b l ts (timed rs)) ≡ refused 13 p) ↔ (Thirteen teams b ws × (p ≡ 0))
-    exactly rs = exactly-thirteen teams b ws _ (records-known b ts (timed rs)) p
-
-    go : (r : Read (List Stamped)) → traceOf bytes ≡ r → orNine r (λ rs end. askedFor teams b ws refused (λ l. recordsAnswer b l ts (timed rs))) ≡ refused 13 p →
-        TraceThirteen b ws bytes × (p ≡ 0)
-    go (read rs end) e f = let t = exactly rs .0 f in (record { records = rs; end = end; reads = e; thirteen = t .0 }, t .1)
-    go (bad o) e f = let z : _≡_ {A = ℕ} 9 13 = cc in absurd (omega arith)
-
--- a file is refused by 13 exactly when it reads to a plan whose windows are
-pub record PlanThirteen (k : ℕ) (bytes : List ℕ) : Type 0 where
-  pub plan : Plan
-  pub reads : planOf k bytes ≡ given plan
-  pub thirteen : Thirteen teams (planBoard plan) (asOwned 0 (plan .windows))
-
-pub plan-thirteen : (k : ℕ) (bytes : List ℕ) (p : ℕ) → (planAnswer k bytes ≡ refused 13 p) ↔ (PlanThirteen k bytes × (p ≡ 0))
-unfolding planAnswer verdictFor
-plan-thirteen k bytes p = (go (planOf k bytes) refl, λ t. rw (t .0 .reads) (exactly (t .0 .plan) .1 (t .0 .thirteen, t .1)))
-  where
-    exactly : (q : Plan) → (verdictFor (planBoard q) (asOwned 0 (q .windows)) (q .tasks) ≡ refused 13 p) ↔ (Thirteen teams (planBoard q) (asOwned 0 (q .windows)) × (p ≡ 0))
-    exactly q = exactly-thirteen teams (planBoard q) (asOwned 0 (q .windows)) _ (verdict-known (planBoard q) (q .tasks)) p
-
-    go : (a : Answer Plan) → planOf k bytes ≡ a → andThen a (λ q. verdictFor (planBoard q) (asOwned 0 (q .windows)) (q .tasks)) ≡ refused 13 p → PlanThirteen k bytes × (p ≡ 0)
-    go (given q) r e = let t = exactly q .0 e in (record { plan = q; reads = r; thirteen = t .0 }, t .1)
-    go (refused m o) r e = let x : m ≡ 13 = cc in absurd (omega (arith, plan-base k bytes m o r))
+pub plan-thirteen : (k : ℕ) (bytes : List ℕ) (p : ℕ) →
+    (planAnswer k bytes ≡ refused 13 p) ↔ OfPlan k bytes (λ q. Thirteen teams (planBoard q) (asOwned 0 (q .windows)) × (p ≡ 0))
+plan-thirteen k bytes p = plan-listed 13 (omega arith) (omega arith) p (λ b ws. Thirteen teams b ws × (p ≡ 0)) (λ b ws. shared-thirteen teams b ws p) k bytes
 
 -- ---- edits
 
