@@ -19,14 +19,14 @@ use Rattle.tables.proofs.CursorLaws.{on-at, at-next, at-begin}
 use Rattle.checker.specs.declared.stretch.Stretch.{Stretch}
 use Rattle.checker.specs.Stretches.{onAt, slidOf, Slides, Spans}
 
-pub on-le : (b : Board) (ws : List ℕ) (c : Cursor) → onAt b ws c ≤ 1
-on-le b ws c = bit-le (gives (b .lost) (windowAt (windowsOf ws) (c .window)) (c .tick))
+pub on-le : (ws : List ℕ) (c : Cursor) → onAt ws c ≤ 1
+on-le ws c = bit-le (gives 0 (windowAt (windowsOf ws) (c .window)) (c .tick))
 
 module _ (b : Board) (ws : List ℕ) (ok : LegalTable b ws) where
   abbrev σ : ℕ → Bool
   σ = suppliedBy b ws
 
-  tick-is : (k : ℕ) (c : Cursor) → c ≡ cursorAt b ws k → onAt b ws c ≡ bit (σ k)
+  tick-is : (k : ℕ) (c : Cursor) → c ≡ cursorAt b ws k → onAt ws c ≡ bit (σ k)
   tick-is k c e = ap bit (on-at b ws ok k c e)
 
   -- ---- the first ticks, one by one
@@ -41,7 +41,7 @@ module _ (b : Board) (ws : List ℕ) (ok : LegalTable b ws) where
   unfolding supply
   counted-none to e = record { at = e ∙ at-begin b ws; held = refl; few = omega arith }
 
-  pub counted-more : (i : ℕ) (to on : Cursor) (n tick : ℕ) → Counted i to n → tick ≡ onAt b ws to → on ≡ after b ws to → Counted (i + 1) on (n + tick)
+  pub counted-more : (i : ℕ) (to on : Cursor) (n tick : ℕ) → Counted i to n → tick ≡ onAt ws to → on ≡ after b ws to → Counted (i + 1) on (n + tick)
   unfolding supply
   counted-more i to on n tick so e f =
       let comes : tick ≡ bit (σ (0 + i)) = e ∙ tick-is i to (so .at) ∙ ap (λ (k : ℕ). bit (σ k)) (sym (zero-add i)) in
@@ -58,10 +58,10 @@ module _ (b : Board) (ws : List ℕ) (ok : LegalTable b ws) where
   -- ---- one tick on
 
   module _ (s t : ℕ) (r : Stretch) (so : Spans b ws s t r) where
-    comes-is : onAt b ws (r .to) ≡ bit (σ (s + t))
+    comes-is : onAt ws (r .to) ≡ bit (σ (s + t))
     comes-is = tick-is (s + t) (r .to) (so .to)
 
-    goes-is : onAt b ws (r .from) ≡ bit (σ s)
+    goes-is : onAt ws (r .from) ≡ bit (σ s)
     goes-is = tick-is s (r .from) (so .from)
 
     moves : supply σ (s + 1) t + bit (σ s) ≡ supply σ s t + bit (σ (s + t))

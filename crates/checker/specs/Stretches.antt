@@ -11,17 +11,17 @@ use Rattle.tables.specs.Cursors.{after, cursorAt}
 use Rattle.checker.specs.declared.stretch.Stretch.{Stretch}
 
 -- 1 where the window at hand gives the tick, else 0
-abbrev pub onAt : Board → List ℕ → Cursor → ℕ
-onAt b ws c = bit (gives (b .lost) (windowAt (windowsOf ws) (c .window)) (c .tick))
+abbrev pub onAt : List ℕ → Cursor → ℕ
+onAt ws c = bit (gives 0 (windowAt (windowsOf ws) (c .window)) (c .tick))
 
 -- one tick comes and one goes
 abbrev pub slidOf : Board → List ℕ → Stretch → Stretch
-slidOf b ws r = record { from = after b ws (r .from); to = after b ws (r .to); supply = r .supply + onAt b ws (r .to) - onAt b ws (r .from) }
+slidOf b ws r = record { from = after b ws (r .from); to = after b ws (r .to); supply = r .supply + onAt ws (r .to) - onAt ws (r .from) }
 
 -- the one that goes is among those that are there, which are few
 pub record Slides (b : Board) (ws : List ℕ) (r : Stretch) : Type 0 where
   pub few : r .supply ≤ mostFrame
-  pub there : onAt b ws (r .from) ≤ r .supply + onAt b ws (r .to)
+  pub there : onAt ws (r .from) ≤ r .supply + onAt ws (r .to)
 
 -- the t ticks from s on
 pub record Spans (b : Board) (ws : List ℕ) (s t : ℕ) (r : Stretch) : Type 0 where

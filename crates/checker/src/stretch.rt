@@ -1,7 +1,7 @@
 // A stretch of ticks whose start moves on tick by tick.
 use tables::cursor::Cursor;
 ghost use mathlib.Core.Path.{_≡_};
-ghost use Prim.Native.Nat.{ℕ, _≤_};
+ghost use Prim.Native.Nat.{_≤_};
 ghost use Rattle.scope.specs.Windows.{framed};
 ghost use Rattle.scope.specs.Limits.{mostFrame};
 ghost use Rattle.theory.specs.Answers.{LegalTable};
@@ -16,7 +16,7 @@ pub(crate) struct Stretch {
 
 // 1 for a supplied tick, 0 for another.
 fn tick_at(windows: &[u32], at: Cursor) -> u32
-    ensures { λ r. ⌜ ((P : ℕ) → r ≡ onAt (framed P) (now (windows .entry)) at) ⌝ }
+    ensures { λ r. ⌜ r ≡ onAt (now (windows .entry)) at ⌝ }
 {
     if at.is_on(windows) { 1 } else { 0 }
 }

@@ -96,15 +96,15 @@ gathers-own o = record { empty = refl; append = for-append o }
 abbrev pub leftFor : Board → List Owned → List ℕ
 leftFor b ws = leftOf (b .lost) (windowsOf (windowsFor (b .owner) ws))
 
-left-append : (b : Board) (vs ws : List Window) → leftOf (b .lost) (vs ++ ws) ≡ leftOf (b .lost) vs ++ leftOf (b .lost) ws
+left-append : (q : ℕ) (vs ws : List Window) → leftOf q (vs ++ ws) ≡ leftOf q vs ++ leftOf q ws
 unfolding leftOf
-left-append b [] ws = refl
-left-append b (v ∷ vs) ws = go (ltb (b .lost) (v .end - v .start)) (left-append b vs ws)
+left-append q [] ws = refl
+left-append q (v ∷ vs) ws = go (ltb q (v .end - v .start)) (left-append q vs ws)
   where
-    go : (t : Bool) → leftOf (b .lost) (vs ++ ws) ≡ leftOf (b .lost) vs ++ leftOf (b .lost) ws →
-        cond t ((b .lost + v .start) ∷ v .end ∷ leftOf (b .lost) (vs ++ ws)) (leftOf (b .lost) (vs ++ ws))
-        ≡ cond t ((b .lost + v .start) ∷ v .end ∷ leftOf (b .lost) vs) (leftOf (b .lost) vs) ++ leftOf (b .lost) ws
-    go true e = ap (λ (l : List ℕ). (b .lost + v .start) ∷ v .end ∷ l) e
+    go : (t : Bool) → leftOf q (vs ++ ws) ≡ leftOf q vs ++ leftOf q ws →
+        cond t ((q + v .start) ∷ v .end ∷ leftOf q (vs ++ ws)) (leftOf q (vs ++ ws))
+        ≡ cond t ((q + v .start) ∷ v .end ∷ leftOf q vs) (leftOf q vs) ++ leftOf q ws
+    go true e = ap (λ (l : List ℕ). (q + v .start) ∷ v .end ∷ l) e
     go false e = e
 
 pub gathers-left : (b : Board) → Gathers (leftFor b)
@@ -116,8 +116,8 @@ gathers-left b = record { empty = refl; append = append }
         let o = b .owner in
         let even = for-even o vs in
         ap (λ (l : List ℕ). leftOf (b .lost) (windowsOf l)) (for-append o vs ws)
-        ∙ ap (leftOf b) (pieces-append Window 2 window (omega arith) (length (windowsFor o vs) / 2) (windowsFor o vs) (windowsFor o ws) (omega arith))
-        ∙ left-append b (windowsOf (windowsFor o vs)) (windowsOf (windowsFor o ws))
+        ∙ ap (leftOf (b .lost)) (pieces-append Window 2 window (omega arith) (length (windowsFor o vs) / 2) (windowsFor o vs) (windowsFor o ws) (omega arith))
+        ∙ left-append (b .lost) (windowsOf (windowsFor o vs)) (windowsOf (windowsFor o ws))
 
 module _ (f : List Owned → List ℕ) (is : Gathers f) (ws : List Owned) where
   -- of the first i windows

@@ -106,11 +106,12 @@ module _ (b : Board) (ws : List ℕ) (ok : LegalTable b ws) where
   stands (suc k) = stands-after k (cursorAt b ws k) (stands k)
 
   -- the window at hand gives the tick exactly where the tick is supplied
-  pub on-at : (k : ℕ) (c : Cursor) → c ≡ cursorAt b ws k → gives (b .lost) (windowAt (windowsOf ws) (c .window)) (c .tick) ≡ suppliedBy b ws k
+  pub on-at : (k : ℕ) (c : Cursor) → c ≡ cursorAt b ws k → gives 0 (windowAt (windowsOf ws) (c .window)) (c .tick) ≡ suppliedBy b ws k
   unfolding supplied
   on-at k c e =
       let s : Stands k c = rw e (stands k) in
-      sym (covers-by b (windowsOf ws) (ok .windows) (c .window) (c .tick) (s .few) (s .past) (s .ahead)) ∙ rw (s .tick)
+      ap (λ (q : ℕ). gives q (windowAt (windowsOf ws) (c .window)) (c .tick)) (sym (ok .whole))
+      ∙ sym (covers-by b (windowsOf ws) (ok .windows) (c .window) (c .tick) (s .few) (s .past) (s .ahead)) ∙ rw (s .tick)
 
 -- and it goes on
 pub at-next : (b : Board) (ws : List ℕ) (k : ℕ) (c d : Cursor) → c ≡ cursorAt b ws k → d ≡ after b ws c → d ≡ cursorAt b ws (k + 1)

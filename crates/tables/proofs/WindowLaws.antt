@@ -54,27 +54,27 @@ unfitting b w n p e = breaks (windowFits b w) w 3 0 n p (e ∙ sym (window-alone
 -- ---- from window i on
 
 -- window i, or one after it, gives tick k of a frame
-abbrev pub coversFrom : Board → List Window → ℕ → ℕ → Bool
-coversFrom (b .lost) ws i k = covers (b .lost) (drop i ws) k
+abbrev pub coversFrom : ℕ → List Window → ℕ → ℕ → Bool
+coversFrom q ws i k = covers q (drop i ws) k
 
-module _ (b : Board) (ws : List Window) (i k : ℕ) where
+module _ (q : ℕ) (ws : List Window) (i k : ℕ) where
   -- window i, and then the windows after it
-  covers-step : i < length ws → coversFrom (b .lost) ws i k ≡ (gives (b .lost) (windowAt ws i) k || coversFrom (b .lost) ws (i + 1) k)
+  covers-step : i < length ws → coversFrom q ws i k ≡ (gives q (windowAt ws i) k || coversFrom q ws (i + 1) k)
   unfolding covers
   covers-step h = rw (add-one i, drop-cons ws i (window 0 0) h)
 
   -- a window w, read at i, gives the tick or does not
-  pub covers-hit : {w : Window} → i < length ws → w ≡ windowAt ws i → gives (b .lost) w k ≡ true → coversFrom (b .lost) ws i k ≡ true
+  pub covers-hit : {w : Window} → i < length ws → w ≡ windowAt ws i → gives q w k ≡ true → coversFrom q ws i k ≡ true
   covers-hit h r e = covers-step h ∙ rw (← r, e)
 
-  pub covers-skip : {w : Window} → i < length ws → w ≡ windowAt ws i → gives (b .lost) w k ≡ false → coversFrom (b .lost) ws i k ≡ coversFrom (b .lost) ws (i + 1) k
+  pub covers-skip : {w : Window} → i < length ws → w ≡ windowAt ws i → gives q w k ≡ false → coversFrom q ws i k ≡ coversFrom q ws (i + 1) k
   covers-skip h r e = covers-step h ∙ rw (← r, e)
 
   -- past the last window
-  pub covers-end : length ws ≤ i → coversFrom (b .lost) ws i k ≡ false
+  pub covers-end : length ws ≤ i → coversFrom q ws i k ≡ false
   unfolding covers
   covers-end h = none (drop i ws) (length-drop i ws ∙ omega arith)
     where
-      none : (rest : List Window) → length rest ≡ 0 → covers (b .lost) rest k ≡ false
+      none : (rest : List Window) → length rest ≡ 0 → covers q rest k ≡ false
       none [] e = refl
       none (w ∷ rest) e = absurd (omega arith)

@@ -1,6 +1,5 @@
 use crate::window::window_at;
 ghost use mathlib.Core.Path.{_≡_};
-ghost use Prim.Native.Nat.{ℕ};
 ghost use Rattle.scope.specs.Windows.{framed, windowsOf, windowAt, gives};
 ghost use Rattle.tables.specs.Cursors.{begin, after};
 
@@ -43,7 +42,7 @@ impl Cursor {
 
     // Whether the window at hand gives the tick, where no tick is lost.
     pub fn is_on(self, windows: &[u32]) -> bool
-        ensures { λ r. ⌜ ((P : ℕ) → r ≡ gives 0 (windowAt (windowsOf (now (windows .entry))) (self .window)) (self .tick)) ⌝ }
+        ensures { λ r. ⌜ r ≡ gives 0 (windowAt (windowsOf (now (windows .entry))) (self .window)) (self .tick) ⌝ }
     {
         let window = window_at(windows, self.window);
         window.holds(self.tick as u64)

@@ -3,7 +3,7 @@ use crate::answer::Refusal;
 use crate::board::check_frame;
 use crate::list::bad_count;
 ghost use mathlib.Core.Path.{_≡_};
-ghost use Prim.Native.Nat.{ℕ, _%_};
+ghost use Prim.Native.Nat.{_%_};
 ghost use Rattle.scope.specs.Windows.{framed, windowsOf, windowAt, windowFits, gives, covers, suppliedBy, windowLegal};
 ghost use Rattle.scope.specs.Answers.{listFault, windowListFault, windowFault, tableFault, windowAnswer};
 ghost use Rattle.tables.specs.Told.{windowOf, faultOf, toldWindow};
@@ -44,7 +44,7 @@ impl Window {
 
     // Whether the window gives tick k of a frame, where no tick is lost.
     pub(crate) fn holds(self, k: u64) -> bool
-        ensures { λ r. ⌜ ((P : ℕ) → r ≡ gives 0 (windowOf self) k) ⌝ }
+        ensures { λ r. ⌜ r ≡ gives 0 (windowOf self) k ⌝ }
     {
         let start = self.start as u64;
         let end = self.end as u64;
@@ -66,7 +66,7 @@ pub fn window_at(windows: &[u32], i: usize) -> Window
 
 // Whether one of the windows gives tick k of a frame.
 fn covered(windows: &[u32], k: u64) -> bool
-    ensures { λ r. ⌜ ((P : ℕ) → r ≡ covers 0 (windowsOf (now (windows .entry))) k) ⌝ }
+    ensures { λ r. ⌜ r ≡ covers 0 (windowsOf (now (windows .entry))) k ⌝ }
 {
     let count = windows.len() / 2;
     let mut i = 0;

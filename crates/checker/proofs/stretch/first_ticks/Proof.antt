@@ -35,7 +35,7 @@ add-supply : tie.Need-add-supply Inv-loop μ-loop
 add-supply c =
     let a = c .before .before .before .before .before .args in
     let l = c .before .before .loop in
-    omega (arith, l .inv .3 .few, c .tick-at .ensures (a .frame), on-le (framed (a .frame)) (a .windows .now) (l .to))
+    omega (arith, l .inv .3 .few, c .tick-at .ensures, on-le (a .windows .now) (l .to))
 
 next-requires : tie.Need-next-requires Inv-loop μ-loop
 next-requires c κs = search needs
@@ -52,7 +52,7 @@ loop-again c =
       omega arith,
       l .inv .1,
       l .inv .2,
-      counted-more _ _ (l .inv .2) (l .i) (l .to) _ _ _ (l .inv .3) (c .before .tick-at .ensures _) (c .next .ensures),
+      counted-more _ _ (l .inv .2) (l .i) (l .to) _ _ _ (l .inv .3) (c .before .tick-at .ensures) (c .next .ensures),
     )
 
 new-requires-2 : tie.Need-new-requires-2 Inv-loop μ-loop

@@ -24,17 +24,15 @@ next-requires-2 c κs = search needs
 add-t11 : tie.Need-add-t11
 add-t11 c =
     let e = c .before .before .before .before .before .before .before in
-    omega (arith, e .pre .few, c .before .before .before .tick-at .ensures (e .args .frame), on-le (framed (e .args .frame)) (e .args .windows .now) (e .args .stretch .to))
+    omega (arith, e .pre .few, c .before .before .before .tick-at .ensures, on-le (e .args .windows .now) (e .args .stretch .to))
 
 sub-t12 : tie.Need-sub-t12
 sub-t12 c =
     let e = c .before .before .before .before .before .before .before in
-    omega (arith, e .pre .there, c .before .before .before .tick-at .ensures (e .args .frame), c .before .before .tick-at2 .ensures (e .args .frame))
+    omega (arith, e .pre .there, c .before .before .before .tick-at .ensures, c .before .before .tick-at2 .ensures)
 
 returns : tie.Need-returns
-returns c =
-    let P = c .before .before .before .before .before .before .before .args .frame in
-    rw (c .before .next .ensures, c .next2 .ensures, c .before .before .before .tick-at .ensures P, c .before .before .tick-at2 .ensures P)
+returns c = rw (c .before .next .ensures, c .next2 .ensures, c .before .before .before .tick-at .ensures, c .before .before .tick-at2 .ensures)
 
 pub slid-spec : {M : Type 1} → statement M
 slid-spec =

@@ -10,10 +10,10 @@ is-on-requires : tie.Need-is-on-requires
 is-on-requires c κs = search needs
 
 returns : tie.Need-returns
-returns c P = rw (sym (c .before .is-on .ensures P) ∙ c .if1 .taken)
+returns c = rw (sym (c .before .is-on .ensures) ∙ c .if1 .taken)
 
 returns-2 : tie.Need-returns-2
-returns-2 c P = rw (sym (c .before .is-on .ensures P) ∙ c .if1 .left)
+returns-2 c = rw (sym (c .before .is-on .ensures) ∙ c .if1 .left)
 
 pub tick-at-spec : {M : Type 1} → statement M
 tick-at-spec = tie.close (tie.spec is-on-requires returns returns-2)

@@ -1,9 +1,9 @@
 use borrow.Author.Needs.{needs}
 use native.Mathlib.Omega.{arith}
-use Prim.Native.Nat.{ℕ, _-_, _≤_}
+use Prim.Native.Nat.{_-_, _≤_}
 use lib.ListN.{length}
 use mathlib.Core.Path.{_≡_, refl, sym, _∙_}
-use Rattle.scope.specs.Windows.{framed, window, windowsOf, covers}
+use Rattle.scope.specs.Windows.{window, windowsOf, covers}
 use Rattle.theory.specs.Lists.{pieces-length}
 use Rattle.tables.proofs.WindowLaws.{coversFrom, covers-hit, covers-skip, covers-end}
 use Rattle.tables.proofs.window.covered.Statement.{statement}
@@ -15,13 +15,13 @@ use Rattle.tables.proofs.window.window_at.Reads as window-at-reads
 
 abbrev Inv-loop : tie.InvT-loop
 Inv-loop windows k count i₀ i =
-    (i ≤ count) × (count ≡ length (windowsOf windows)) × ((P : ℕ) → covers 0 (windowsOf windows) k ≡ coversFrom 0 (windowsOf windows) i k)
+    (i ≤ count) × (count ≡ length (windowsOf windows)) × (covers 0 (windowsOf windows) k ≡ coversFrom 0 (windowsOf windows) i k)
 
 abbrev μ-loop : tie.MeasureT-loop
 μ-loop windows k count i₀ i = count - i
 
 loop-holds : tie.Need-loop-holds Inv-loop μ-loop
-loop-holds c = (omega arith, sym (pieces-length _ 2 window _), λ P. refl)
+loop-holds c = (omega arith, sym (pieces-length _ 2 window _), refl)
 
 window-at-requires : tie.Need-window-at-requires Inv-loop μ-loop
 window-at-requires c κs = search needs
@@ -30,12 +30,12 @@ holds-requires : tie.Need-holds-requires Inv-loop μ-loop
 holds-requires c κs = search needs
 
 returns : tie.Need-returns Inv-loop μ-loop
-returns c P =
+returns c =
     let a = c .before .before .before .before .before .before .args in
     let l = c .before .before .before .before .loop in
     let ws = windowsOf (a .windows .now) in
-    sym (l .inv .2 P ∙ covers-hit 0 ws (l .i) (a .k) (omega arith)
-    (c .before .before .window-at .ensures) (sym (c .before .holds .ensures P) ∙ c .if1 .taken))
+    sym (l .inv .2 ∙ covers-hit 0 ws (l .i) (a .k) (omega arith)
+    (c .before .before .window-at .ensures) (sym (c .before .holds .ensures) ∙ c .if1 .taken))
 
 add-i : tie.Need-add-i Inv-loop μ-loop
 add-i c = search needs
@@ -50,14 +50,14 @@ loop-again c =
     let ws = windowsOf (a .windows .now) in (
       omega arith,
       l .inv .1,
-      λ P. l .inv .2 P ∙ covers-skip 0 ws (l .i) (a .k) (omega arith)
-          (c .before .before .window-at .ensures) (sym (c .before .holds .ensures P) ∙ c .if1 .left),
+      l .inv .2 ∙ covers-skip 0 ws (l .i) (a .k) (omega arith)
+          (c .before .before .window-at .ensures) (sym (c .before .holds .ensures) ∙ c .if1 .left),
     )
 
 returns-2 : tie.Need-returns-2 Inv-loop μ-loop
-returns-2 c P =
+returns-2 c =
     let a = c .before .before .before .args in
-    sym (c .before .loop .inv .2 P ∙ covers-end 0 (windowsOf (a .windows .now)) (c .before .loop .i) (a .k) (omega arith))
+    sym (c .before .loop .inv .2 ∙ covers-end 0 (windowsOf (a .windows .now)) (c .before .loop .i) (a .k) (omega arith))
 
 pub covered-spec : {M : Type 1} → statement M
 covered-spec =

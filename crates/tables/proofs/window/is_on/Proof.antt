@@ -1,5 +1,5 @@
 use mathlib.Core.Path.{ap, _∙_}
-use Rattle.scope.specs.Windows.{framed, windowsOf, covers, supplied}
+use Rattle.scope.specs.Windows.{windowsOf, covers, supplied}
 use borrow.Author.Needs.{needs}
 use Rattle.tables.proofs.window.is_on.Statement.{statement}
 use Rattle.tables.proofs.window.is_on.Tie as tie
@@ -18,7 +18,7 @@ returns : tie.Need-returns
 unfolding supplied
 returns c =
     let a = c .before .before .before .args in
-    c .covered .ensures (a .frame) ∙ ap (covers 0 (windowsOf (a .windows .now))) (c .before .place-of .ensures)
+    c .covered .ensures ∙ ap (covers 0 (windowsOf (a .windows .now))) (c .before .place-of .ensures)
 
 pub is-on-spec : {M : Type 1} → statement M
 is-on-spec = tie.close (tie.spec place-of-requires covered-requires returns)

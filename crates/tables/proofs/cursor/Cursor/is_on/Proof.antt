@@ -1,6 +1,6 @@
 use mathlib.Core.Path.{ap, _∙_}
 use borrow.Author.Needs.{needs}
-use Rattle.scope.specs.Windows.{framed, Window, gives}
+use Rattle.scope.specs.Windows.{Window, gives}
 use Rattle.tables.proofs.cursor.Cursor.is_on.Statement.{statement}
 use Rattle.tables.proofs.cursor.Cursor.is_on.Tie as tie
 use Rattle.tables.proofs.cursor.Cursor.is_on.Reads as reads
@@ -18,9 +18,9 @@ holds-requires : tie.Need-holds-requires
 holds-requires c κs = search needs
 
 returns : tie.Need-returns
-returns c P =
+returns c =
     let a = c .before .before .before .before .args in
-    c .holds .ensures P ∙ ap (λ (w : Window). gives 0 w (a .self .tick)) (c .before .before .window-at .ensures)
+    c .holds .ensures ∙ ap (λ (w : Window). gives 0 w (a .self .tick)) (c .before .before .window-at .ensures)
 
 pub is-on-spec : {M : Type 1} → statement M
 is-on-spec = tie.close (tie.spec window-at-requires cast-holds holds-requires returns)

@@ -1,4 +1,3 @@
-use mathlib.Core.Path.{_≡_, ap, _∙_}
 use native.Mathlib.Nat.{zero-add}
 use borrow.Author.Needs.{needs}
 use borrow.Author.Tests.{le-leb, lt-leb}
@@ -16,11 +15,11 @@ cast-end c = search needs
 
 returns : tie.Need-returns
 unfolding gives
-returns c P = rw (zero-add, le-leb _ _ (c .if1 .taken))
+returns c = rw (zero-add, le-leb _ _ (c .if1 .taken))
 
 returns-2 : tie.Need-returns-2
 unfolding gives
-returns-2 c P = rw (zero-add, lt-leb _ _ (c .if1 .left))
+returns-2 c = rw (zero-add, lt-leb _ _ (c .if1 .left))
 
 pub holds-spec : {M : Type 1} → statement M
 holds-spec = tie.close (tie.spec cast-start cast-end returns returns-2)
