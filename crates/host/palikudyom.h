@@ -113,8 +113,9 @@ struct palikudyom_board {
 /*
  * A list is a pointer and how many numbers it has: windows are start, end and owner of each (of a plan start and end, all owner 0's), tasks are work,
  * period and deadline of each, jobs are release tick, task index and work of each. A table may be shared by two teams: what an owner is answered depends
- * on the frame, its own windows, the rule and the lost ticks, and on the other team's windows only by the refusals 1 2 3 12, but for edits. After each function: what it answers beside REFUSED, and its
- * refusals in the order of its checks; T is a table's: 1 2 3, then 1 of an owner without a window, then 12, then 13.
+ * on the frame, its own windows, the rule and the lost ticks, and on the other team's windows only by the refusals 1 2 3 12, but for edits. After each
+ * function: what it answers beside REFUSED, and its refusals in the order of its checks; T is a table's: 1 2 3, then 1 of an owner without a window, then 12,
+ * then 13.
  */
 
 /* The least supply of `length` ticks, over all starts. AMOUNT; T 7 */

@@ -24,7 +24,7 @@ impl Cycle {
     pub const LONGEST: u64 = 1000000;
 }
 
-// The cycle of a legal board and group, or that it is over its limit, as soon as the least common multiple passes it.
+// The cycle of a legal frame and group, or that it is over its limit, as soon as the least common multiple passes it.
 pub(crate) fn cycle_of(frame: u32, tasks: &[u32]) -> Cycle
     requires { ⌜ (0 < frame) × (frame ≤ mostFrame) × LegalGroup (now tasks) ⌝ }
     ensures { λ r. ⌜ r ≡ foundCycle (cycle frame (tasksOf (now (tasks .entry)))) ⌝ }

@@ -9,7 +9,7 @@ use borrow.Author.Tests.{lt-ltb, le-ltb}
 use Rattle.scope.specs.Numbers.{written}
 use Rattle.scope.specs.Limits.{mostWindows}
 use Rattle.scope.specs.Windows.{Board}
-use Rattle.scope.specs.Answers.{Fault, Fault.fine, Fault.fault, _orElse_, unlessKept, tableFault, roomFault}
+use Rattle.scope.specs.Answers.{Fault, Fault.fine, Fault.fault, _orElse_, unlessKept, tableFault}
 use Rattle.scope.specs.Shared.{Owned, owned, own, sharedFault, askedFor, unlessRefused}
 use Rattle.scope.specs.Summary.{summaryOf, makeFault, makeOut, summaryFault, Edit, spliced, edited, indexFault, tableIn, countFault, editedList, editFault, editAnswer, editWindows, editSummary}
 use Rattle.theory.specs.Answers.{fault-not-fine, orElse-fine, fine-room, room-fault}

@@ -34,7 +34,7 @@ use denote.Ref.{RefT}
 use denote.Slice.{ShrSlice, MutSlice, Room, sliceTy, sliceVal, finally, heres, codedHoleys, shr-slice-copy, res-finally}
 use denote.Index.{row, whole-in, whole-out, opens-slice, closes-slice}
 use denote.Lend.{Held, lends-slice, slice-back}
-use denote.Steps.{only, owned, nothing}
+use denote.Steps.{owned, nothing}
 use Rattle.machine.specs.declared.state.RunState.{RunState}
 use Rattle.machine.proofs.Said.{ReadyFor, TickedFor}
 

@@ -12,7 +12,7 @@ use Rattle.scope.specs.Machine.{edf}
 use Rattle.scope.specs.Run.{Ran, ran}
 use Rattle.scope.specs.Answers.{Fault, Fault.fine, Answer, Answer.refused, _orElse_, tableFault, groupFault, jobListFault, jobFault, roomFault}
 use Rattle.scope.specs.Answers.{runFault, runAnswer, runOut}
-use Rattle.scope.specs.Shared.{ownAnswer, kept, runFor, runOutFor}
+use Rattle.scope.specs.Shared.{ownAnswer, runFor, runOutFor}
 use Rattle.theory.specs.Lists.{pieces-length}
 use Rattle.theory.specs.Answers.{LegalTable, run-given, table-legal}
 use Rattle.theory.specs.Alone.{run-entry, run-out-entry}

@@ -20,7 +20,7 @@ use Rattle.scope.specs.Examples.{Reply.aVerdict, X, XShared, reply, table, exam
 use Rattle.scope.specs.Computing.{everything}
 use Rattle.theory.specs.Answers.{orElse-fine, unless-given, run-given}
 use Rattle.theory.specs.Shared.{asked-fine}
-use Rattle.theory.specs.Applied.{w6, w7, w13, w6-misses, w7-meets, w13-runs}
+use Rattle.theory.specs.Applied.{w4, w6, w7, w13, in-five, w6-misses, w7-meets, w13-runs, lost-misses, lost-meets}
 use Rattle.tables.specs.declared.board.Board.{Board}
 use Rattle.tables.specs.declared.answer.Verdict.{Verdict}
 use Rattle.tables.specs.declared.answer.Verdict.the-variants.{Meets, Miss}
@@ -108,3 +108,29 @@ second-starves : (v : Verdict) → toldVerdict v ≡ verdictFor (boardOf second)
     Served (suppliedBy (boardOf second) (2 ∷ 5 ∷ 7 ∷ 8 ∷ [])) (tasksOf w6) w 4 6 → ⊥
 unfolding windowsFor piecesFrom pieces
 second-starves v p = miss-starves second XShared w6 v p 6 4 3 2 (verdict-determined v (Miss 6 4 3 2) (p ∙ second-misses))
+
+-- ---- a board that loses the first tick of every window: of X ticks 1 and 6 are left
+
+abbrev loses : Board
+loses = record { frame = 8; owner = 0; shortest = 1; rule = 2; lost = 1 }
+
+-- a task that is due in 5 is let in, and its demand is carried at every length by what is left
+loses-carried : (v : Verdict) → toldVerdict v ≡ verdictFor (boardOf loses) XShared in-five →
+    (t : ℕ) → demand (tasksOf in-five) t ≤ leastSupply (suppliedBy (boardOf loses) X) 8 t
+unfolding windowsFor piecesFrom pieces
+loses-carried v p = verdict-meets loses XShared in-five v p (Verdicts.meets 8) (p ∙ lost-meets) 8 .0 (verdict-determined v (Meets 8) (p ∙ lost-meets)) .1
+
+-- so its job that is released at tick 2, just after the first of these ticks, is done by its deadline
+loses-in-time : (v : Verdict) → toldVerdict v ≡ verdictFor (boardOf loses) XShared in-five → (r : Ran) (left : List ℕ) →
+    toldRan r ≡ runFor (boardOf loses) XShared in-five 8 (2 ∷ 0 ∷ 1 ∷ []) 1 → left ≡ runOutFor (boardOf loses) XShared in-five 8 (2 ∷ 0 ∷ 1 ∷ []) (9 ∷ []) →
+    ((backlog : ℕ) × (r ≡ Met backlog)) × (getD left 0 0 ≤ 5)
+unfolding everything
+loses-in-time v p r left told wrote =
+    let m = meets-runs loses XShared in-five v p 8 (verdict-determined v (Meets 8) (p ∙ lost-meets)) 8 (2 ∷ 0 ∷ 1 ∷ []) (9 ∷ []) left r told wrote refl in
+    (m .0, m .1 0 (omega arith) (omega arith) .1)
+
+-- W4's task is turned away, and no way serves its full job from start 2
+loses-starves : (v : Verdict) → toldVerdict v ≡ verdictFor (boardOf loses) XShared w4 → (w : Way) →
+    Served (suppliedBy (boardOf loses) X) (tasksOf w4) w 2 4 → ⊥
+unfolding windowsFor piecesFrom pieces
+loses-starves v p = miss-starves loses XShared w4 v p 4 2 1 0 (verdict-determined v (Miss 4 2 1 0) (p ∙ lost-misses))

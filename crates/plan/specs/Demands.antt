@@ -1,7 +1,7 @@
--- The demands, of what `check_plan` and `check_plan_with_shortest` answer: once, over how many settings the file has. The premises are what they promise, and
+-- The demands, of what the three readers of plan files answer: once, over how many settings the file has. The premises are what they promise, and
 -- that the file is a plan
 use Prim.Native.Nat.{ℕ, _≤_, _<_}
-use mathlib.Core.Path.{_≡_, sym, ap, _∙_}
+use mathlib.Core.Path.{_≡_, _∙_}
 use mathlib.Core.Logic.{_↔_}
 use mathlib.Core.Option.{none}
 use mathlib.Core.List.{List}
@@ -16,19 +16,21 @@ use Rattle.scope.specs.Verdict as Verdicts
 use Rattle.scope.specs.Jobs.{Job, jobsOf, taskOf, deadline, badJob}
 use Rattle.scope.specs.Run.{countOf}
 use Rattle.scope.specs.Answers.{Answer.given, Fault.fine, _orElse_, jobListFault, jobFault, roomFault, verdictAnswer}
-use Rattle.scope.specs.Shared.{own, asOwned, verdictFor, runFor, runOutFor, planAnswer}
+use Rattle.scope.specs.Shared.{own, asOwned, verdictFor, runFor, runOutFor, planBoard, planAnswer}
 use Rattle.theory.specs.Answers.{window-list-legal}
 use Rattle.theory.specs.PlanBytes.{read-writable}
 use Rattle.theory.specs.Alone.{verdict-entry, own-pairs, one-owner}
-use Rattle.theory.specs.Shortest.{PlanTwelve, plan-twelve}
+use Rattle.theory.specs.Shortest.{Twelve, OfPlan, plan-twelve}
+use Rattle.theory.specs.Thirteen.{Thirteen, plan-thirteen}
 use Rattle.scope.specs.Plan.{Plan, planOf}
 use Rattle.scope.specs.Demands.{LeastMiss, Under, Way, Served}
 use Rattle.tables.specs.declared.board.Board.{Board}
-use Rattle.tables.specs.declared.answer.Refusal.the-variants.{Sliver}
+use Rattle.tables.specs.declared.answer.Refusal.the-variants.{Sliver, Loss}
 use Rattle.tables.specs.declared.answer.Verdict.{Verdict}
 use Rattle.tables.specs.declared.answer.Verdict.the-variants.{Meets, Miss, Refused}
 use Rattle.tables.specs.Told.{boardOf, toldVerdict}
 use Rattle.tables.specs.Determined.{verdict-determined}
+use Rattle.tables.specs.Refused.{told-refused}
 use Rattle.machine.specs.declared.run.Ran.{Ran}
 use Rattle.machine.specs.declared.run.Ran.the-variants.{Met}
 use Rattle.machine.specs.Told.{toldRan}
@@ -99,10 +101,10 @@ module _ (k : ℕ) (bytes : List ℕ) (p : Plan) (read : planOf k bytes ≡ give
   plan-starves t s d u m =
       rw plan-own at (miss-starves (askedBoard p) (askedWindows p) (p .tasks) v plan-asked t s d u m)
 
--- request 5: 12 exactly when the file reads to a plan whose windows are slivers, or whose shortest window is out of its range
-pub plan-sliver : (k : ℕ) (bytes : List ℕ) (v : Verdict) → toldVerdict v ≡ planAnswer k bytes → (p : ℕ) → (v ≡ Refused (Sliver p)) ↔ PlanTwelve k bytes p
-plan-sliver k bytes v promised p =
-    let twelve = plan-twelve k bytes p in (
-      λ e. twelve .0 (sym promised ∙ ap toldVerdict e),
-      λ t. verdict-determined v (Refused (Sliver p)) (promised ∙ twelve .1 t),
-    )
+-- requests 5 and 7: 12 and 13 exactly when the file reads to a plan whose windows and settings are refused so
+module _ (k : ℕ) (bytes : List ℕ) (v : Verdict) (promised : toldVerdict v ≡ planAnswer k bytes) where
+  pub plan-sliver : (p : ℕ) → (v ≡ Refused (Sliver p)) ↔ OfPlan k bytes (λ q. Twelve teams (planBoard q) (asOwned 0 (q .windows)) p)
+  plan-sliver p = told-refused toldVerdict Refused (λ r. refl) verdict-determined (Sliver p) v promised (plan-twelve k bytes p)
+
+  pub plan-loss : (v ≡ Refused Loss) ↔ OfPlan k bytes (λ q. Thirteen teams (planBoard q) (asOwned 0 (q .windows)) 0)
+  plan-loss = told-refused toldVerdict Refused (λ r. refl) verdict-determined Loss v promised (plan-thirteen k bytes 0)

@@ -48,7 +48,7 @@ fn board_of(frame: u32, settings: &[u32]) -> Board
     ensures { λ r. ⌜ boardOf r ≡ planBoard (record { settings = now (settings .entry); frame = frame; windows = []; tasks = [] }) ⌝ }
 {
     let shortest = setting(settings, 0, 1);
-    let rule = setting(settings, 1, 1);
+    let rule = setting(settings, 1, Board::WHOLE);
     let lost = setting(settings, 2, 0);
     Board {
         frame,

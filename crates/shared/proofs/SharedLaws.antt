@@ -1,6 +1,6 @@
 -- The rule of windows with owners, by the cases that the code tells apart; and the windows of one owner, one after the other
 use mathlib.Core.Path.{_≡_, refl, sym, ap, ap₂, _∙_}
-use mathlib.Core.Bool.{Bool, true, false, not, cond, _&&_, _||_, and-true, or-false, true≢false}
+use mathlib.Core.Bool.{Bool, true, false, not, cond, _&&_, or-false, true≢false}
 use mathlib.Core.Logic.{_≢_}
 use mathlib.Core.Option.{none, some}
 use mathlib.Core.List.{List, [], _∷_, _++_, append-nil, append-assoc}

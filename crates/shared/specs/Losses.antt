@@ -1,7 +1,7 @@
 -- Request 7, of what the entries answer: 13 exactly when; rule 1 and rule 2 without a loss alike; on the table that is left as on the board; and that more lost
 -- ticks supply no more. Once over every kind of answer, whose cases are told apart, where every entry has it; then of `verdict` and the least supply
 use Prim.Native.Nat.{ℕ, _≤_, _<_}
-use mathlib.Core.Path.{_≡_, refl, sym, ap, _∙_}
+use mathlib.Core.Path.{_≡_, refl, sym, _∙_}
 use mathlib.Core.Logic.{_↔_}
 use mathlib.Core.List.{List}
 use native.Mathlib.Omega.{arith}
@@ -25,15 +25,12 @@ use Rattle.tables.specs.declared.answer.Verdict.{Verdict}
 use Rattle.tables.specs.declared.answer.Verdict.the-variants.{Meets, Miss, Refused}
 use Rattle.tables.specs.Told.{boardOf, no, toldAmount, toldVerdict}
 use Rattle.tables.specs.Determined.{verdict-determined}
+use Rattle.tables.specs.Refused.{told-refused}
 
 module _ {R A : Type 0} (told : R → Answer A) (by : Refusal → R) (tells : (r : Refusal) → told (by r) ≡ no r) (determined : (x y : R) → told x ≡ told y → x ≡ y)
     (entry : Windows.Board → List ℕ → Answer A) (b : Board) (ws : List ℕ) (x : R) (promised : told x ≡ askedFor teams (boardOf b) ws refused (entry (boardOf b))) where
-  pub loss-answered : Known (entry (boardOf b)) → (x ≡ by Loss) ↔ Thirteen teams (boardOf b) ws
-  loss-answered known =
-      let thirteen = exactly-thirteen teams (boardOf b) ws (entry (boardOf b)) known 0 in (
-        λ e. thirteen .0 (sym promised ∙ ap told e ∙ tells Loss) .0,
-        λ t. determined x (by Loss) (promised ∙ thirteen .1 (t, refl) ∙ sym (tells Loss)),
-      )
+  pub loss-answered : Known (entry (boardOf b)) → (x ≡ by Loss) ↔ Thirteen teams (boardOf b) ws 0
+  loss-answered known = told-refused told by tells determined Loss x promised (exactly-thirteen teams (boardOf b) ws (entry (boardOf b)) known 0)
 
   module _ (is : Entry refused entry) (c : Board) where
     pub no-loss-answered : NoLoss (boardOf b) (boardOf c) → (y : R) → told y ≡ askedFor teams (boardOf c) ws refused (entry (boardOf c)) → x ≡ y
@@ -47,7 +44,7 @@ module _ {R A : Type 0} (told : R → Answer A) (by : Refusal → R) (tells : (r
 -- ---- of `verdict`, whatever the group
 
 module _ (b : Board) (ws ts : List ℕ) (v : Verdict) (promised : toldVerdict v ≡ verdictFor (boardOf b) ws ts) where
-  pub verdict-loss : (v ≡ Refused Loss) ↔ Thirteen teams (boardOf b) ws
+  pub verdict-loss : (v ≡ Refused Loss) ↔ Thirteen teams (boardOf b) ws 0
   unfolding verdictFor
   verdict-loss = loss-answered toldVerdict Refused (λ r. refl) verdict-determined (λ d l. verdictAnswer d l ts) b ws v promised (verdict-known (boardOf b) ts)
 
@@ -78,7 +75,7 @@ module _ (b c : Board) (framed : b .frame ≡ c .frame) (less : b .lost ≤ c .l
 abbrev board : ℕ → ℕ → Board
 board r q = record { frame = 8; owner = 0; shortest = 1; rule = r; lost = q }
 
-x-lost : (v : Verdict) → toldVerdict v ≡ verdictFor (boardOf (board 2 2)) XShared w4 → Thirteen teams (boardOf (board 2 2)) XShared
+x-lost : (v : Verdict) → toldVerdict v ≡ verdictFor (boardOf (board 2 2)) XShared w4 → Thirteen teams (boardOf (board 2 2)) XShared 0
 unfolding everything
 x-lost v promised = verdict-loss (board 2 2) XShared w4 v promised .0 (verdict-determined v (Refused Loss) promised)
 

@@ -1,7 +1,7 @@
 -- Request 5, of what the entries answer: 12 exactly when, and that what is not refused by 12 is answered the same with every smaller shortest window from 1 on.
 -- Once over every kind of answer, whose cases are told apart; then of `verdict`
 use Prim.Native.Nat.{ℕ, _≤_}
-use mathlib.Core.Path.{_≡_, refl, sym, ap, _∙_}
+use mathlib.Core.Path.{_≡_, refl, sym, _∙_}
 use mathlib.Core.Logic.{_↔_}
 use mathlib.Core.List.{List}
 use native.Mathlib.Omega.{arith}
@@ -21,16 +21,13 @@ use Rattle.tables.specs.declared.answer.Verdict.{Verdict}
 use Rattle.tables.specs.declared.answer.Verdict.the-variants.{Miss, Refused}
 use Rattle.tables.specs.Told.{boardOf, no, toldVerdict}
 use Rattle.tables.specs.Determined.{verdict-determined}
+use Rattle.tables.specs.Refused.{told-refused}
 
 module _ {R A : Type 0} (told : R → Answer A) (by : Refusal → R) (tells : (r : Refusal) → told (by r) ≡ no r) (determined : (x y : R) → told x ≡ told y → x ≡ y)
     (entry : Windows.Board → List ℕ → Answer A) (b : Board) (known : Known (entry (boardOf b))) (ws : List ℕ)
     (x : R) (promised : told x ≡ askedFor teams (boardOf b) ws refused (entry (boardOf b))) where
   pub sliver-answered : (p : ℕ) → (x ≡ by (Sliver p)) ↔ Twelve teams (boardOf b) ws p
-  sliver-answered p =
-      let twelve = exactly-twelve teams (boardOf b) ws (entry (boardOf b)) known p in (
-        λ e. twelve .0 (sym promised ∙ ap told e ∙ tells (Sliver p)),
-        λ t. determined x (by (Sliver p)) (promised ∙ twelve .1 t ∙ sym (tells (Sliver p))),
-      )
+  sliver-answered p = told-refused told by tells determined (Sliver p) x promised (exactly-twelve teams (boardOf b) ws (entry (boardOf b)) known p)
 
   pub smaller-answered : Entry refused entry → (c : Board) → Alike (boardOf b) (boardOf c) → b .owner ≡ c .owner → 1 ≤ c .shortest → c .shortest ≤ b .shortest →
       ((p : ℕ) → x ≡ by (Sliver p) → ⊥) → (y : R) → told y ≡ askedFor teams (boardOf c) ws refused (entry (boardOf c)) → x ≡ y

@@ -160,9 +160,9 @@ fn check_whole(owners: u32, board: Board, windows: &[u32]) -> Checked
     ensures { λ r. ⌜ faultOf r ≡ wholeFault owners (boardOf board) (now (windows .entry)) ⌝ }
 {
     let list = check_list(windows, 3);
-    let frame = check_frame(board.frame);
+    let framed = check_frame(board.frame);
     let each = check_owned(owners, board, windows);
-    list.or_else(frame.or_else(each))
+    list.or_else(framed.or_else(each))
 }
 
 // How many numbers the windows of the asked owner have, in pairs.

@@ -92,9 +92,9 @@ fn sum_from(frame: u32, summary: &[u32], length: u32) -> u64
 pub fn least_from(frame: u32, summary: &[u32], length: u32) -> Amount
     ensures { λ r. ⌜ toldAmount r ≡ fromAnswer (framed frame) (now (summary .entry)) length ⌝ }
 {
-    let ranged = check_frame(frame);
+    let framed = check_frame(frame);
     let asked = check_length(length);
-    match ranged.or_else(asked) {
+    match framed.or_else(asked) {
         Checked::Bad(r) => Amount::Refused(r),
         Checked::Fine => {
             let least = sum_from(frame, summary, length);

@@ -49,10 +49,10 @@ impl Board {
             rule,
             lost,
         };
-        let length = check_frame(frame);
+        let framed = check_frame(frame);
         let ranged = check_shortest(board);
         let ruled = check_rule(board);
-        match length.or_else(ranged.or_else(ruled)) {
+        match framed.or_else(ranged.or_else(ruled)) {
             Checked::Fine => MadeBoard::Is(board),
             Checked::Bad(r) => MadeBoard::Refused(r),
         }

@@ -154,7 +154,7 @@ pub fn check_table(frame: u32, windows: &[u32]) -> Checked
     ensures { λ r. ⌜ faultOf r ≡ tableFault (framed frame) (now (windows .entry)) ⌝ }
 {
     let list = check_window_list(windows);
-    let length = check_frame(frame);
+    let framed = check_frame(frame);
     let each = check_windows(frame, windows);
-    list.or_else(length.or_else(each))
+    list.or_else(framed.or_else(each))
 }

@@ -1,6 +1,6 @@
 -- Document 02, request 4: each team's answers depend on the frame, its own windows, the rule and the lost ticks, and on nothing else once the whole list is
 -- legal and has no sliver; a table with one owner is answered as the pairs are. One statement each, over every entry and any number of owners
-use mathlib.Core.Path.{_≡_, refl, sym, ap, _∙_, fun-ext}
+use mathlib.Core.Path.{_≡_, refl, sym, ap, _∙_}
 use mathlib.Core.Bool.{Bool, true, false, not, _||_, and-true, and-false, or-false}
 use mathlib.Core.Option.{Option, none, some}
 use mathlib.Core.Logic.{_⊎_, inl, inr}
@@ -13,7 +13,7 @@ use lib.ListN.{length}
 use borrow.Author.Tests.{lt-ltb, eq-eqb, ne-eqb}
 use Rattle.scope.specs.Numbers.{first, pieces, piecesFrom, badCount}
 use Rattle.scope.specs.Limits.{teams, mostFrame, mostWindows}
-use Rattle.scope.specs.Windows.{Board, framed, Window, window, windowsOf, windowAt, gives, covers, supplied, suppliedBy, windowLegal, badWindow}
+use Rattle.scope.specs.Windows.{Board, framed, Window, window, windowsOf, windowAt, supplied, suppliedBy, windowLegal, badWindow}
 use Rattle.scope.specs.Answers.{Fault, Fault.fine, Fault.fault, Answer, Answer.given, Answer.refused, faultIf, faultAt, _orElse_}
 use Rattle.scope.specs.Answers.{windowListFault, frameFault, windowFault, tableFault, shortestFault, ruleFault, cycleFault, criticalFault, runFault}
 use Rattle.scope.specs.Answers.{suppliedAnswer, leastSupplyAnswer, criticalAnswer, criticalOut, delayAnswer, outageAnswer}
@@ -21,7 +21,7 @@ use Rattle.scope.specs.Answers.{marginAnswer, verdictAnswer, boundAnswer, runAn
 use Rattle.scope.specs.Plan.{Read, Read.read, Read.bad, orNine}
 use Rattle.scope.specs.Trace.{Stamped, Record, traceOf, timed}
 use Rattle.scope.specs.Replay.{Replayed, replayFault, recordsAnswer, replayAnswer}
-use Rattle.scope.specs.Shared.{Owned, owned, ownedOf, ownedAt, windowsFor, own, leftOf, ownLeft, asOwned, follows, ownedLegal, badOwned, ownedListFault, ownedFault}
+use Rattle.scope.specs.Shared.{Owned, owned, ownedOf, ownedAt, windowsFor, own, ownLeft, asOwned, follows, ownedLegal, badOwned, ownedListFault, ownedFault}
 use Rattle.scope.specs.Shared.{wholeFault, absentOwnerFault, sliver, firstSliver, sliverFault, lostFault, sharedFault, ownFault, ownAnswer, ownOut, unlessRefused, askedFor, kept, recordsFor, replayFor}
 use Rattle.scope.specs.Summary.{summaryOf, makeFault, makeAnswer, makeOut, summaryFault, leastFromAnswer, marginsFault, marginsAnswer, marginsOut}
 use Rattle.theory.specs.Numbers.{first-equal, first-some}

@@ -314,7 +314,7 @@ w6-only bytes u e = only-bytes 0 bytes w6-plan e u ∙ w6-bytes
 w6-left-over : (b : ℕ) (rest : List ℕ) → planOf 0 (w6-file ++ (b ∷ rest)) ≡ refused 9 13
 w6-left-over b rest = rw w6-bytes at (left-over w6-plan w6-writable b rest)
 
--- of which a read of 1,133 bytes tells as much as a read of all, whichever form the file has
+-- of which a read of 1,143 bytes tells as much as a read of all, whichever form the file has
 w6-first-bytes : (b : ℕ) (rest : List ℕ) → planAnswer 0 (take (suc (mostPlanBytes mostSettings)) (w6-file ++ (b ∷ rest))) ≡ refused 9 13
 unfolding planAnswer
 w6-first-bytes b rest = first-answer (w6-file ++ (b ∷ rest)) (suc (mostPlanBytes mostSettings)) 0 (omega arith) ∙ rw (w6-left-over b rest)
@@ -908,7 +908,7 @@ lost-misses = let e : aVerdict (verdictFor (losing 8 0 1) XShared w4) ≡ aVerdi
 abbrev pub in-five : List ℕ
 in-five = 1 ∷ 8 ∷ 5 ∷ []
 
-lost-meets : verdictFor (losing 8 0 1) XShared in-five ≡ given (meets 8)
+pub lost-meets : verdictFor (losing 8 0 1) XShared in-five ≡ given (meets 8)
 unfolding reply table
 lost-meets = let e : aVerdict (verdictFor (losing 8 0 1) XShared in-five) ≡ aVerdict (given (meets 8)) = row table examples "a task that meets after a loss" in cc
 
@@ -1033,46 +1033,46 @@ full-meets = more-meets (on 8) (on 8) (0 ∷ 8 ∷ []) X w7 refl refl (λ k e. f
 
 -- ---- 13: with two ticks lost nothing is left of X, and so with three
 
-x-thirteen : Thirteen teams (losing 8 0 2) XShared
+x-thirteen : Thirteen teams (losing 8 0 2) XShared 0
 unfolding everything
-x-thirteen = exactly-thirteen teams (losing 8 0 2) XShared _ (verdict-known (losing 8 0 2) []) 0 .0 refl .0
+x-thirteen = exactly-thirteen teams (losing 8 0 2) XShared _ (verdict-known (losing 8 0 2) []) 0 .0 refl
 
 x-thirteen-back : verdictFor (losing 8 0 2) XShared w6 ≡ refused 13 0
 unfolding verdictFor
-x-thirteen-back = exactly-thirteen teams (losing 8 0 2) XShared _ (verdict-known (losing 8 0 2) w6) 0 .1 (x-thirteen, refl)
+x-thirteen-back = exactly-thirteen teams (losing 8 0 2) XShared _ (verdict-known (losing 8 0 2) w6) 0 .1 x-thirteen
 
 -- nor is rule 3 a rule, are 65,536 ticks lost, or any under rule 1
 x-no-rule : verdictFor (onRule 8 0 1 3 0) XShared w6 ≡ refused 13 0
 unfolding everything
 x-no-rule =
     exactly-thirteen teams (onRule 8 0 1 3 0) XShared _ (verdict-known (onRule 8 0 1 3 0) w6) 0 .1
-    (record { whole = refl; present = refl; long = refl; cause = no-such-rule (λ z. omega arith) (λ z. omega arith) }, refl)
+    (record { whole = refl; present = refl; long = refl; cause = no-such-rule (λ z. omega arith) (λ z. omega arith); at = refl })
 
 x-too-many-lost : verdictFor (losing 8 0 65536) XShared w6 ≡ refused 13 0
 unfolding everything
 x-too-many-lost =
     exactly-thirteen teams (losing 8 0 65536) XShared _ (verdict-known (losing 8 0 65536) w6) 0 .1
-    (record { whole = refl; present = refl; long = refl; cause = too-many-lost (omega arith) }, refl)
+    (record { whole = refl; present = refl; long = refl; cause = too-many-lost (omega arith); at = refl })
 
 x-lost-under-one : verdictFor (onRule 8 0 1 1 1) XShared w6 ≡ refused 13 0
 unfolding everything
 x-lost-under-one =
     exactly-thirteen teams (onRule 8 0 1 1 1) XShared _ (verdict-known (onRule 8 0 1 1 1) w6) 0 .1
-    (record { whole = refl; present = refl; long = refl; cause = lost-under-one refl (omega arith) }, refl)
+    (record { whole = refl; present = refl; long = refl; cause = lost-under-one refl (omega arith); at = refl })
 
 x-three-lost : sharedFault teams (losing 8 0 3) XShared ≡ fault 13 0
 x-three-lost =
-    shared-thirteen teams (losing 8 0 3) XShared 0 .1 (more-lost-thirteen (losing 8 0 2) (losing 8 0 3) refl (omega arith) refl refl refl teams XShared x-thirteen, refl)
+    shared-thirteen teams (losing 8 0 3) XShared 0 .1 (more-lost-thirteen (losing 8 0 2) (losing 8 0 3) refl (omega arith) refl refl refl teams XShared 0 x-thirteen)
 
 x-spared : (p : ℕ) → verdictFor (losing 8 0 0) XShared w4 ≡ refused 13 p → ⊥
 unfolding verdictFor
-x-spared =
-    less-lost-not-thirteen (losing 8 0 0) (losing 8 0 1) refl (omega arith) refl refl refl teams XShared _ _ (verdict-known (losing 8 0 0) w4) (verdict-known (losing 8 0 1) w4)
-    (λ p e. let f = sym lost-misses ∙ e in let z : _≡_ {A = ℕ} 0 1 = cc in omega arith)
+x-spared p =
+    less-lost-not-thirteen (losing 8 0 0) (losing 8 0 1) refl (omega arith) refl refl refl teams XShared p _ _ (verdict-known (losing 8 0 0) w4) (verdict-known (losing 8 0 1) w4)
+    (λ e. let f = sym lost-misses ∙ e in let z : _≡_ {A = ℕ} 0 1 = cc in omega arith)
 
-x-own-thirteen : Thirteen teams (losing 8 0 2) XShared
+x-own-thirteen : Thirteen teams (losing 8 0 2) XShared 0
 unfolding everything
-x-own-thirteen = own-thirteen teams (losing 8 0 2) XShared 9 0 .0 refl .0
+x-own-thirteen = own-thirteen teams (losing 8 0 2) XShared 9 0 .0 refl
 
 x-no-tick : (k : ℕ) → suppliedBy (losing 8 0 2) X k ≡ false
 unfolding everything
@@ -1082,25 +1082,25 @@ x-none-left : ownLeft (losing 8 0 2) XShared ≡ []
 unfolding everything
 x-none-left = no-tick-asked teams (losing 8 0 2) XShared refl refl .1 x-no-tick
 
-trace-thirteen : OfTrace trace (Thirteen teams (losing 8 0 2) XShared × (_≡_ {A = ℕ} 0 0))
+trace-thirteen : OfTrace trace (Thirteen teams (losing 8 0 2) XShared 0)
 unfolding everything
 trace-thirteen = replay-thirteen (losing 8 0 2) XShared w7 trace 0 .0 refl
 
 -- W6's file, behind m = 1, rule 2 and two lost ticks
-w6-plan-thirteen : OfPlan 3 (1 ∷ 2 ∷ 2 ∷ w6-file) (λ p. Thirteen teams (planBoard p) (asOwned 0 (p .windows)) × (_≡_ {A = ℕ} 0 0))
+w6-plan-thirteen : OfPlan 3 (1 ∷ 2 ∷ 2 ∷ w6-file) (λ p. Thirteen teams (planBoard p) (asOwned 0 (p .windows)) 0)
 unfolding everything
 w6-plan-thirteen = plan-thirteen 3 (1 ∷ 2 ∷ 2 ∷ w6-file) 0 .0 refl
 
 -- a removal that leaves a window of one tick on a board that loses one; and on a board that loses three a window of three
-removal-thirteen : EditThirteen teams (losing 8 0 1) 2 (0 ∷ 2 ∷ 0 ∷ 5 ∷ 6 ∷ 0 ∷ []) (1 ∷ 7 ∷ 1 ∷ 7 ∷ 8 ∷ []) (remove 0)
+removal-thirteen : EditThirteen teams (losing 8 0 1) 2 (0 ∷ 2 ∷ 0 ∷ 5 ∷ 6 ∷ 0 ∷ []) (1 ∷ 7 ∷ 1 ∷ 7 ∷ 8 ∷ []) (remove 0) 0
 unfolding everything
-removal-thirteen = edit-thirteen teams (losing 8 0 1) 2 (0 ∷ 2 ∷ 0 ∷ 5 ∷ 6 ∷ 0 ∷ []) (1 ∷ 7 ∷ 1 ∷ 7 ∷ 8 ∷ []) (remove 0) 0 .0 refl .0
+removal-thirteen = edit-thirteen teams (losing 8 0 1) 2 (0 ∷ 2 ∷ 0 ∷ 5 ∷ 6 ∷ 0 ∷ []) (1 ∷ 7 ∷ 1 ∷ 7 ∷ 8 ∷ []) (remove 0) 0 .0 refl
 
 old-table-thirteen : editAnswer teams (losing 4 0 3) 1 (0 ∷ 3 ∷ 0 ∷ []) [] (move 0 0 4) ≡ refused 13 0
 unfolding everything
 old-table-thirteen =
     edit-thirteen teams (losing 4 0 3) 1 (0 ∷ 3 ∷ 0 ∷ []) [] (move 0 0 4) 0 .1
-    (EditThirteen.old-thirteen (omega arith) (record { whole = refl; present = refl; long = refl; cause = none-left refl }), refl)
+    (EditThirteen.old-thirteen (omega arith) (record { whole = refl; present = refl; long = refl; cause = none-left refl; at = refl }))
 
 -- ---- W6's file in all forms: with its settings told, a byte left over, m told, and rule 2 without a loss
 

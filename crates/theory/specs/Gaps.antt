@@ -1,16 +1,16 @@
 -- Which ticks a legal table supplies: those of its windows, and none of the gaps between them or from the last to the first of the next frame
-use mathlib.Core.Path.{_≡_, refl, sym, ap, _∙_}
-use mathlib.Core.Bool.{Bool, true, false, not, and-false, or-true}
+use mathlib.Core.Path.{_≡_, sym, ap, _∙_}
+use mathlib.Core.Bool.{Bool, true, false, not}
 use mathlib.Core.Option.{none}
 use mathlib.Core.Logic.{inl, inr}
-use mathlib.Core.List.{List, [], _∷_}
+use mathlib.Core.List.{List}
 use Prim.Native.Nat.{ℕ, zero, suc, _+_, _-_, _≤_, _<_}
 use native.Mathlib.Omega.{arith}
 use native.Mathlib.Nat.{mod-eq-of-lt}
 use native.Mathlib.Decide.{ℕ-discrete, decLt}
 use lib.Dec.{leb, ltb}
 use lib.ListN.{length, List·getD-eq-default}
-use borrow.Author.Tests.{ltb-true, leb-true, lt-ltb, le-ltb, le-leb, lt-leb, ne-eqb, not-false}
+use borrow.Author.Tests.{ltb-true, leb-true, ne-eqb, not-false}
 use Rattle.scope.specs.Ticks.{Periodic}
 use Rattle.scope.specs.Windows.{Board, Window, window, windowAt, windowFits, gives, covers, supplied, windowLegal, badWindow}
 use Rattle.theory.specs.Numbers.{and-both, bool-cases, first-none}

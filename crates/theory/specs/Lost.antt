@@ -13,7 +13,7 @@ use Rattle.scope.specs.Windows.{Board, framedFor, framed, windowsOf, supplied, 
 use Rattle.scope.specs.Answers.{Fault.fine, Answer.given, ruleFault, leastSupplyAnswer}
 use Rattle.scope.specs.Trace.{timed, traceOf}
 use Rattle.scope.specs.Replay.{replayAnswer}
-use Rattle.scope.specs.Shared.{ownedOf, windowsFor, own, leftOf, ownLeft, asOwned, wholeFault, lostFault, sharedFault, ownFault, ownAnswer, ownOut, unlessRefused, askedFor, leastSupplyFor, recordsFor, replayFor}
+use Rattle.scope.specs.Shared.{ownedOf, own, leftOf, ownLeft, asOwned, wholeFault, lostFault, sharedFault, ownFault, ownAnswer, ownOut, unlessRefused, askedFor, leastSupplyFor, recordsFor, replayFor}
 use Rattle.scope.specs.Summary.{summaryOf, summaryFault, Edit, tableIn, editedList, editFault, editAnswer, editWindows, editSummary}
 use Rattle.theory.specs.Gaps.{fits}
 use Rattle.theory.specs.Rows.{endOf, ends-answer}

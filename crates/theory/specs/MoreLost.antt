@@ -137,14 +137,15 @@ module _ (b c : Board) (framed : b .frame ≡ c .frame) (less : b .lost ≤ c .l
         let can = orElse-fine (ruleFault c) _ (shared-parts teams c ws f .3) .0 in
         more-lost-meets (less-ruled b c rule less can) ws ts H e
 
-    module _ (rule : b .rule ≡ c .rule) (owners : ℕ) (ws : List ℕ) where
+    module _ (rule : b .rule ≡ c .rule) (owners : ℕ) (ws : List ℕ) (p : ℕ) where
       -- what b refuses by 13 c does too, where the rule is the same
-      pub more-lost-thirteen : Thirteen owners b ws → Thirteen owners c ws
+      pub more-lost-thirteen : Thirteen owners b ws p → Thirteen owners c ws p
       more-lost-thirteen t = record {
         whole = sym (whole-same owners b c ws framed) ∙ t .whole;
         present = sym (absent-same b c ws ws (own-owner b c ws owner)) ∙ t .present;
         long = sym (sliver-same b c ws shortest) ∙ t .long;
         cause = by (rw (own-owner b c ws owner) at (t .cause));
+        at = t .at;
       }
         where
           by : Cause b (own c ws) → Cause c (own c ws)
@@ -155,7 +156,6 @@ module _ (b c : Board) (framed : b .frame ≡ c .frame) (less : b .lost ≤ c .l
 
       -- so what is not refused by 13 at a loss is not at a smaller one
       pub less-lost-not-thirteen : {A : Type 0} (entry other : List ℕ → Answer A) → Known entry → Known other →
-          ((p : ℕ) → askedFor owners c ws refused other ≡ refused 13 p → ⊥) → (p : ℕ) → askedFor owners b ws refused entry ≡ refused 13 p → ⊥
-      less-lost-not-thirteen entry other is too spared p e =
-          let t = exactly-thirteen owners b ws entry is p .0 e in
-          spared 0 (exactly-thirteen owners c ws other too 0 .1 (more-lost-thirteen (t .0), refl))
+          (askedFor owners c ws refused other ≡ refused 13 p → ⊥) → askedFor owners b ws refused entry ≡ refused 13 p → ⊥
+      less-lost-not-thirteen entry other is too spared e =
+          spared (exactly-thirteen owners c ws other too p .1 (more-lost-thirteen (exactly-thirteen owners b ws entry is p .0 e)))

@@ -9,7 +9,6 @@ use native.Mathlib.Omega.{arith}
 use native.Mathlib.Nat.{mod-lt, zero-div, dvd-refl, le-of-dvd}
 use native.Mathlib.Numerals.{add-one}
 use native.Mathlib.Decide.{decLt}
-use lib.ListN.{length}
 use borrow.Author.Tests.{lt-ltb, le-ltb, le-leb}
 use Rattle.scope.specs.Numbers.{bit, firstBy, piecesFrom, pieces, badCount}
 use Rattle.scope.specs.Limits.{mostFrame, mostOfTask, mostCycle, mostLength}
@@ -198,27 +197,27 @@ module _ (b : Board) (ws : List ℕ) (n : ℕ) (answered : outageAnswer b ws ≡
   outage-zero = let z = outage-none τ P per in (λ e. z .0 (is ∙ e), λ h. sym is ∙ z .1 h)
 
   -- where any tick is supplied
-  module _ (first : ℕ) (on : τ first ≡ true) where
+  module _ (k : ℕ) (on : τ k ≡ true) where
     -- (i) no run anywhere, in any frame, has more
     pub outage-no-longer : (s m : ℕ) → Silent τ s m → m ≤ n
-    outage-no-longer s m h = omega (arith, is, outage-longest τ P per first on s m h)
+    outage-no-longer s m h = omega (arith, is, outage-longest τ P per k on s m h)
 
     -- (ii) its least supply is 0 and that of one tick more is not; and no greater length, however long, has least supply 0
     pub outage-supply : (leastSupplyAnswer b ws n ≡ given 0) × (p : ℕ) × (leastSupplyAnswer b ws (n + 1) ≡ given p) × (0 < p)
     outage-supply =
-        let below = outage-below τ P per first on in (
+        let below = outage-below τ P per k on in (
           least-given n (omega (arith, is)) ∙ ap given (rw is at (outage-least τ P per)),
           leastSupply τ P (n + 1),
           least-given (n + 1) (omega (arith, is)),
-          rw is at (outage-more τ P per first on),
+          rw is at (outage-more τ P per k on),
         )
 
     pub outage-greatest-length : (t : ℕ) → leastSupply τ P t ≡ 0 → t ≤ n
-    outage-greatest-length t e = omega (arith, is, outage-greatest τ P per first on t e)
+    outage-greatest-length t e = omega (arith, is, outage-greatest τ P per k on t e)
 
     -- (iii) it is the start of the first critical window
     pub outage-critical : (rest : List ℕ) × (criticalOf b ws ≡ n ∷ rest)
-    outage-critical = let c = outage-first τ P per first on in (c .0, rw is at (c .1))
+    outage-critical = let c = outage-first τ P per k on in (c .0, rw is at (c .1))
 
     -- ---- where it starts is found by asking for one tick of work each frame, due in n
 
@@ -227,7 +226,7 @@ module _ (b : Board) (ws : List ℕ) (n : ℕ) (answered : outageAnswer b ws ≡
 
     module _ (pos : 0 < n) where
       short : n < P
-      short = omega (arith, is, outage-below τ P per first on)
+      short = omega (arith, is, outage-below τ P per k on)
 
       one-legal : taskLegal one ≡ true
       unfolding taskLegal

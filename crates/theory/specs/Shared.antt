@@ -1,29 +1,27 @@
 -- Tables that teams share, with any number of owners: the asked owner's windows are a legal list of windows, and no tick is supplied to two owners
 use mathlib.Core.Path.{_≡_, refl, sym, ap, _∙_}
-use mathlib.Core.Bool.{Bool, true, false, not, cond, _&&_, _||_, and-false, or-true, or-false, true≢false, false≢true}
+use mathlib.Core.Bool.{Bool, true, false, not, _&&_, _||_, or-true, false≢true}
 use mathlib.Core.Logic.{_⊎_, inl, inr, _≢_}
-use mathlib.Core.Option.{Option, none, some}
-use mathlib.Core.List.{List, [], _∷_, _++_, map}
-use Prim.Native.Nat.{ℕ, zero, suc, _+_, _-_, _*_, _/_, _%_, _≤_, _<_}
+use mathlib.Core.Option.{none}
+use mathlib.Core.List.{List, [], _∷_}
+use Prim.Native.Nat.{ℕ, zero, suc, _+_, _-_, _*_, _%_, _≤_, _<_}
 use native.Mathlib.Omega.{arith}
 use native.Mathlib.Decide.{ℕ-discrete, decLt}
-use native.Mathlib.Nat.{add-mod-right, add-div-right}
 use lib.Dec.{leb, ltb, eqb}
-use lib.ListN.{length, getD, take, drop}
-use lib.Seq.{take-append-seam}
-use borrow.Author.Tests.{ltb-true, leb-true, lt-ltb, le-leb, le-ltb, eqb-true, eqb-false, eq-eqb, ne-eqb, not-false}
-use Rattle.scope.specs.Numbers.{first, pieces, piecesFrom, badCount, written}
+use lib.ListN.{length, getD}
+use borrow.Author.Tests.{ltb-true, leb-true, eqb-true, eqb-false, eq-eqb, ne-eqb, not-false}
+use Rattle.scope.specs.Numbers.{pieces, piecesFrom, badCount}
 use Rattle.scope.specs.Limits.{mostWindows}
-use Rattle.scope.specs.Windows.{Board, Window, window, windowsOf, windowAt, windowFits, gives, covers, supplied, suppliedBy, windowLegal, badWindow}
-use Rattle.scope.specs.Answers.{Fault, Fault.fine, Fault.fault, Answer, Answer.given, Answer.refused, faultIf, faultAt, _orElse_, unless}
-use Rattle.scope.specs.Answers.{windowListFault, frameFault, windowFault, tableFault, roomFault}
-use Rattle.scope.specs.Shared.{Owned, owned, ownedOf, ownedAt, windowsFor, own, asOwned, follows, ownedLegal, badOwned, ownedListFault, ownedFault}
+use Rattle.scope.specs.Windows.{Board, window, windowsOf, windowFits, gives, covers, supplied, suppliedBy}
+use Rattle.scope.specs.Answers.{Fault, Fault.fine, Fault.fault, Answer, Answer.given, Answer.refused, _orElse_, unless}
+use Rattle.scope.specs.Answers.{frameFault, windowFault, tableFault}
+use Rattle.scope.specs.Shared.{Owned, owned, ownedOf, ownedAt, windowsFor, own, follows, ownedLegal, badOwned, ownedListFault, ownedFault}
 use Rattle.scope.specs.Shared.{wholeFault, absentOwnerFault, sliverFault, lostFault, sharedFault, unlessRefused, askedFor}
-use Rattle.theory.specs.Numbers.{and-both, both-and, bool-cases, or-neither, first-none}
+use Rattle.theory.specs.Numbers.{and-both, bool-cases, or-neither, first-none}
 use Rattle.theory.specs.Lists.{pieces-length, count-fine, Rising, rising-two}
 use Rattle.theory.specs.Windows.{gives-in, gives-when}
 use Rattle.theory.specs.MaximalRuns.{rising-rule}
-use Rattle.theory.specs.Answers.{fault-not-fine, faultIf-fine, faultAt-fine, orElse-fine, unless-given, unless-refused, LegalTable, table-legal, window-list-fine}
+use Rattle.theory.specs.Answers.{faultIf-fine, faultAt-fine, orElse-fine, window-list-fine}
 
 abbrev pub startAt : List Owned → ℕ → ℕ
 startAt ws i = (ownedAt ws i) .window .start

@@ -23,7 +23,7 @@ use Rattle.scope.specs.Plan.{Read, Read.read, Read.bad, readNumber, readNumbers
 use Rattle.scope.specs.Plan.{numbersBytes, planBytes}
 use Rattle.scope.specs.Trace.{Stamped, Record, timed, traceOf, ticksOf, releases, badRecord}
 use Rattle.scope.specs.Replay.{extentFault, recordFault, replayFault, recordsAnswer}
-use Rattle.scope.specs.Shared.{ownedOf, windowsFor, own, ownLeft, ownedListFault, ownedFault, badOwned, wholeFault, absentOwnerFault, sliverFault, lostFault, sharedFault}
+use Rattle.scope.specs.Shared.{ownedOf, own, ownLeft, ownedListFault, ownedFault, badOwned, wholeFault, absentOwnerFault, sliverFault, lostFault, sharedFault}
 use Rattle.scope.specs.Shared.{ownFault, ownAnswer, ownOut, asOwned, unlessRefused, askedFor, verdictFor, recordsFor, replayFor, planBoard, planAnswer}
 use Rattle.scope.specs.Summary.{summaryOf, makeFault, makeAnswer, begins, summaryFault, leastFromAnswer, lengthsFault, marginsFault, marginsAnswer}
 use Rattle.theory.specs.Lists.{none-listed}

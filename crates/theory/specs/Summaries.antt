@@ -7,11 +7,10 @@ use Prim.Native.Nat.{ℕ, zero, suc, _+_, _-_, _*_, _/_, _%_, _≤_, _<_, min}
 use native.Mathlib.Omega.{arith}
 use native.Mathlib.Nat.{zero-add, mod-lt, mod-eq-of-lt, mod-add-div'}
 use native.Mathlib.Decide.{decLt}
-use lib.Dec.{leb, ltb}
 use lib.IntN.{ℤ, pos, _-ℤ_}
 use lib.ListN.{length, getD, take, drop, length-map, List·getD-append}
 use lib.Seq.{take-append-seam}
-use borrow.Author.Tests.{ltb-true, lt-ltb, le-ltb, le-leb, lt-leb, not-false}
+use borrow.Author.Tests.{le-leb, lt-leb, not-false}
 use Rattle.scope.specs.Numbers.{bit, piecesFrom, pieces, written}
 use Rattle.scope.specs.Limits.{teams}
 use Rattle.scope.specs.Ticks.{Periodic, supply, perFrame, leastSupply}
@@ -23,7 +22,6 @@ use Rattle.scope.specs.Answers.{roomFault, criticalOf, leastSupplyAnswer, margi
 use Rattle.scope.specs.Shared.{own, sharedFault, unlessRefused, askedFor, kept, leastSupplyFor, marginFor}
 use Rattle.scope.specs.Summary.{summaryOf, makeFault, makeAnswer, makeOut, begins, summaryFault, windowsIn, ticksBefore, leastFrom, leastFromAnswer, marginFrom}
 use Rattle.scope.specs.Summary.{lengthsFault, marginsFault, marginsAnswer, marginsOut, makeFor, makeOutFor, leastFromFor, marginsFor, marginsOutFor}
-use Rattle.theory.specs.Numbers.{and-both}
 use Rattle.theory.specs.Lists.{Rising, keep-rising, keep-most, rising-rest, rising-above}
 use Rattle.theory.specs.Buffers.{begins-front, begins-at, written-begins}
 use Rattle.theory.specs.Ticks.{least-frames}

@@ -8,21 +8,17 @@ use Prim.Native.Nat.{ℕ, suc, _+_, _-_, _*_, _%_, _≤_, _<_}
 use native.Mathlib.Omega.{arith}
 use native.Mathlib.Nat.{mod-eq-of-lt}
 use native.Mathlib.Decide.{decLt}
-use lib.Dec.{ltb}
 use lib.ListN.{length}
 use Rattle.scope.specs.Numbers.{pieces, piecesFrom}
 use Rattle.scope.specs.Limits.{teams}
 use Rattle.scope.specs.Windows.{Board, framed, Window, windowsOf, windowAt, covers, supplied, suppliedBy}
-use Rattle.scope.specs.Answers.{Fault, Fault.fine, Fault.fault, Answer, Answer.given, Answer.refused, faultIf, _orElse_, unless, tableFault, roomFault}
-use Rattle.scope.specs.Plan.{Read, Read.read, Read.bad, orNine, andThen, Plan, planOf}
-use Rattle.scope.specs.Trace.{Stamped, timed, traceOf}
-use Rattle.scope.specs.Replay.{recordsAnswer}
-use Rattle.scope.specs.Shared.{own, leftOf, ownLeft, asOwned, wholeFault, absentOwnerFault, sliverFault, lostFault, sharedFault, ownFault, ownAnswer, unlessRefused, askedFor, verdictFor, recordsFor, replayFor, planBoard, planAnswer}
+use Rattle.scope.specs.Answers.{Fault, Fault.fine, Fault.fault, Answer, Answer.refused, _orElse_, tableFault}
+use Rattle.scope.specs.Shared.{own, leftOf, ownLeft, asOwned, wholeFault, absentOwnerFault, sliverFault, lostFault, sharedFault, ownAnswer, askedFor, replayFor, planBoard, planAnswer}
 use Rattle.scope.specs.Summary.{Edit, tableIn, editedList, editAnswer}
 use Rattle.theory.specs.Windows.{gives-in, covers-at}
 use Rattle.theory.specs.Gaps.{fits}
 use Rattle.theory.specs.Answers.{table-legal}
-use Rattle.theory.specs.Shared.{present-fine, asked-refused}
+use Rattle.theory.specs.Shared.{present-fine}
 use Rattle.theory.specs.Slivers.{sliver-twelve}
 use Rattle.theory.specs.Left.{left-out, left-supplied}
 use Rattle.theory.specs.Losses.{Cause, lost-thirteen, lost-exactly}
@@ -33,15 +29,16 @@ use Rattle.theory.specs.Edits.{Ready, Allowed, NewRefusal, EditRefusal, 
 -- ---- of lists of windows and every entry
 
 module _ (owners : ℕ) (b : Board) (ws : List ℕ) where
-  -- everything before it passed, and one of its causes
-  pub record Thirteen : Type 0 where
+  -- everything before it passed, and one of its causes; its place is 0
+  pub record Thirteen (p : ℕ) : Type 0 where
     pub whole : wholeFault owners b ws ≡ fine
     pub present : absentOwnerFault b ws ≡ fine
     pub long : sliverFault b ws ≡ fine
     pub cause : Cause b (own b ws)
+    pub at : p ≡ 0
 
-  -- a list is refused by 13 exactly then, at place 0
-  pub shared-thirteen : (p : ℕ) → (sharedFault owners b ws ≡ fault 13 p) ↔ (Thirteen × (p ≡ 0))
+  -- a list is refused by 13 exactly then
+  pub shared-thirteen : (p : ℕ) → (sharedFault owners b ws ≡ fault 13 p) ↔ Thirteen p
   unfolding sharedFault
   shared-thirteen p = (go (wholeFault owners b ws) (absentOwnerFault b ws) (sliverFault b ws) refl refl refl (whole-base owners b ws 13 p), so)
     where
@@ -49,24 +46,24 @@ module _ (owners : ℕ) (b : Board) (ws : List ℕ) where
       mine = lostFault b (own b ws)
 
       go : (f g h : Fault) → wholeFault owners b ws ≡ f → absentOwnerFault b ws ≡ g → sliverFault b ws ≡ h →
-          ((wholeFault owners b ws orElse absentOwnerFault b ws) ≡ fault 13 p → 13 ≤ 11) → (f orElse g orElse h orElse mine) ≡ fault 13 p → Thirteen × (p ≡ 0)
+          ((wholeFault owners b ws orElse absentOwnerFault b ws) ≡ fault 13 p → 13 ≤ 11) → (f orElse g orElse h orElse mine) ≡ fault 13 p → Thirteen p
       go (fault n q) g h e a s base z = absurd (omega (arith, base (rw e z)))
       go fine (fault n q) h e a s base z = absurd (omega (arith, base (rw (e, a) z)))
       go fine fine (fault n q) e a s base z = let x : n ≡ 13 = cc in absurd (omega (arith, sliver-twelve b ws n q s))
       go fine fine fine e a s base z =
           let t = lost-thirteen b (own b ws) 13 p z in
           let y : 0 ≡ p = cc in
-          (record { whole = e; present = a; long = s; cause = lost-exactly b (own b ws) .0 (z ∙ sym t) }, sym y)
+          record { whole = e; present = a; long = s; cause = lost-exactly b (own b ws) .0 (z ∙ sym t); at = sym y }
 
-      so : Thirteen × (p ≡ 0) → sharedFault owners b ws ≡ fault 13 p
-      so (t, z) = rw (t .whole, t .present, t .long, z) (lost-exactly b (own b ws) .1 (t .cause))
+      so : Thirteen p → sharedFault owners b ws ≡ fault 13 p
+      so t = rw (t .whole, t .present, t .long, t .at) (lost-exactly b (own b ws) .1 (t .cause))
 
   -- and so does every entry refuse that does not give 13 itself
-  pub exactly-thirteen : {A : Type 0} (entry : List ℕ → Answer A) → Known entry → (p : ℕ) → (askedFor owners b ws refused entry ≡ refused 13 p) ↔ (Thirteen × (p ≡ 0))
+  pub exactly-thirteen : {A : Type 0} (entry : List ℕ → Answer A) → Known entry → (p : ℕ) → (askedFor owners b ws refused entry ≡ refused 13 p) ↔ Thirteen p
   exactly-thirteen entry is p = asked-listed 13 (omega arith) (omega arith) owners b ws p (shared-thirteen p) entry is
 
   -- what is left of an owner's windows by itself, whose memory may be too short
-  pub own-thirteen : (room p : ℕ) → (ownAnswer owners b ws room ≡ refused 13 p) ↔ (Thirteen × (p ≡ 0))
+  pub own-thirteen : (room p : ℕ) → (ownAnswer owners b ws room ≡ refused 13 p) ↔ Thirteen p
   own-thirteen room p = own-listed 13 (omega arith) (omega arith) owners b ws p (shared-thirteen p) room
 
 -- ---- the fourth cause: of a list of windows without a fault nothing is left exactly when no tick is supplied
@@ -112,23 +109,22 @@ no-tick-asked owners b ws e a = no-tick-left b (own b ws) (present-fine owners b
 
 -- ---- traces and plan files: exactly where their bytes read and the list of windows is refused so
 
-pub replay-thirteen : (b : Board) (ws ts bytes : List ℕ) (p : ℕ) → (replayFor b ws ts bytes ≡ refused 13 p) ↔ OfTrace bytes (Thirteen teams b ws × (p ≡ 0))
+pub replay-thirteen : (b : Board) (ws ts bytes : List ℕ) (p : ℕ) → (replayFor b ws ts bytes ≡ refused 13 p) ↔ OfTrace bytes (Thirteen teams b ws p)
 replay-thirteen b ws ts bytes p = trace-listed 13 (omega arith) (omega arith) b ws p (shared-thirteen teams b ws p) ts bytes
 
-pub plan-thirteen : (k : ℕ) (bytes : List ℕ) (p : ℕ) →
-    (planAnswer k bytes ≡ refused 13 p) ↔ OfPlan k bytes (λ q. Thirteen teams (planBoard q) (asOwned 0 (q .windows)) × (p ≡ 0))
-plan-thirteen k bytes p = plan-listed 13 (omega arith) (omega arith) p (λ b ws. Thirteen teams b ws × (p ≡ 0)) (λ b ws. shared-thirteen teams b ws p) k bytes
+pub plan-thirteen : (k : ℕ) (bytes : List ℕ) (p : ℕ) → (planAnswer k bytes ≡ refused 13 p) ↔ OfPlan k bytes (λ q. Thirteen teams (planBoard q) (asOwned 0 (q .windows)) p)
+plan-thirteen k bytes p = plan-listed 13 (omega arith) (omega arith) p (λ b ws. Thirteen teams b ws p) (λ b ws. shared-thirteen teams b ws p) k bytes
 
 -- ---- edits
 
 -- an edit is refused by 13 exactly when the table as it is is, or everything before passed and the table as it would be is, and then because no tick is left
 module _ (owners : ℕ) (b : Board) (count : ℕ) (memory summary : List ℕ) (edit : Edit) where
-  pub data EditThirteen : Type 0 where
-    old-thirteen : 3 * count ≤ length memory → Thirteen owners b (tableIn count memory) → EditThirteen
-    new-thirteen : Ready owners b count memory summary → Allowed edit count → Thirteen owners b (editedList count memory edit) →
-        ownLeft b (editedList count memory edit) ≡ [] → EditThirteen
+  pub data EditThirteen (p : ℕ) : Type 0 where
+    old-thirteen : 3 * count ≤ length memory → Thirteen owners b (tableIn count memory) p → EditThirteen p
+    new-thirteen : Ready owners b count memory summary → Allowed edit count → Thirteen owners b (editedList count memory edit) p →
+        ownLeft b (editedList count memory edit) ≡ [] → EditThirteen p
 
-  pub edit-thirteen : (p : ℕ) → (editAnswer owners b count memory summary edit ≡ refused 13 p) ↔ (EditThirteen × (p ≡ 0))
+  pub edit-thirteen : (p : ℕ) → (editAnswer owners b count memory summary edit ≡ refused 13 p) ↔ EditThirteen p
   edit-thirteen p = (λ e. only 13 p (edit-refusal owners b count memory summary edit 13 p e) refl, so)
     where
       not-whole : (windows n q : ℕ) → WholeRefusal windows n q → n ≡ 13 → ⊥
@@ -146,21 +142,19 @@ module _ (owners : ℕ) (b : Board) (count : ℕ) (memory summary : List ℕ) (e
       only-loss windows n q (NewRefusal.new-sliver i h) z = absurd (omega arith)
       only-loss windows n q (NewRefusal.new-loss u h) z = h
 
-      only : (n q : ℕ) → EditRefusal owners b count memory summary edit n q → n ≡ 13 → EditThirteen × (q ≡ 0)
+      only : (n q : ℕ) → EditRefusal owners b count memory summary edit n q → n ≡ 13 → EditThirteen q
       only n q (EditRefusal.short-memory h) z = absurd (omega arith)
       only n q (EditRefusal.old-table c f r) z = absurd (not-whole count n q r z)
       only n q (EditRefusal.old-absent c f h) z = absurd (omega arith)
-      only n q (EditRefusal.old-loss c f h) z = (old-thirteen c (shared-thirteen owners b (tableIn count memory) 0 .0 f .0), refl)
+      only n q (EditRefusal.old-loss c f h) z = old-thirteen c (shared-thirteen owners b (tableIn count memory) 0 .0 f)
       only n q (EditRefusal.not-its-summary h) z = absurd (omega arith)
       only n q (EditRefusal.absent-index r h) z = absurd (omega arith)
       only n q (EditRefusal.new-table r a f x) z =
-          let t = shared-thirteen owners b (editedList count memory edit) q .0 (rw z at f) in
-          (new-thirteen r a (t .0) (only-loss _ n q x z), t .1)
+          new-thirteen r a (shared-thirteen owners b (editedList count memory edit) q .0 (rw z at f)) (only-loss _ n q x z)
       only n q (EditRefusal.no-room c h) z = absurd (omega arith)
       only n q (EditRefusal.no-summary-room c h k) z = absurd (omega arith)
 
-      so : EditThirteen × (p ≡ 0) → editAnswer owners b count memory summary edit ≡ refused 13 p
-      so (old-thirteen c t, z) =
-          rw z (refusal-edit owners b count memory summary edit 13 0 (EditRefusal.old-loss c (shared-thirteen owners b (tableIn count memory) 0 .1 (t, refl)) (t .cause)))
-      so (new-thirteen r a t h, z) =
-          rw z (new-refused owners b count memory summary edit r a 13 0 (shared-thirteen owners b (editedList count memory edit) 0 .1 (t, refl)))
+      so : EditThirteen p → editAnswer owners b count memory summary edit ≡ refused 13 p
+      so (old-thirteen c t) =
+          rw (t .at) (refusal-edit owners b count memory summary edit 13 0 (EditRefusal.old-loss c (rw (t .at) at (shared-thirteen owners b (tableIn count memory) p .1 t)) (t .cause)))
+      so (new-thirteen r a t h) = new-refused owners b count memory summary edit r a 13 p (shared-thirteen owners b (editedList count memory edit) p .1 t)

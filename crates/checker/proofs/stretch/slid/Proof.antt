@@ -1,5 +1,4 @@
 use native.Mathlib.Omega.{arith}
-use Rattle.scope.specs.Windows.{framed}
 use Rattle.checker.proofs.StretchLaws.{on-le}
 use borrow.Author.Needs.{needs}
 use Rattle.checker.proofs.stretch.slid.Statement.{statement}

@@ -1,6 +1,5 @@
 use mathlib.Core.Path.{sym, _∙_}
 use borrow.Author.Needs.{needs}
-use Rattle.scope.specs.Shared.{absentOwnerFault}
 use Rattle.shared.proofs.SharedLaws.{absent-own, present-own, left-present}
 use Rattle.shared.proofs.table.check_present.Statement.{statement}
 use Rattle.shared.proofs.table.check_present.Tie as tie

@@ -3,11 +3,10 @@ use mathlib.Core.Logic.{⊎-elim}
 use Rattle.scope.specs.Shared.{owned, ownedOf}
 use Rattle.theory.specs.Lists.{pieces-length}
 use Rattle.tables.specs.Told.{boardOf}
-use Rattle.shared.specs.Told.{ownedBy}
 use Rattle.shared.proofs.SharedLaws.{leftFor, gathers-left, front, front-none, front-all, front-miss, count-hit, left-hit, left-miss}
 use borrow.Author.Needs.{needs}
 use native.Mathlib.Omega.{arith}
-use Prim.Native.Nat.{ℕ, _+_, _-_, _*_, _≤_, _<_}
+use Prim.Native.Nat.{_-_, _*_, _≤_, _<_}
 use lib.ListN.{length}
 use mathlib.Core.Path.{_≡_}
 use Rattle.shared.proofs.table.count_left.Statement.{statement}

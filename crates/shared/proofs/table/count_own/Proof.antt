@@ -2,11 +2,10 @@ use mathlib.Core.Path.{sym, ap, _∙_}
 use mathlib.Core.Logic.{⊎-elim}
 use Rattle.scope.specs.Shared.{owned, ownedOf, windowsFor}
 use Rattle.theory.specs.Lists.{pieces-length}
-use Rattle.shared.specs.Told.{ownedBy}
 use Rattle.shared.proofs.SharedLaws.{gathers-own, front, front-none, front-all, front-miss, count-hit, own-hit, own-miss}
 use borrow.Author.Needs.{needs}
 use native.Mathlib.Omega.{arith}
-use Prim.Native.Nat.{ℕ, _+_, _-_, _*_, _≤_, _<_}
+use Prim.Native.Nat.{_-_, _*_, _≤_, _<_}
 use lib.ListN.{length}
 use mathlib.Core.Path.{_≡_}
 use Rattle.shared.proofs.table.count_own.Statement.{statement}

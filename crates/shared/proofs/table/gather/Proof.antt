@@ -11,7 +11,7 @@ use Rattle.theory.specs.Buffers.{written-none}
 use Rattle.shared.proofs.SharedLaws.{leftFor, gathers-left, front, front-none, front-all, front-few, front-hit, front-miss, count-hit, left-hit, left-miss, left-moved, length-two, written-two}
 use borrow.Author.Needs.{needs}
 use native.Mathlib.Omega.{arith}
-use Prim.Native.Nat.{ℕ, _+_, _-_, _*_, _≤_, _<_}
+use Prim.Native.Nat.{ℕ, _+_, _-_, _≤_, _<_}
 use lib.ListN.{length}
 use mathlib.Core.Path.{_≡_}
 use Rattle.shared.proofs.table.gather.Statement.{statement}

@@ -1,5 +1,4 @@
 use Rattle.tables.proofs.FaultLaws.{breaks-at, breaks-nowhere}
-use Rattle.tables.specs.Told.{boardOf}
 use Rattle.theory.specs.Lists.{pieces-length}
 use Rattle.scope.specs.Answers.{windowFault}
 use Rattle.scope.specs.Windows.{framed, window, windowsOf, windowLegal, badWindow}

@@ -7,10 +7,7 @@ use Rattle.scope.specs.Shared.{owned}
 use Rattle.tables.specs.Told.{boardOf, toldWindow}
 use Rattle.tables.proofs.WindowLaws.{fitting, unfitting}
 use Rattle.shared.proofs.SharedLaws.{owned-alone}
-use native.Mathlib.Omega.{arith}
-use Prim.Native.Nat.{ℕ, _+_, _-_, _*_, _≤_, _<_}
-use lib.ListN.{length}
-use mathlib.Core.Path.{_≡_}
+use Prim.Native.Nat.{_-_}
 use borrow.Author.Needs.{needs}
 use Rattle.shared.proofs.table.Owned.new.Statement.{statement}
 use Rattle.shared.proofs.table.Owned.new.Tie as tie
