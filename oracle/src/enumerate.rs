@@ -262,7 +262,7 @@ fn plans() -> impl Iterator<Item = Query> {
     })
 }
 
-/// Every plan file of up to 7 bytes, each one of six, in both forms.
+/// Every plan file of up to 7 bytes, each one of six, in both older forms.
 fn any_plans() -> impl Iterator<Item = Query> {
     (0..=MOST_ANY_BYTES).flat_map(any_bytes).flat_map(|bytes| {
         [Form::Old, Form::WithShortest].map(|form| Query::Plan(form, bytes.clone()))
