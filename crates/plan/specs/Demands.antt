@@ -1,7 +1,7 @@
 -- The demands, of what the three readers of plan files answer: once, over how many settings the file has. The premises are what they promise, and
 -- that the file is a plan
 use Prim.Native.Nat.{ℕ, _≤_, _<_}
-use mathlib.Core.Path.{_≡_, _∙_}
+use mathlib.Core.Path.{_≡_, refl, _∙_}
 use mathlib.Core.Logic.{_↔_}
 use mathlib.Core.Option.{none}
 use mathlib.Core.List.{List}
