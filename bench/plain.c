@@ -214,17 +214,6 @@ static bool is_left(const struct palikudyom_board *board, struct list table, siz
     return owner_of(table, i) == board->owner && board->lost < owned_ticks(table, i);
 }
 
-/* how many numbers what is left of these windows has */
-static size_t count_left(const struct palikudyom_board *board, struct list table)
-{
-    size_t count = table.len / 3;
-    size_t numbers = 0;
-    for (size_t i = 0; i < count; i++)
-        if (is_left(board, table, i))
-            numbers += 2;
-    return numbers;
-}
-
 static struct checked check_shortest(uint32_t shortest)
 {
     return shortest == 0 || MOST_SHORTEST < shortest ? bad(12, MOST_WINDOWS) : FINE;
@@ -261,25 +250,35 @@ static struct checked check_rule(struct palikudyom_board board)
     return board.rule != PALIKUDYOM_LOSING || MOST_LOST < board.lost ? bad(13, 0) : FINE;
 }
 
-/* `left`: how many numbers are left of the owner's windows; who is left a tick has a window */
-static struct checked check_counted(struct palikudyom_board board, struct list table, size_t left)
+/* something is left of these windows */
+static bool any_left(const struct palikudyom_board *board, struct list table)
+{
+    size_t count = table.len / 3;
+    for (size_t i = 0; i < count; i++)
+        if (is_left(board, table, i))
+            return true;
+    return false;
+}
+
+/* `numbers`: those of the owner's windows */
+static struct checked check_counted(struct palikudyom_board board, struct list table, size_t numbers)
 {
     struct checked whole = check_whole(board.frame, table);
-    struct checked owner = left == 0 && count_own(board.owner, table) == 0 ? bad(1, 0) : FINE;
+    struct checked owner = numbers == 0 ? bad(1, 0) : FINE;
     struct checked both = or_else(whole, owner);
     if (is_bad(both))
         return both;
     struct checked slivers = check_slivers(board.shortest, table);
-    struct checked loss = left == 0 ? bad(13, 0) : check_rule(board);
+    struct checked loss = any_left(&board, table) ? check_rule(board) : bad(13, 0);
     return or_else(slivers, loss);
 }
 
 static struct checked check_shared(struct palikudyom_board board, struct list table)
 {
-    return check_counted(board, table, count_left(&board, table));
+    return check_counted(board, table, count_own(board.owner, table));
 }
 
-static void gather(const struct palikudyom_board *board, struct list table, uint32_t *out)
+static size_t gather(const struct palikudyom_board *board, struct list table, uint32_t *out)
 {
     size_t count = table.len / 3;
     size_t at = 0;
@@ -289,6 +288,7 @@ static void gather(const struct palikudyom_board *board, struct list table, uint
             out[at + 1] = owned_end_of(table, i);
             at += 2;
         }
+    return at;
 }
 
 /* what is left of the asked owner's windows, in pairs; or the refusal */
@@ -300,11 +300,11 @@ struct own {
 /* every entry's first step; `room` is for MOST_WINDOWS pairs and is cleared before it is filled, as that of the proved code */
 static struct own own_windows(struct palikudyom_board board, struct list table, uint32_t *room)
 {
-    size_t left = count_left(&board, table);
-    struct checked shared = check_counted(board, table, left);
+    size_t numbers = count_own(board.owner, table);
+    struct checked shared = check_counted(board, table, numbers);
     if (is_bad(shared))
         return (struct own){shared, {room, 0}};
-    gather(&board, table, room);
+    size_t left = gather(&board, table, room);
     return (struct own){FINE, {room, left}};
 }
 

@@ -15,7 +15,7 @@ use borrow.Author.Tests.{ltb-true, lt-ltb, le-ltb, eq-eqb, ne-eqb}
 use Rattle.scope.specs.Numbers.{firstBy, pieces, piecesFrom, written}
 use Rattle.scope.specs.Windows.{Board, Window, window, windowsOf, windowFits}
 use Rattle.scope.specs.Answers.{Fault, Fault.fine, Fault.fault, Answer.given, Answer.refused, faultIf, faultAt, _orElse_, unless, ruleFault}
-use Rattle.scope.specs.Shared.{Owned, owned, ownedAt, windowsFor, own, leftOf, ownLeft, absentOwnerFault, asOwned, follows, ownedLegal, badOwned, ownedFault, ownedAnswer}
+use Rattle.scope.specs.Shared.{Owned, owned, ownedAt, windowsFor, own, leftOf, ownLeft, asOwned, follows, ownedLegal, badOwned, ownedFault, ownedAnswer}
 use Rattle.theory.specs.Numbers.{and-both}
 use Rattle.theory.specs.Lists.{pieces-length, pieces-append}
 use Rattle.theory.specs.Buffers.{written-more}
@@ -191,23 +191,11 @@ module _ (b : Board) (w : Owned) where
       go true z false x e = rw (z, x)
       go true z true x e = absurd (true≢false e)
 
--- ---- an owner that has no window, and one that is left no tick
+-- ---- an owner that is left no tick
 
-module _ (b : Board) (ws : List ℕ) where
-  pub absent-own : length (own b ws) ≡ 0 → fault 1 0 ≡ absentOwnerFault b ws
-  unfolding absentOwnerFault
-  absent-own e = rw (eq-eqb (length (own b ws)) 0 e)
-
-  pub present-own : length (own b ws) ≢ 0 → fine ≡ absentOwnerFault b ws
-  unfolding absentOwnerFault
-  present-own u = rw (ne-eqb (length (own b ws)) 0 u)
-
-  -- of no window nothing is left
-  pub left-present : (left : ℕ) → left ≡ length (ownLeft b ws) → left ≢ 0 → fine ≡ absentOwnerFault b ws
-  left-present left e u =
-      let few = left-few (b .lost) (windowsOf (own b ws)) in
-      let count = pieces-length Window 2 window (own b ws) in
-      present-own (λ z. u (omega (arith, e, few, count, z)))
+-- what is left has no more numbers than the windows have
+pub left-fewer : (b : Board) (ws : List ℕ) → length (ownLeft b ws) ≤ length (own b ws)
+left-fewer b ws = omega (arith, left-few (b .lost) (windowsOf (own b ws)), pieces-length Window 2 window (own b ws))
 
 module _ (b : Board) (left : ℕ) where
   pub none-left : left ≡ 0 → fault 13 0 ≡ (ruleFault b orElse faultIf (eqb left 0) 13 0)

@@ -17,8 +17,8 @@ ghost use Prim.Native.Nat.{_-_, _≤_};
 ghost use lib.Dec.{ltb, eqb};
 ghost use lib.ListN.{length};
 ghost use Rattle.scope.specs.Numbers.{written};
-ghost use Rattle.scope.specs.Answers.{Fault.fine, faultIf, faultAt, _orElse_, ruleFault};
-ghost use Rattle.scope.specs.Shared.{owned, ownedOf, ownedAt, own, ownLeft, absentOwnerFault, follows, ownedLegal, ownedFault, ownedAnswer, wholeFault};
+ghost use Rattle.scope.specs.Answers.{Fault.fine, faultIf, faultAt};
+ghost use Rattle.scope.specs.Shared.{owned, ownedOf, ownedAt, own, ownLeft, lostFault, follows, ownedLegal, ownedFault, ownedAnswer, wholeFault};
 ghost use Rattle.scope.specs.Shared.{sliver, firstSliver, sliverFault};
 ghost use Rattle.scope.specs.Shared.{sharedFault, ownAnswer, ownOut, asOwned, asOwnedAnswer, asOwnedOut};
 ghost use Rattle.tables.specs.Told.{boardOf, faultOf, toldAmount};
@@ -183,7 +183,7 @@ fn count_own(board: Board, windows: &[u32]) -> usize
     numbers
 }
 
-// How many numbers what is left of these windows has, in pairs.
+// How many numbers what is left of the asked owner's windows has, in pairs.
 fn count_left(board: Board, windows: &[u32]) -> usize
     ensures { λ r. ⌜ r ≡ length (ownLeft (boardOf board) (now (windows .entry))) ⌝ }
 {
@@ -200,28 +200,40 @@ fn count_left(board: Board, windows: &[u32]) -> usize
     numbers
 }
 
-// Refusal 1 of an owner that has no window. One that has something left has a window; one that does not exist has none in a list that keeps rule 3.
-fn check_present(board: Board, windows: &[u32], left: usize) -> Checked
-    requires { ⌜ left ≡ length (ownLeft (boardOf board) (now windows)) ⌝ }
-    ensures { λ r. ⌜ faultOf r ≡ absentOwnerFault (boardOf board) (now (windows .entry)) ⌝ }
+// Whether something is left of the asked owner's windows.
+fn any_left(board: Board, windows: &[u32]) -> bool
+    ensures { λ r. ⌜ r ≡ ltb 0 (length (ownLeft (boardOf board) (now (windows .entry)))) ⌝ }
 {
-    if left != 0 {
-        return Checked::Fine;
+    let count = windows.len() / 3;
+    let mut i = 0;
+    while i < count {
+        let window = owned_at(windows, i);
+        if window.is_left(board) {
+            return true;
+        }
+        i += 1;
     }
-    if count_own(board, windows) == 0 {
+    false
+}
+
+// Refusal 1 of an owner whose windows have so many numbers: none. An owner that does not exist has none in a list that keeps rule 3.
+fn check_present(numbers: usize) -> Checked
+    ensures { λ r. ⌜ faultOf r ≡ faultIf (eqb numbers 0) 1 0 ⌝ }
+{
+    if numbers == 0 {
         return Checked::Bad(Refusal::WindowList);
     }
     Checked::Fine
 }
 
-// Refusal 13, where what is left of the owner's windows has so many numbers.
-fn check_left(board: Board, left: usize) -> Checked
-    ensures { λ r. ⌜ faultOf r ≡ (ruleFault (boardOf board) orElse faultIf (eqb left 0) 13 0) ⌝ }
+// Refusal 13.
+fn check_left(board: Board, windows: &[u32]) -> Checked
+    ensures { λ r. ⌜ faultOf r ≡ lostFault (boardOf board) (own (boardOf board) (now (windows .entry))) ⌝ }
 {
-    if left == 0 {
-        return Checked::Bad(Refusal::Loss);
+    if any_left(board, windows) {
+        return check_rule(board);
     }
-    check_rule(board)
+    Checked::Bad(Refusal::Loss)
 }
 
 // Refusal 12 of a window that is shorter than the board allows, at the lowest index of the whole list.
@@ -254,19 +266,19 @@ fn check_slivers(owners: u32, board: Board, windows: &[u32]) -> Checked
     range.or_else(each)
 }
 
-// The refusals of a table, in this order: 1, 2 and 3 of the whole list, 1 of an absent owner, 12, 13. How many numbers are left of the owner's windows is
-// counted before.
-fn check_counted(owners: u32, board: Board, windows: &[u32], left: usize) -> Checked
-    requires { ⌜ left ≡ length (ownLeft (boardOf board) (now windows)) ⌝ }
+// The refusals of a table, in this order: 1, 2 and 3 of the whole list, 1 of an absent owner, 12, 13. How many numbers the owner's windows have is counted
+// before.
+fn check_counted(owners: u32, board: Board, windows: &[u32], numbers: usize) -> Checked
+    requires { ⌜ numbers ≡ length (own (boardOf board) (now windows)) ⌝ }
     ensures { λ r. ⌜ faultOf r ≡ sharedFault owners (boardOf board) (now (windows .entry)) ⌝ }
 {
     let whole = check_whole(owners, board, windows);
-    let owner = check_present(board, windows, left);
+    let owner = check_present(numbers);
     match whole.or_else(owner) {
         Checked::Bad(r) => Checked::Bad(r),
         Checked::Fine => {
             let slivers = check_slivers(owners, board, windows);
-            let loss = check_left(board, left);
+            let loss = check_left(board, windows);
             slivers.or_else(loss)
         }
     }
@@ -276,14 +288,15 @@ fn check_counted(owners: u32, board: Board, windows: &[u32], left: usize) -> Che
 pub(crate) fn check_shared(owners: u32, board: Board, windows: &[u32]) -> Checked
     ensures { λ r. ⌜ faultOf r ≡ sharedFault owners (boardOf board) (now (windows .entry)) ⌝ }
 {
-    let left = count_left(board, windows);
-    check_counted(owners, board, windows, left)
+    let numbers = count_own(board, windows);
+    check_counted(owners, board, windows, numbers)
 }
 
-// Writes what is left of the asked owner's windows at the front of out, in pairs.
-fn gather(board: Board, windows: &[u32], out: &mut [u32])
+// Writes what is left of the asked owner's windows at the front of out, in pairs: how many numbers it has.
+fn gather(board: Board, windows: &[u32], out: &mut [u32]) -> usize
     requires { ⌜ length (ownLeft (boardOf board) (now windows)) ≤ length (now out) ⌝ }
-    ensures { λ _. ⌜ now (out .exit) ≡ written (ownLeft (boardOf board) (now (windows .entry))) (now (out .entry)) ⌝ }
+    ensures answer { λ r. ⌜ r ≡ length (ownLeft (boardOf board) (now (windows .entry))) ⌝ }
+    ensures buffer { λ _. ⌜ now (out .exit) ≡ written (ownLeft (boardOf board) (now (windows .entry))) (now (out .entry)) ⌝ }
 {
     let lost = board.lost;
     let count = windows.len() / 3;
@@ -298,6 +311,7 @@ fn gather(board: Board, windows: &[u32], out: &mut [u32])
         }
         i += 1;
     }
+    at
 }
 
 // What is left of the asked owner's windows, in pairs, at the front of out: how many numbers it has. Whoever goes on with these pairs in the board's frame
@@ -306,14 +320,20 @@ pub fn own_windows(owners: u32, board: Board, windows: &[u32], out: &mut [u32]) 
     ensures answer { λ r. ⌜ toldAmount r ≡ ownAnswer owners (boardOf board) (now (windows .entry)) (length (now (out .entry))) ⌝ }
     ensures buffer { λ _. ⌜ now (out .exit) ≡ ownOut owners (boardOf board) (now (windows .entry)) (now (out .entry)) ⌝ }
 {
-    let left = count_left(board, windows);
-    match check_counted(owners, board, windows, left) {
+    let numbers = count_own(board, windows);
+    match check_counted(owners, board, windows, numbers) {
         Checked::Bad(r) => refuse(r, out),
         Checked::Fine => {
-            if out.len() < left {
-                refuse(Refusal::Room(left as u64), out)
+            // nothing more is left than there was
+            let needed = if numbers <= out.len() {
+                0
             } else {
-                gather(board, windows, out);
+                count_left(board, windows)
+            };
+            if out.len() < needed {
+                refuse(Refusal::Room(needed as u64), out)
+            } else {
+                let left = gather(board, windows, out);
                 Amount::Of(left as u64)
             }
         }

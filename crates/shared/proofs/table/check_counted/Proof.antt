@@ -1,7 +1,7 @@
 use mathlib.Core.Path.{_≡_, sym, ap, ap₂, _∙_}
 use Prim.Native.Nat.{ℕ}
 use lib.Dec.{eqb}
-use Rattle.scope.specs.Answers.{Fault.fine, faultIf, _orElse_, ruleFault}
+use Rattle.scope.specs.Answers.{Fault.fine, faultIf, _orElse_}
 use Rattle.scope.specs.Shared.{own, wholeFault, absentOwnerFault, sliverFault, lostFault, sharedFault}
 use Rattle.theory.specs.Answers.{orElse-fine}
 use Rattle.tables.specs.Told.{boardOf, faultOf}
@@ -20,9 +20,10 @@ use Rattle.tables.proofs.answer.Checked.or_else.Reads as or-else-reads
 -- the checks of the list and of the owner together
 faulted : (c : tie.After-or-else) → let a = c .before .before .before .before .args in
     faultOf (c .or-else .result) ≡ (wholeFault (a .owners) (boardOf (a .board)) (a .windows .now) orElse absentOwnerFault (boardOf (a .board)) (a .windows .now))
+unfolding absentOwnerFault
 faulted c =
     c .or-else .ensures
-    ∙ ap₂ _orElse_ (c .before .before .check-whole .ensures) (c .before .check-present .ensures)
+    ∙ ap₂ _orElse_ (c .before .before .check-whole .ensures) (c .before .check-present .ensures ∙ ap (λ (n : ℕ). faultIf (eqb n 0) 1 0) (c .before .before .before .before .pre))
 
 -- past the match there is no fault of either
 fine-at : (c : tie.After-enum-told) → let a = c .before .before .before .before .before .before .args in
@@ -33,7 +34,7 @@ check-whole-requires : tie.Need-check-whole-requires
 check-whole-requires c κs = search needs
 
 check-present-requires : tie.Need-check-present-requires
-check-present-requires c κs = c .before .before .pre
+check-present-requires c κs = search needs
 
 or-else-requires : tie.Need-or-else-requires
 or-else-requires c κs = search needs
@@ -64,15 +65,14 @@ returns c =
     sym (sym (or-assoc (wholeFault (a .owners) board ws) (absentOwnerFault board ws) last) ∙ or-fault _ last f)
 
 returns-2 : tie.Need-returns-2
-unfolding sharedFault lostFault
+unfolding sharedFault
 returns-2 c =
     let x = c .before .before .before in
     let a = x .before .before .before .before .before .before .args in
     let ws = a .windows .now in
     let board = boardOf (a .board) in
     let last = sliverFault board ws orElse lostFault board (own board ws) in
-    let left = c .before .check-left .ensures ∙ ap (λ (n : ℕ). ruleFault board orElse faultIf (eqb n 0) 13 0) (x .before .before .before .before .before .before .pre) in
-    c .or-else2 .ensures ∙ ap₂ _orElse_ (c .before .before .check-slivers .ensures) left
+    c .or-else2 .ensures ∙ ap₂ _orElse_ (c .before .before .check-slivers .ensures) (c .before .check-left .ensures)
     ∙ sym (sym (or-assoc (wholeFault (a .owners) board ws) (absentOwnerFault board ws) last) ∙ or-fine _ last (fine-at x))
 
 pub check-counted-spec : {M : Type 1} → statement M

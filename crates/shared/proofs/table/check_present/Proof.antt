@@ -1,23 +1,15 @@
-use mathlib.Core.Path.{sym, _∙_}
-use borrow.Author.Needs.{needs}
-use Rattle.shared.proofs.SharedLaws.{absent-own, present-own, left-present}
+use borrow.Author.Tests.{eq-eqb, ne-eqb}
+use Rattle.tables.proofs.FaultLaws.{if-true, if-false}
 use Rattle.shared.proofs.table.check_present.Statement.{statement}
 use Rattle.shared.proofs.table.check_present.Tie as tie
 use Rattle.shared.proofs.table.check_present.Reads as reads
 use Rattle.shared.proofs.table.check_present.Lts as lts
-use Rattle.shared.proofs.table.count_own.Reads as count-own-reads
 
 returns : tie.Need-returns
-returns c = left-present _ _ _ (c .before .before .pre) (c .if1 .taken)
-
-count-own-requires : tie.Need-count-own-requires
-count-own-requires c κs = search needs
+returns c = if-true _ 1 0 (eq-eqb _ 0 (c .if1 .taken))
 
 returns-2 : tie.Need-returns-2
-returns-2 c = absent-own _ _ (sym (c .before .count-own .ensures) ∙ c .if2 .taken)
-
-returns-3 : tie.Need-returns-3
-returns-3 c = present-own _ _ (λ z. c .if2 .left (c .before .count-own .ensures ∙ z))
+returns-2 c = if-false _ 1 0 (ne-eqb _ 0 (c .if1 .left))
 
 pub check-present-spec : {M : Type 1} → statement M
-check-present-spec = tie.close (tie.spec returns count-own-requires returns-2 returns-3)
+check-present-spec = tie.close (tie.spec returns returns-2)

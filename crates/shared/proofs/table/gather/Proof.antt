@@ -148,7 +148,8 @@ returns : tie.Need-returns Inv-loop μ-loop
 returns c =
     let a = c .before .before .before .before .args in
     let l = c .before .loop in
-    l .inv .5 ∙ ap (λ (m : List ℕ). written m (a .out .now)) (front-all _ (gathers-left (boardOf (a .board))) (ownedOf (a .windows .now)) (l .i) (omega (arith, l .inv .1)) (omega (arith, l .inv .1)))
+    let all = front-all _ (gathers-left (boardOf (a .board))) (ownedOf (a .windows .now)) (l .i) (omega (arith, l .inv .1)) (omega (arith, l .inv .1)) in
+    (l .inv .2 ∙ ap length all, l .inv .5 ∙ ap (λ (m : List ℕ). written m (a .out .now)) all)
 
 pub gather-spec : {M : Type 1} → statement M
 gather-spec =
