@@ -172,7 +172,7 @@ struct palikudyom_answer palikudyom_margins(struct palikudyom_board board, const
  * is room. Afterwards `windows` begins with the new list and `summary` with what a making would write for it; the rest of each is as it was. Any team's window
  * can be edited. EDITED; 1 where `windows` is shorter than its list, T of the list, 14, 7 of the index, then T of the new list, 8 for the windows, 8 for the
  * summary, each at the numbers needed. A refusal leaves both memories as they were. So a refused table can't be repaired by an edit, and the asked owner's last
- * window can't be removed. Moving and removing never need room for windows, so their 8 is the summary's; the 8 of adding is for the windows exactly where
+ * window, or its last one that has a tick left, can't be removed (1, 13). Moving and removing never need room for windows, so their 8 is the summary's; the 8 of adding is for the windows exactly where
  * `windows_len` is below 3 * (`count` + 1).
  */
 

@@ -33,7 +33,7 @@ pub fn buffer() -> [u8; LONGEST + 1]
     [0; LONGEST + 1]
 }
 
-// Setting i, where a plan has it; else what its form means.
+// Setting i, where a plan has it; else what a form without it stands for.
 fn setting(settings: &[u32], i: usize, meant: u32) -> u32
     ensures { λ r. ⌜ r ≡ getD (now (settings .entry)) i meant ⌝ }
 {

@@ -48,7 +48,7 @@ unfoldable pub covers : ℕ → List Window → ℕ → Bool
 covers q [] k = false
 covers q (w ∷ ws) k = gives q w k || covers q ws k
 
--- tick k is supplied if a window gives k mod P of what the board does not lose
+-- tick k is supplied if one of the windows gives k mod P, where each loses as many ticks as the board does
 unfoldable pub supplied : Board → List Window → ℕ → Bool
 supplied b ws k = covers (b .lost) ws (k % b .frame)
 

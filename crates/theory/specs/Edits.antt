@@ -482,7 +482,7 @@ module _ (owners : ℕ) (b : Board) (count : ℕ) (memory summary : List ℕ) (e
     no-summary-room : Fitting owners b count memory summary edit → 3 * countAfter edit count ≤ length memory → length summary < length (editedSummary b count memory edit) →
         EditRefusal 8 (length (editedSummary b count memory edit))
 
--- the refusal of a list for an owner: one that may depend on every team, that the owner has no window there, or that it is left no tick by such a board
+-- the refusal of a list for an owner: one that may depend on every team, that the owner has no window there, or one of 13's causes
 data SharedRefusal (b : Board) (ws : List ℕ) (n p : ℕ) : Type 0 where
   by-teams : WholeRefusal (length (ownedOf ws)) n p → SharedRefusal b ws n p
   by-absence : own b ws ≡ [] → fault 1 0 ≡ fault n p → SharedRefusal b ws n p
@@ -768,7 +768,8 @@ module _ (owners : ℕ) (b : Board) (count : ℕ) (memory summary : List ℕ) (e
       so : Absent × (p ≡ 0) → editAnswer owners b count memory summary edit ≡ refused 7 p
       so (u, z) = rw z (refusal-edit owners b count memory summary edit 7 0 (absent-index (u .0) (u .1)))
 
--- so, once the tables as they are have no fault, whether it is given depends on the frame, the owner's windows and the summary, and on nothing else
+-- so, once the tables as they are have no fault, whether it is given depends on the frame, the rule, the lost ticks, the owner's windows and the
+-- summary, and on nothing else
 pub fourteen-own : (owners : ℕ) (b c : Board) (count n : ℕ) (memory m summary : List ℕ) (edit change : Edit) →
     3 * count ≤ length memory → sharedFault owners b (tableIn count memory) ≡ fine → 3 * n ≤ length m → sharedFault owners c (tableIn n m) ≡ fine →
     Alike b c → own b (tableIn count memory) ≡ own c (tableIn n m) →

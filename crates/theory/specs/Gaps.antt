@@ -1,4 +1,4 @@
--- Which ticks a legal table supplies: those of its windows, and none of the gaps between them or from the last to the first of the next frame
+-- Which ticks a legal table supplies: those of its windows but the lost ones, and none of the gaps between them or from the last to the first of the next frame
 use mathlib.Core.Path.{_≡_, sym, ap, _∙_}
 use mathlib.Core.Bool.{Bool, true, false, not}
 use mathlib.Core.Option.{none}
@@ -70,7 +70,7 @@ module _ (b : Board) (ws : List Window) (legal : badWindow b ws ≡ none) where
   unfolding supplied
   here k h = ap (covers (b .lost) ws) (mod-eq-of-lt h)
 
-  -- the ticks of a window are supplied
+  -- the ticks of a window after those that are lost are supplied
   pub on-window : (i k : ℕ) → i < length ws → b .lost + startOf i ≤ k → k < endOf i → σ k ≡ true
   on-window i k h l m =
       here k (omega (arith, fits i h .1)) ∙ covers-at (b .lost) k ws i h (gives-in (b .lost) (windowAt ws i) k l m)

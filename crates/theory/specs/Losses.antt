@@ -47,7 +47,7 @@ module _ (b : Board) where
   unfolding ruleFault
   one-lost r h = rw (r, lt-ltb 0 (b .lost) h, or-true (ltb mostLost (b .lost)))
 
-  -- or one that it cannot, by one of three causes
+  -- a rule or lost ticks that no board has are refused, by one of the first three causes
   ruled-or : (mine : List ℕ) → (ruleFault b ≡ fault 13 0 → Cause b mine) × (Cause b mine → (leftOf (b .lost) (windowsOf mine) ≡ [] → ⊥) → ruleFault b ≡ fault 13 0)
   unfolding ruleFault
   ruled-or mine = (only, so)

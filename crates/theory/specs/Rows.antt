@@ -262,7 +262,7 @@ module _ (b : Board) (ws : List ℕ) (ok : LegalTable b ws) where
         round = λ k l m. off-round b all (ok .windows) one k (rw count l) m;
       }
 
--- ---- the entry: the least supply is the least over the starts where a window ends
+-- ---- the entry, of pairs of which nothing is lost: the least supply is the least over the starts where a window ends
 
 pub ends-answer : (b : Board) (ws : List ℕ) (t v : ℕ) → b .lost ≡ 0 → leastSupplyAnswer b ws t ≡ given v →
     v ≡ least (λ i. supply (suppliedBy b ws) (endOf ws i) t) (length ws / 2)

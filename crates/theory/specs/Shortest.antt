@@ -1,5 +1,5 @@
 -- Document 02, request 5, of what the entries answer: 12 exactly when, that m = 1 refuses nothing, and that what is not refused at m is answered the same at
--- every smaller m; of plan files too
+-- every smaller m; of plan files too. What is asked of a list is refused by 12, and by 13 (Thirteen), exactly where the list is: once over the number
 use mathlib.Core.Path.{_≡_, refl, sym, ap, _∙_}
 use mathlib.Core.Bool.{Bool, true, false, not, cond, _||_}
 use mathlib.Core.Logic.{_↔_}
