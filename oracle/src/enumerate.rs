@@ -253,10 +253,8 @@ fn plans() -> impl Iterator<Item = Query> {
                 shortest: Some(shortest),
                 ..table.clone()
             };
-            queries.extend(groups.iter().map(|tasks| {
-                let (form, numbers) = generate::plan_numbers(&table, tasks);
-                Query::Plan(form, encode(&numbers))
-            }));
+            let plans = groups.iter();
+            queries.extend(plans.map(|tasks| generate::plan_file(&table, tasks)));
         }
         queries
     })

@@ -127,10 +127,8 @@ fn plans() -> impl Iterator<Item = Query> {
             let mut queries = Vec::new();
             for [shortest, rule, lost] in small_settings() {
                 let table = with(&table, shortest, rule, lost);
-                queries.extend(groups.iter().map(|tasks| {
-                    let (form, numbers) = generate::plan_numbers(&table, tasks);
-                    Query::Plan(form, encode(&numbers))
-                }));
+                let plans = groups.iter();
+                queries.extend(plans.map(|tasks| generate::plan_file(&table, tasks)));
             }
             queries
         })

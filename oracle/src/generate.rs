@@ -5,6 +5,7 @@ use std::collections::BTreeSet;
 
 use crate::answer::Answer;
 use crate::machine::{Job, MOST_RUN};
+use crate::numbers::encode;
 use crate::outages;
 use crate::plan::{self, Form};
 use crate::query::{Query, RunNumbers};
@@ -241,9 +242,14 @@ pub fn lent_plan(r: &mut Random, faults: u64, table: TableNumbers, group: &[[u64
     Query::Plan(form, spoil::plan_bytes(r, form, numbers))
 }
 
-/// The form and the numbers of a plan file, with m, or m, the rule and q, first where the table has
-/// them set.
-pub fn plan_numbers(table: &TableNumbers, tasks: &[u64]) -> (Form, Vec<u64>) {
+/// A plan file as it should be, with m, or m, the rule and q, first where the table has them set.
+pub fn plan_file(table: &TableNumbers, tasks: &[u64]) -> Query {
+    let (form, numbers) = plan_numbers(table, tasks);
+    Query::Plan(form, encode(&numbers))
+}
+
+/// Its form and its numbers.
+fn plan_numbers(table: &TableNumbers, tasks: &[u64]) -> (Form, Vec<u64>) {
     let mut numbers = table.settings();
     let form = match numbers.len() {
         0 => Form::Old,

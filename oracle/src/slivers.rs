@@ -2,7 +2,7 @@
 //! window m, and so does a plan file; m is at an edge of the windows' lengths or of its own range.
 
 use crate::generate;
-use crate::numbers::{encode, GREATEST};
+use crate::numbers::GREATEST;
 use crate::plan::Form;
 use crate::query::{Query, MOST_NEW_NUMBERS, MOST_PLAN_BYTES};
 use crate::random::Random;
@@ -148,20 +148,15 @@ pub fn query_at_a_limit(r: &mut Random) -> Query {
         }
         5 => {
             let tasks = [1_000_000, 1_000_000, 1].repeat(ones(r));
-            plan_file(&many_windows(r), &tasks)
+            generate::plan_file(&many_windows(r), &tasks)
         }
         // Missed at once: no program has to try every start at every length.
-        6 => plan_file(&longest_windows(r), &[2, MOST_FRAME, 1]),
+        6 => generate::plan_file(&longest_windows(r), &[2, MOST_FRAME, 1]),
         _ => {
             let byte = r.one_of(&[0, 1, 2, 0x7f, 0x80]) as u8;
             Query::Plan(Form::WithShortest, vec![byte; MOST_PLAN_BYTES as usize])
         }
     }
-}
-
-fn plan_file(table: &TableNumbers, tasks: &[u64]) -> Query {
-    let (form, numbers) = generate::plan_numbers(table, tasks);
-    Query::Plan(form, encode(&numbers))
 }
 
 /// As many windows as there may be, or one more or fewer, in pairs: none is shorter than m but, in
@@ -219,7 +214,7 @@ mod tests {
     use super::*;
     use crate::answer::{Answer, Reason, Refusal};
     use crate::large;
-    use crate::numbers::Cursor;
+    use crate::numbers::{encode, Cursor};
     use crate::plan;
     use crate::query::ONLY_ON_A_BOARD;
     use crate::stream;

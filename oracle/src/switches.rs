@@ -4,7 +4,7 @@
 
 use crate::generate;
 use crate::lost::{Switch, MOST_LOST, PAYS, WHOLE};
-use crate::numbers::{encode, GREATEST};
+use crate::numbers::GREATEST;
 use crate::plan::Form;
 use crate::query::{Query, MOST_NEW_NUMBERS, MOST_PLAN_BYTES};
 use crate::random::Random;
@@ -261,7 +261,7 @@ pub fn query_at_a_limit(r: &mut Random) -> Query {
             Query::LeastSupply(of_some_owner(r, &table), length)
         }
         // Missed at once: no program has to try every start at every length.
-        3 => plan_file(&longest_window(r), &[2, MOST_FRAME, 1]),
+        3 => generate::plan_file(&longest_window(r), &[2, MOST_FRAME, 1]),
         4 => {
             let table = many_windows(r);
             Query::Outage(of_some_owner(r, &table))
@@ -273,7 +273,7 @@ pub fn query_at_a_limit(r: &mut Random) -> Query {
         }
         6 => {
             let tasks = [1_000_000, 1_000_000, 1].repeat(r.one_of(&[1, 32, 33]) as usize);
-            plan_file(&many_windows(r), &tasks)
+            generate::plan_file(&many_windows(r), &tasks)
         }
         7 => {
             let numbers = MOST_NEW_NUMBERS - r.below(3);
@@ -286,11 +286,6 @@ pub fn query_at_a_limit(r: &mut Random) -> Query {
             Query::Plan(Form::WithSwitch, vec![byte; MOST_PLAN_BYTES as usize])
         }
     }
-}
-
-fn plan_file(table: &TableNumbers, tasks: &[u64]) -> Query {
-    let (form, numbers) = generate::plan_numbers(table, tasks);
-    Query::Plan(form, encode(&numbers))
 }
 
 /// The longest frame and in it the longest window, or one that is a tick shorter, of which a tick
@@ -354,7 +349,7 @@ mod tests {
     use crate::answer::{Answer, Reason, Refusal};
     use crate::edit::Kind;
     use crate::large;
-    use crate::numbers::Cursor;
+    use crate::numbers::{encode, Cursor};
     use crate::plan;
     use crate::query::{EditNumbers, ON_A_BOARD};
     use crate::stream;
