@@ -1,0 +1,256 @@
+"""The numbers of a page about a plan, all asked of the proved program: what the board gives, who gets which tick, and both curves. Where to ask is worked out
+from the plan; what is shown is answered."""
+
+import heapq
+
+from front import program
+from front.errors import Cannot, Refused
+from front.numbers import listed
+from front.progress import Progress
+
+JOBS = 4_096  # of a run
+LENGTH = 1_000_000  # the longest that can be asked for
+CURVE = 1_200  # lengths at which a curve is asked for: more can't be told apart in a picture
+RISES = 4_096  # lengths among which the smallest margin is looked for
+ENDLESS = (1_000_000, 1_000_000, 1_000_000)  # a task whose one job is never late in a run
+
+
+class Job:
+    """A job of the shown miss: what it was released with, its count in the run and the stretches of ticks that it was given."""
+
+    def __init__(self, release, task, work, deadline):
+        self.release, self.task, self.work, self.deadline = release, task, work, deadline
+        self.count, self.stretches = 0, []
+
+    @property
+    def numbers(self):
+        return [self.release, self.task, self.work]
+
+
+class Miss:
+    """The shown miss and its run: as many jobs and ticks of it as a run can have."""
+
+    def __init__(self, plan, line, columns, progress):
+        self.length, self.start, self.demand, self.supply = map(int, line.split()[2::2])
+        self.shown = self._shown_length(plan)
+        self.end = self.start + self.shown
+        self.jobs = self._released(plan)
+        self.late = self._run(plan)
+        _serve(plan, self, self.shown / columns, progress)
+
+    @property
+    def whole(self):
+        return self.shown == self.length
+
+    def _shown_length(self, plan):
+        """The longest that has no more jobs than a run."""
+        least, most = 1, self.length
+        while least < most:
+            middle = (least + most + 1) // 2
+            if sum(-(-middle // period) for _, period, _ in plan.group) <= JOBS:
+                least = middle
+            else:
+                most = middle - 1
+        return least
+
+    def _released(self, plan):
+        """Full jobs of every task at the start and each period after."""
+        return [
+            Job(release, task, work, release + deadline)
+            for release, task, work, deadline in sorted(
+                (release, task, work, deadline) for task, (work, period, deadline) in enumerate(plan.group) for release in range(self.start, self.end, period)
+            )
+        ]
+
+    def _run(self, plan):
+        """Runs the jobs; the job that is late at the end, None where the run is only a part."""
+        words = plan.ask(*_run_parts(plan, self.end, self.jobs)).split()
+        for job, count in zip(self.jobs, _counts(words)):
+            job.count = count
+        return self.jobs[int(words[4])] if words[0] == "MISSED" else None
+
+
+def _run_parts(plan, end, jobs, cut=None):
+    """The parts of a query that runs jobs up to an instant, the work of one cut if (job, work) is given."""
+    cut_job, cut_work = cut or (None, None)
+    numbers = [number for job in jobs for number in ([job.release, job.task, cut_work] if job is cut_job else job.numbers)]
+    return 9, plan.table, plan.tasks, end, listed(numbers), len(jobs)
+
+
+def _counts(words):
+    return [int(word) for word in words[words.index("BUFFER") + 1 :]]
+
+
+def _serve(plan, miss, finest, progress):
+    """Which ticks each job was given: tick w of a job is its count with its work cut to w. Works are halved until no gap as wide as a column of the picture is
+    left between two that are known; of the late job every gap is looked for."""
+    known = {job: {job.work: job.release + job.count if job.count else None} for job in miss.jobs}
+    wide = {job: 1 if job is miss.late else max(1, finest) for job in miss.jobs}
+    wanted = [(job, 1) for job in miss.jobs if job.work > 1 and not (job.count and job.count < finest)]
+    index = {job: at for at, job in enumerate(miss.jobs)}
+    while wanted:
+        queries = []
+        for job, work in wanted:
+            later = [instant for other, instant in known[job].items() if other > work and instant is not None]
+            end = min([miss.end, *later])
+            queries.append(plan.query(*_run_parts(plan, end, [other for other in miss.jobs if other.release < end], (job, work))))
+        progress.of += len(queries)
+        for (job, work), line in zip(wanted, program.ask(queries, progress)):
+            count = _counts(line.split())[index[job]]
+            known[job][work] = job.release + count if count else None
+        wanted = [(job, work) for job in miss.jobs for work in _between(known[job], wide[job])]
+    for job in miss.jobs:
+        job.stretches = _stretches(known[job], wide[job])
+
+
+def _between(known, wide):
+    """The works to ask for next: halfway between two that are known, where a gap lies between their ticks."""
+    works = sorted(known)
+    for low, high in zip(works, works[1:]):
+        if known[low] is None or high - low == 1:
+            continue
+        if known[high] is None and high - low >= wide or known[high] is not None and known[high] - known[low] - (high - low) >= wide:
+            yield (low + high) // 2
+
+
+def _stretches(known, wide):
+    """The ticks given, as stretches: from a first tick up to, but not including, an end."""
+    stretches = []
+    works = [work for work in sorted(known) if known[work] is not None]
+    for low, high in zip([None, *works], works):
+        if low is not None and known[high] - known[low] - (high - low) < wide:
+            stretches[-1] = (stretches[-1][0], known[high])
+        else:
+            first = known[high] - (1 if low is not None or high == 1 else high)
+            stretches.append((first, known[high]))
+    return stretches
+
+
+class Length:
+    """What the program says of one length."""
+
+    def __init__(self, length, supply, demand, margin):
+        self.length, self.supply, self.demand, self.margin = length, supply, demand, margin
+
+
+def at_lengths(plan, lengths, progress):
+    """Least supply, demand and margin at each length."""
+    queries = [query for t in lengths for query in (plan.query(1, plan.table, t), [5, *plan.tasks, t], plan.query(6, plan.table, plan.tasks, t))]
+    progress.of += len(queries)
+    amounts = [int(line.split()[1]) for line in program.ask(queries, progress)]
+    return [Length(t, *amounts[3 * at : 3 * at + 3]) for at, t in enumerate(lengths)]
+
+
+def rises(plan, most, count):
+    """The first lengths up to one at which the demand rises, as many as count, and whether these are all."""
+    waiting, found = [(deadline, period) for _, period, deadline in plan.group], []
+    heapq.heapify(waiting)
+    while waiting and waiting[0][0] <= most:
+        length, period = waiting[0]
+        if not found or found[-1] != length:
+            if len(found) == count:
+                return found, False
+            found.append(length)
+        heapq.heapreplace(waiting, (length + period, period))
+    return found, True
+
+
+def last_rises(plan, most, count):
+    """The last such lengths up to one."""
+    found = set()
+    for _, period, deadline in plan.group:
+        if deadline <= most:
+            last = most - (most - deadline) % period
+            found.update(range(last, max(deadline, last - count * period) - 1, -period))
+    return sorted(found)[-count:]
+
+
+class Curves:
+    """Least supply and demand from 0 to a little past the marked length; the marked length is the miss's, or the one with the smallest margin."""
+
+    def __init__(self, plan, miss, cycle, progress):
+        self.searched = True
+        if miss:
+            mark = miss.length
+        else:
+            mark = self._smallest(plan, cycle, progress)
+        self.marked = mark is not None
+        end = mark if self.marked else min(plan.frame, LENGTH)
+        self.end = min(end + max(2, end // 8), LENGTH)
+        self.every = self.end <= CURVE
+        lengths = range(self.end + 1) if self.every else sorted({*range(0, self.end + 1, -(-self.end // (CURVE // 2))), self.end, *((end - 1, end, end + 1) if self.end > end else (end,))})
+        self.lengths = at_lengths(plan, list(lengths), progress)
+        self.mark = next(length for length in self.lengths if length.length == end) if self.marked else None
+
+    def _smallest(self, plan, cycle, progress):
+        """The least length within a cycle at which the demand rises and the margin is smallest."""
+        found, self.searched = rises(plan, cycle, RISES)
+        if not found:
+            return None
+        self.searched_to = found[-1]
+        progress.of += len(found)
+        margins = [int(line.split()[1]) for line in program.ask([plan.query(6, plan.table, plan.tasks, t) for t in found], progress)]
+        return found[margins.index(min(margins))]
+
+
+def left_of_windows(plan):
+    """Of each of the owner's windows the first tick that the board gives, and the end; None for the tick where it gives none. One tick of work, released at the
+    window's start, is done in the first supplied tick from there on."""
+    own = [(start, end) for start, end, owner in plan.windows if owner == (plan.owner or 0)]
+    queries = [plan.query(9, plan.table, listed(ENDLESS), start + plan.frame, [3, start, 0, 1], 1) for start, _ in own]
+    firsts = [start + _counts(line.split())[0] - 1 for (start, _), line in zip(own, program.ask(queries))]
+    return [(start, first if first < end else None, end) for (start, end), first in zip(own, firsts)]
+
+
+class Story:
+    """Everything that a page shows about a plan."""
+
+    def __init__(self, plan, columns):
+        self.plan, self.miss, self.curves = plan, None, None
+        try:
+            plan.table  # what is no plan is refused as the program refuses it
+            self.line = plan.verdict()
+        except Refused as refused:
+            self.line = refused.line
+        if self.line.startswith("REFUSED"):
+            return
+        with Progress(0, "asking the proved program:") as progress:
+            self.left = left_of_windows(plan)
+            if self.line.startswith("MISS"):
+                self.miss = Miss(plan, self.line, columns, progress)
+                self.curves = Curves(plan, self.miss, None, progress)
+            else:
+                self.cycle = int(self.line.split()[2])
+                self.curves = Curves(plan, None, self.cycle, progress)
+            self.from_zero = self._from_zero() if self.curves.marked else None
+            self.rows, self.left_out = self._rows(progress)
+
+    @property
+    def stretches(self):
+        """The supplied stretches of one frame."""
+        return [(first, end) for _, first, end in self.left if first is not None]
+
+    def counted_from_zero(self, length):
+        """The supply of the first ticks from tick 0 on, which the wrong lesson compares with: counted from the stretches that the program named."""
+        frames, rest = divmod(length, self.plan.frame)
+        return sum(frames * (end - first) + max(0, min(end, rest) - first) for first, end in self.stretches)
+
+    def _from_zero(self):
+        """That supply at the marked length, confirmed by a run: so many ticks of work, released at tick 0, are done by then, and one more is not."""
+        length = self.curves.mark.length
+        amount = self.counted_from_zero(length)
+        jobs = [[0, 0, amount], [0, 1, 1]][amount == 0 :]
+        line = self.plan.ask(9, self.plan.table, listed(ENDLESS * 2), length + self.plan.frame, listed([number for job in jobs for number in job]), len(jobs))
+        *before, after = _counts(line.split())
+        if any(count > length for count in before) or after <= length:
+            raise Cannot("the supply from tick 0 is not what the program says")
+        return amount
+
+    def _rows(self, progress, first=8, last=16):
+        """The lengths at which the demand rises, up to the marked one: all, or the first and the last of them, and how many stand between, None if too many to count."""
+        most = self.curves.mark.length if self.curves.marked else 0
+        found, all_found = rises(self.plan, most, RISES)
+        if all_found and len(found) <= first + last:
+            return at_lengths(self.plan, found, progress), 0
+        shown = [*found[:first], *last_rises(self.plan, most, last)]
+        return at_lengths(self.plan, shown, progress), len(found) - len(shown) if all_found else None
