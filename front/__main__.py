@@ -1,10 +1,16 @@
-"""Runs the command."""
+"""Runs the command. Whatever goes wrong in it, no failure looks like an answer: status 1 is a miss."""
 
 import os
 import sys
+import traceback
 
 sys.path.insert(0, os.path.dirname(os.path.dirname(os.path.abspath(__file__))))
 
-from front.main import main  # noqa: E402
+try:
+    from front.main import main
 
-sys.exit(main(sys.argv[1:]))
+    status = main(sys.argv[1:])
+except Exception:
+    traceback.print_exc()
+    status = 3
+sys.exit(status)

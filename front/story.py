@@ -16,11 +16,15 @@ ENDLESS = (1_000_000, 1_000_000, 1_000_000)  # a task whose one job is never lat
 
 
 class Job:
-    """A job of the shown miss: what it was released with, its count in the run and the stretches of ticks that it was given."""
+    """A job of the shown miss: what it was released with, and its count in the run."""
 
     def __init__(self, release, task, work, deadline):
-        self.release, self.task, self.work, self.deadline = release, task, work, deadline
-        self.count, self.stretches = 0, []
+        self.release, self.task, self.work, self.deadline, self.count = release, task, work, deadline, 0
+
+    @property
+    def finished(self):
+        """The instant at which it is complete, None where it is not."""
+        return self.release + self.count if self.count else None
 
     @property
     def numbers(self):
@@ -28,7 +32,7 @@ class Job:
 
 
 class Miss:
-    """The shown miss and its run: as many jobs and ticks of it as a run can have."""
+    """The shown miss and its run: as many jobs and ticks of it as a run can have, and a closer view of its end where it is long."""
 
     def __init__(self, plan, line, columns, progress):
         self.length, self.start, self.demand, self.supply = map(int, line.split()[2::2])
@@ -36,7 +40,9 @@ class Miss:
         self.end = self.start + self.shown
         self.jobs = self._released(plan)
         self.late = self._run(plan)
-        _serve(plan, self, self.shown / columns, progress)
+        self.view = View(plan, self, self.start, columns, progress)
+        span = max(100, 8 * min(period for _, period, _ in plan.group))
+        self.close = View(plan, self, self.end - span, columns, progress) if 4 * span <= self.shown else None
 
     @property
     def whole(self):
@@ -81,48 +87,65 @@ def _counts(words):
     return [int(word) for word in words[words.index("BUFFER") + 1 :]]
 
 
-def _serve(plan, miss, finest, progress):
-    """Which ticks each job was given: tick w of a job is its count with its work cut to w. Works are halved until no gap as wide as a column of the picture is
-    left between two that are known; of the late job every gap is looked for."""
-    known = {job: {job.work: job.release + job.count if job.count else None} for job in miss.jobs}
-    wide = {job: 1 if job is miss.late else max(1, finest) for job in miss.jobs}
-    wanted = [(job, 1) for job in miss.jobs if job.work > 1 and not (job.count and job.count < finest)]
-    index = {job: at for at, job in enumerate(miss.jobs)}
-    while wanted:
-        queries = []
-        for job, work in wanted:
-            later = [instant for other, instant in known[job].items() if other > work and instant is not None]
-            end = min([miss.end, *later])
-            queries.append(plan.query(*_run_parts(plan, end, [other for other in miss.jobs if other.release < end], (job, work))))
-        progress.of += len(queries)
-        for (job, work), line in zip(wanted, program.ask(queries, progress)):
-            count = _counts(line.split())[index[job]]
-            known[job][work] = job.release + count if count else None
-        wanted = [(job, work) for job in miss.jobs for work in _between(known[job], wide[job])]
-    for job in miss.jobs:
-        job.stretches = _stretches(known[job], wide[job])
+class View:
+    """A part of the run, from a tick to its end, as finely as a picture of so many columns shows it: its jobs, and the stretches of ticks that each was given."""
+
+    def __init__(self, plan, miss, first, columns, progress):
+        self.first, self.end = first, miss.end
+        self.finest = max(1, 2 * (self.end - first) / columns if self.end - first > columns else 1)
+        self.jobs = [job for job in miss.jobs if job.finished is None or job.finished > first]
+        self._known = {job: {job.work: job.finished} for job in self.jobs}
+        self._ask(plan, miss, progress)
+        self.stretches = {job: _stretches(self._known[job], self.finest) for job in self.jobs}
+
+    def given(self, job):
+        """How many ticks a job was given: every one is looked for, however fine the picture is."""
+        return max((work for work, instant in self._known[job].items() if instant is not None), default=0)
+
+    @property
+    def exact(self):
+        return self.finest == 1
+
+    def _ask(self, plan, miss, progress):
+        """Tick w of a job is its count with its work cut to w. Works are halved until no gap as wide as the finest is left between two that are known."""
+        index = {job: at for at, job in enumerate(miss.jobs)}
+        wanted = [(job, 1) for job in self.jobs if job.work > 1 and (job.finished is None or job.count >= self.finest)]
+        while wanted:
+            queries = [self._cut(plan, miss, job, work) for job, work in wanted]
+            progress.of += len(queries)
+            for (job, work), line in zip(wanted, program.ask(queries, progress)):
+                count = _counts(line.split())[index[job]]
+                self._known[job][work] = job.release + count if count else None
+            wanted = [(job, work) for job in self.jobs for work in self._between(self._known[job])]
+
+    def _cut(self, plan, miss, job, work):
+        """The run with a job's work cut: it need not go on past an instant by which more of the work was done."""
+        end = min([miss.end, *(instant for other, instant in self._known[job].items() if other > work and instant is not None)])
+        return plan.query(*_run_parts(plan, end, [other for other in miss.jobs if other.release < end], (job, work)))
+
+    def _between(self, known):
+        """The works to ask for next: halfway between two that are known, where a gap lies between their ticks, or where the first is done and the second is not. What
+        was done before the view is not looked at."""
+        works = sorted(known)
+        for low, high in zip(works, works[1:]):
+            if high - low == 1 or known[low] is None:
+                continue
+            if known[high] is None or known[high] > self.first and known[high] - known[low] - (high - low) >= self.finest:
+                yield (low + high) // 2
 
 
-def _between(known, wide):
-    """The works to ask for next: halfway between two that are known, where a gap lies between their ticks."""
-    works = sorted(known)
-    for low, high in zip(works, works[1:]):
-        if known[low] is None or high - low == 1:
-            continue
-        if known[high] is None and high - low >= wide or known[high] is not None and known[high] - known[low] - (high - low) >= wide:
-            yield (low + high) // 2
-
-
-def _stretches(known, wide):
-    """The ticks given, as stretches: from a first tick up to, but not including, an end."""
-    stretches = []
-    works = [work for work in sorted(known) if known[work] is not None]
-    for low, high in zip([None, *works], works):
-        if low is not None and known[high] - known[low] - (high - low) < wide:
-            stretches[-1] = (stretches[-1][0], known[high])
+def _stretches(known, finest):
+    """The ticks given, as stretches: from a first tick up to, but not including, an end, and how many ticks of it were given. Gaps below the finest are in them."""
+    stretches, before = [], None
+    for work in sorted(work for work in known if known[work] is not None):
+        end = known[work]
+        if before is not None and end - known[before] - (work - before) < finest:
+            first, _, given = stretches.pop()
+            stretches.append((first, end, given + work - before))
         else:
-            first = known[high] - (1 if low is not None or high == 1 else high)
-            stretches.append((first, known[high]))
+            given = work if before is None else 1
+            stretches.append((end - given, end, given))
+        before = work
     return stretches
 
 
