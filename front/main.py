@@ -53,6 +53,7 @@ class Call:
 
     def __init__(self, arguments):
         self.word, self.operands, self.form, self.owner, self.flags = None, [], "", None, set()
+        self.misspelt = None  # the first argument, where it may have been meant for a word
         rest = list(arguments)
         while rest:
             argument = rest.pop(0)
@@ -64,6 +65,7 @@ class Call:
             elif self.word is None and not self.operands and argument in words.NAMES:
                 self.word = argument
             else:
+                self.misspelt = argument if self.word is None and not self.operands else self.misspelt
                 self.operands.append(argument)
 
     def _option(self, argument, rest):
@@ -197,10 +199,11 @@ def answer_stream(call):
     return 0
 
 
-def no_such_plan(name):
-    """A bare plan that is not there may be a misspelt word."""
-    word = nearest(name, words.NAMES)
-    return f"{name}: no such file, and no word; the nearest word is {word}" if word else None
+def check_spelling(argument):
+    """A plan that is not there may be a misspelt word."""
+    word = nearest(argument, words.NAMES)
+    if word and not os.path.lexists(argument):
+        raise Cannot(f"{argument}: no such file, and no word; the nearest word is {word}")
 
 
 def perform(arguments):
@@ -210,8 +213,8 @@ def perform(arguments):
         return 0
     if "ask" in call.flags:
         return answer_stream(call)
-    if call.word is None and call.operands and not os.path.lexists(call.operands[0]) and no_such_plan(call.operands[0]):
-        raise Cannot(no_such_plan(call.operands[0]))
+    if call.misspelt:
+        check_spelling(call.misspelt)
     if call.word is None and len(call.operands) > 1:
         raise Cannot("one plan at a time; `palikudyom check` takes several")
     word = words.load(call.word or "check")

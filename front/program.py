@@ -41,7 +41,7 @@ def _build():
         except OSError:
             raise Cannot("the Rattle kit's rt is not on the path, and the program is not built") from None
         while check.poll() is None:
-            progress.show(f"proving and building the program, once; this takes some minutes: {time.monotonic() - started:.0f} s")
+            progress.show(f"proving and building the program, once, some minutes: {time.monotonic() - started:.0f} s")
             time.sleep(0.2)
     if check.returncode != 0:
         raise Cannot(f"it could not be built: see {log}")
