@@ -106,8 +106,7 @@ def usage():
 
 def word_usage(name):
     word = words.load(name)
-    several = " .." if words.several(word) else ""
-    return f"usage: palikudyom [OPTION ..] {words.form(name).replace(' PLAN', '').replace(' ..', '')} [PLAN{several}]\n{word.HELP.strip()}"
+    return f"usage: palikudyom [OPTION ..] {' '.join([name, *word.ARGUMENTS])} [{words.operand(word)}]\n{word.HELP.strip()}"
 
 
 def arguments_of(name, operands):
@@ -152,6 +151,8 @@ def tell_about(call, word, name, arguments, named):
     if is_text and call.form:
         raise Cannot(f"--{call.form} is for a plan file; a text says `shortest TICKS` and `lose TICKS`")
     plan = Plan(name, is_text, call.form, call.owner)
+    if hasattr(word, "read"):
+        arguments = [word.read(plan, *arguments)]
     given = answer(word, plan, arguments)
     prefix = f"{name}: " if named else ""
     output = given.output
@@ -215,6 +216,8 @@ def perform(arguments):
         return answer_stream(call)
     if call.misspelt:
         check_spelling(call.misspelt)
+    if not arguments and sys.stdin is not None and sys.stdin.isatty():
+        raise Cannot(f"which plan?\n{usage()}")
     if call.word is None and len(call.operands) > 1:
         raise Cannot("one plan at a time; `palikudyom check` takes several")
     word = words.load(call.word or "check")

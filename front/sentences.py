@@ -5,6 +5,10 @@ def ticks(count):
     return "1 tick" if count == 1 else f"{count} ticks"
 
 
+def are(count):
+    return "is" if count == 1 else "are"
+
+
 def whose(plan, before=" of"):
     """The asked owner, where one is asked for."""
     return "" if plan.owner is None else f"{before} owner {plan.owner}"
@@ -26,10 +30,10 @@ def verdict(plan, line):
     words = line.split()
     if words[0] == "MEETS":
         return f"Every deadline{whose(plan)} is met: at no length does the demand exceed the least supply. Table and tasks repeat after {words[2]} ticks."
-    length, start, demand, supply = words[2::2]
+    length, start, demand, supply = map(int, words[2::2])
     its = "" if plan.owner is None else " of its"
     return (
-        f"In the {length} ticks from tick {start} of a frame, {supply} are supplied{whose(plan, ' to')}. Jobs of every task{its} released in full at that tick, "
+        f"In the {ticks(length)} from tick {start} of a frame, {supply} {are(supply)} supplied{whose(plan, ' to')}. Jobs of every task{its} released in full at that tick, "
         f"and each period after, need {demand} of them by the end.{loss(plan)}"
     )
 

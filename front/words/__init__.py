@@ -10,6 +10,7 @@ A word has
 and, where they differ from the others',
   SEVERAL     False where it takes one plan
   TEXT        True where the plan is always a text, False where it is never one
+  read(plan, file)   what its file has, in place of the file's name: a pipe can be read once
   refused(plan, number, place, ..)   the sentence of a refusal that is not the plan's, else None
 """
 
@@ -31,9 +32,14 @@ def several(word):
 
 
 def form(name):
-    """The word with its arguments and a plan."""
+    """The word with its arguments and what it reads."""
     word = load(name)
-    return " ".join([name, *word.ARGUMENTS, "PLAN .." if several(word) else "PLAN"])
+    return " ".join([name, *word.ARGUMENTS, operand(word)])
+
+
+def operand(word):
+    """What a word is asked about."""
+    return ("TEXT" if getattr(word, "TEXT", False) else "PLAN") + (" .." if several(word) else "")
 
 
 def ordered():

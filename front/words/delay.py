@@ -1,6 +1,7 @@
 """The delay (document 01, "Supply and demand")."""
 
 from front import sentences
+from front.sentences import are, ticks
 
 TOPIC = "the table"
 ARGUMENTS = ()
@@ -18,8 +19,8 @@ def answer(plan):
 
 
 def tell(plan, lines):
-    _, delay, _, amount = lines[0].split()
+    delay, amount = map(int, lines[0].split()[1::2])
     return (
-        f"Of {plan.frame} ticks {amount} are supplied{sentences.whose(plan, ' to')}. The delay is {delay}/{amount} of a tick: in any ticks in a row at least as many are supplied "
-        f"as an even share would give in {delay}/{amount} ticks less.{sentences.loss(plan)}"
+        f"Of {ticks(plan.frame)} {amount} {are(amount)} supplied{sentences.whose(plan, ' to')}. The delay is {delay}/{amount} ticks: in any ticks in a row at least as many are supplied "
+        f"as an even share gives in {delay}/{amount} ticks less.{sentences.loss(plan)}"
     )

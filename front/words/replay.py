@@ -58,20 +58,22 @@ class Record:
         self.index, self.release, self.task, self.instant, self.work = index, release, task, instant, work
 
 
-def answer(plan, name):
-    trace = Trace(name, plan.text is not None)
+def read(plan, name):
+    return Trace(name, plan.text is not None)
+
+
+def answer(plan, trace):
     numbers = [*plan.table, *plan.tasks]
     line = program.replay(plan.board[1:], numbers, trace.bytes)
     if line is None:
         left = program.ROOM - len(encode([*plan.board[1:], *numbers]))
         if len(trace.bytes) > left:
-            raise Cannot(f"{name}: a trace of more than {left} bytes can't be replayed on this plan")
-        raise Cannot(f"{name}: not replayed")
+            raise Cannot(f"{trace.name}: a trace of more than {left} bytes can't be replayed on this plan")
+        raise Cannot(f"{trace.name}: not replayed")
     return [line]
 
 
-def tell(plan, lines, name):
-    trace = Trace(name, plan.text is not None)
+def tell(plan, lines, trace):
     words = lines[0].split()
     if words[0] == "SAME":
         if trace.bytes:
@@ -112,11 +114,10 @@ def _differs(plan, trace, words):
     return trace.about(record, f"record {record.index}: the board finished task {task} at tick {instant}; by the rules {rules}.{sentences.loss(plan)}")
 
 
-def refused(plan, number, place, name):
+def refused(plan, number, place, trace):
     """What is no plan is refused before the trace is looked at."""
     if number not in (9, 10, 11) or not plan.is_read():
         return None
-    trace = Trace(name, plan.text is not None)
     if number == 9:
         return sentences.damage("trace", place, "a record's kind is neither 0 nor 1")
     return _oversize(trace) if number == 10 else _broken(trace, trace.records[place])

@@ -35,10 +35,13 @@ class Jobs:
         return [number for line in self.lines[:count] for number in line.numbers]
 
 
-def answer(plan, name):
+def read(plan, name):
+    return Jobs(name)
+
+
+def answer(plan, jobs):
     """A list whose numbers fill more than a stream has a job that is not legal among the first: a legal one takes seven bytes at most. Then the first alone are
     asked, and the lowest job that breaks a rule is one of them."""
-    jobs = Jobs(name)
     count = min(len(jobs.lines), JOBS_KEPT)
     room = count
     query = _query(plan, jobs, count, room)
@@ -49,7 +52,7 @@ def answer(plan, name):
     if line.startswith("REFUSED"):
         return [" ".join(line.split()[:4])]
     if count < len(jobs.lines):
-        raise Cannot(f"{name}: a job list that the program can't be asked")
+        raise Cannot(f"{jobs.text.name}: a job list that the program can't be asked")
     return [line]
 
 
@@ -57,7 +60,7 @@ def _query(plan, jobs, count, room):
     return plan.query(9, plan.table, plan.tasks, jobs.ticks, listed(jobs.numbers(count)), room)
 
 
-def tell(plan, lines, name):
+def tell(plan, lines, jobs):
     words = lines[0].split()
     if words[0] == "MET":
         backlog = words[2]
@@ -66,14 +69,13 @@ def tell(plan, lines, name):
             f"its ticks from release to completion, 0 where it is unfinished at the end.{sentences.loss(plan)}"
         )
     instant, job = words[2], int(words[4])
-    line = Jobs(name).lines[job]
+    line = jobs.lines[job]
     release, task, _ = line.numbers
-    where = sentences.stands_at(Jobs(name).text, line, f"job {job} (task {task}, released at tick {release}) is not finished at its deadline, tick {instant}")
+    where = sentences.stands_at(jobs.text, line, f"job {job} (task {task}, released at tick {release}) is not finished at its deadline, tick {instant}")
     return f"{where}; the run ends there. Jobs and tasks are counted from 0.{sentences.loss(plan)}"
 
 
-def refused(plan, number, place, name):
-    jobs = Jobs(name)
+def refused(plan, number, place, jobs):
     if number == 10:
         if len(jobs.lines) > 4_096:
             return sentences.stands_at(jobs.text, jobs.lines[4_096], "this is one job more than the 4,096 that a run has at most.")

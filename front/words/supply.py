@@ -1,7 +1,7 @@
 """The least supply of a length (document 01, "Supply and demand")."""
 
 from front import sentences
-from front.sentences import ticks
+from front.sentences import are, ticks
 
 TOPIC = "the table"
 ARGUMENTS = ("LENGTH",)
@@ -20,7 +20,7 @@ def answer(plan, length):
 
 def tell(plan, lines, length):
     amount = int(lines[0].split()[1])
-    return f"Any {ticks(length)} in a row hold at least {amount} that are supplied{sentences.whose(plan, ' to')}, and some hold no more.{sentences.loss(plan)}"
+    return f"Of any {ticks(length)} in a row at least {amount} {are(amount)} supplied{sentences.whose(plan, ' to')}, and of some no more.{sentences.loss(plan)}"
 
 
 def refused(plan, number, place, length):
