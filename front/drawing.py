@@ -1,5 +1,6 @@
 """Parts of a picture in SVG: elements, scales, axes. Colours and patterns are classes that the page's style gives a light and a dark scheme."""
 
+import itertools
 from xml.sax.saxutils import escape, quoteattr
 
 DIGIT = 7.0  # the width of a character of an axis label, at most, in the picture's units
@@ -68,30 +69,25 @@ class Scale:
         return (low, high) if low < high else None
 
 
-def step_for(unit, largest):
-    """The least of 1, 2, 5, 10 and so on whose labels stand clear of each other."""
-    room = DIGIT * len(f"{largest:,}") + 12
-    step, digits = 1, (2, 2.5, 2)
-    turn = 0
+def label_width(number):
+    return DIGIT * len(f"{number:,}")
+
+
+def marks(first, last, unit, room=None):
+    """The numbers of an axis that get a label: multiples of the least of 1, 2, 5, 10 and so on that leaves each so much room, else its own width."""
+    room = room or label_width(last) + 12
+    step, factors = 1, itertools.cycle((2, 2.5, 2))
     while step * unit < room:
-        step = int(step * digits[turn % 3])
-        turn += 1
-    return step
-
-
-def marks(scale):
-    """The numbers of an axis that get a label."""
-    step = step_for(abs(scale.unit), scale.last)
-    return range(-(-scale.first // step) * step, scale.last + 1, step)
+        step = int(step * next(factors))
+    return range(-(-first // step) * step, last + 1, step)
 
 
 def ticks_axis(scale, y):
     """Numbers of ticks: in the middle of each where there is room, else at the start of some."""
-    room = DIGIT * len(f"{scale.last:,}") + 6
-    if scale.unit >= room:
+    if scale.unit >= label_width(scale.last) + 6:
         return "".join(text(scale.at(tick + 0.5), y + 14, f"{tick:,}", anchor="middle") for tick in range(scale.first, scale.last))
     parts = []
-    for tick in marks(scale):
+    for tick in marks(scale.first, scale.last, scale.unit):
         parts.append(line(scale.at(tick), y, scale.at(tick), y + 4, "axis"))
         parts.append(text(scale.at(tick), y + 16, f"{tick:,}", anchor="middle"))
     return "".join(parts)

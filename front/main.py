@@ -1,28 +1,16 @@
-"""The command: options, a word, its arguments, plans; then the word's lines on standard output, sentences on standard error, an exit status."""
+"""The command: a word's lines on standard output, sentences on standard error, an exit status."""
 
 import os
 import sys
 
 from front import program, sentences, words
 from front.answers import Answer
+from front.calls import Call, arguments_of, check_spelling, usage, word_usage
 from front.errors import BadLine, Cannot, Refused
-from front.numbers import MOST, written
 from front.plans import Plan
 from front.progress import Progress
 
 CANNOT = 3
-
-OPTIONS = """\
-  --text            the plan and the trace are texts: `palikudyom plan --help`
-  --with-shortest, --with-rule    how the plan file begins: `.. text --help`
-  --owner N         for owner N, its own windows and tasks; else for owner 0
-  --quiet, -q       no sentence on standard error;   --  no more options, words
-  --ask < STREAM    answers a stream of queries: docs/ASK.md
-exit status: 0 answered, 1 a miss, 2 refused, 3 it could not be asked"""
-
-FLAGS = {"--help": "help", "-h": "help", "--quiet": "quiet", "-q": "quiet", "--text": "text", "--ask": "ask"}
-FORM_OPTIONS = ("--with-shortest", "--with-rule")
-
 
 def say(message):
     if sys.stderr is not None:
@@ -39,90 +27,6 @@ def write(data):
     except OSError as error:
         sys.stdout = None  # what is left in it can't be written either
         raise Cannot(f"standard output can't be written: {error.strerror}") from None
-
-
-def nearest(word, known):
-    """The known word that a misspelt one is most like, None where none is like it."""
-    import difflib
-
-    return next(iter(difflib.get_close_matches(word, known, 1, 0.6)), None)
-
-
-class Call:
-    """What the command was called with. Options may stand anywhere before `--`; the first other argument may be a word."""
-
-    def __init__(self, arguments):
-        self.word, self.operands, self.form, self.owner, self.flags = None, [], "", None, set()
-        self.misspelt = None  # the first argument, where it may have been meant for a word
-        rest = list(arguments)
-        while rest:
-            argument = rest.pop(0)
-            if argument == "--":
-                self.operands += rest
-                break
-            if argument.startswith("-") and argument != "-":
-                self._option(argument, rest)
-            elif self.word is None and not self.operands and argument in words.NAMES:
-                self.word = argument
-            else:
-                self.misspelt = argument if self.word is None and not self.operands else self.misspelt
-                self.operands.append(argument)
-
-    def _option(self, argument, rest):
-        name, equals, value = argument.partition("=")
-        if argument in FLAGS:
-            self.flags.add(FLAGS[argument])
-        elif name == "--owner":
-            self.owner = whole("--owner", value if equals else rest.pop(0) if rest else "")
-        elif argument in FORM_OPTIONS:
-            if self.form not in ("", argument[2:]):
-                raise Cannot("a plan file has one form: --with-shortest or --with-rule")
-            self.form = argument[2:]
-        else:
-            known = nearest(argument, [*FLAGS, *FORM_OPTIONS, "--owner"])
-            raise Cannot(f"no option {argument}; " + (f"the nearest is {known}" if known else "see palikudyom --help"))
-
-
-def whole(name, value):
-    """An argument that is a number."""
-    number = written(value)
-    if number is None or number > MOST:
-        raise Cannot(f"{name} takes a whole number up to {MOST}" + (f", not `{value}`" if value else ""))
-    return number
-
-
-def usage():
-    lines = [f"  {words.form(word):<21} {words.load(word).SUMMARY}" for word in words.ordered()]
-    return "\n".join(
-        [
-            "usage: palikudyom [OPTION ..] [WORD [ARGUMENT]] [PLAN ..]",
-            "Does a group of tasks meet its deadlines on a table of time windows? PLAN is",
-            "standard input if - or left out. `palikudyom WORD --help` shows an example.",
-            *lines,
-            OPTIONS,
-        ]
-    )
-
-
-def word_usage(name):
-    word = words.load(name)
-    return f"usage: palikudyom [OPTION ..] {' '.join([name, *word.ARGUMENTS])} [{words.operand(word)}]\n{word.HELP.strip()}"
-
-
-def arguments_of(name, operands):
-    """A word's arguments, and the plans after them."""
-    word, values = words.load(name), []
-    count = len(word.ARGUMENTS)
-    for argument, value in zip(word.ARGUMENTS, operands):
-        if argument in words.NUMBERS:
-            value = whole(argument, value)
-        elif value == "-":
-            raise Cannot(f"the {words.FILES[argument]} is a file; standard input is for the plan")
-        values.append(value)
-    if len(values) < count:
-        missing = word.ARGUMENTS[len(values)]
-        raise Cannot(f"which {words.FILES.get(missing, missing.lower())}? {name} {' '.join(word.ARGUMENTS)} [PLAN]")
-    return values, operands[count:] or ["-"]
 
 
 def answer(word, plan, arguments):
@@ -198,13 +102,6 @@ def answer_stream(call):
     if message:
         raise Cannot(message)
     return 0
-
-
-def check_spelling(argument):
-    """A plan that is not there may be a misspelt word."""
-    word = nearest(argument, words.NAMES)
-    if word and not os.path.lexists(argument):
-        raise Cannot(f"{argument}: no such file, and no word; the nearest word is {word}")
 
 
 def perform(arguments):

@@ -4,6 +4,7 @@ from the plan; what is shown is answered."""
 import heapq
 
 from front import program
+from front.answers import Answer
 from front.errors import Cannot, Refused
 from front.numbers import listed
 from front.progress import Progress
@@ -12,6 +13,7 @@ JOBS = 4_096  # of a run
 LENGTH = 1_000_000  # the longest that can be asked for
 CURVE = 1_200  # lengths at which a curve is asked for: more can't be told apart in a picture
 RISES = 4_096  # lengths among which the smallest margin is looked for
+FIRST_ROWS, LAST_ROWS = 8, 16  # of the table, where not all lengths are in it
 ENDLESS = (1_000_000, 1_000_000, 1_000_000)  # a task whose one job is never late in a run
 
 
@@ -235,7 +237,8 @@ class Story:
             self.line = plan.verdict()
         except Refused as refused:
             self.line = refused.line
-        if self.line.startswith("REFUSED"):
+        self.refused = Answer([self.line]).refused
+        if self.refused:
             return
         with Progress(0, "asking the proved program:") as progress:
             self.left = left_of_windows(plan)
@@ -269,11 +272,11 @@ class Story:
             raise Cannot("the supply from tick 0 is not what the program says")
         return amount
 
-    def _rows(self, progress, first=8, last=16):
+    def _rows(self, progress):
         """The lengths at which the demand rises, up to the marked one: all, or the first and the last of them, and how many stand between, None if too many to count."""
         most = self.curves.mark.length if self.curves.marked else 0
         found, all_found = rises(self.plan, most, RISES)
-        if all_found and len(found) <= first + last:
+        if all_found and len(found) <= FIRST_ROWS + LAST_ROWS:
             return at_lengths(self.plan, found, progress), 0
-        shown = [*found[:first], *last_rises(self.plan, most, last)]
+        shown = [*found[:FIRST_ROWS], *last_rises(self.plan, most, LAST_ROWS)]
         return at_lengths(self.plan, shown, progress), len(found) - len(shown) if all_found else None

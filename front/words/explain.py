@@ -2,6 +2,7 @@
 
 from front import page, sentences
 from front.answers import Answer
+from front.pictures import COLUMNS
 from front.story import Story
 
 TOPIC = "the verdict"
@@ -18,9 +19,8 @@ a wrong lesson draws, and a table. The exit status is that of `palikudyom check`
 
 
 def answer(plan):
-    story = Story(plan, page.COLUMNS)
-    refused = Answer([story.line]).refused
-    told = sentences.refusal(plan, *refused) if refused else sentences.verdict(plan, story.line)
+    story = Story(plan, COLUMNS)
+    told = sentences.refusal(plan, *story.refused) if story.refused else sentences.verdict(plan, story.line)
     return Answer([story.line], page.written(story, told).encode())
 
 
