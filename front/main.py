@@ -12,6 +12,7 @@ from front.progress import Progress
 
 CANNOT = 3
 
+
 def say(message):
     if sys.stderr is not None:
         print(message, file=sys.stderr, flush=True)
