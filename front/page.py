@@ -56,7 +56,10 @@ def _figure(drawn, *captions):
 
 
 def _key(entries):
-    samples = [element("li", element("svg", sample, viewBox="0 0 28 14", aria_hidden="true", xmlns="http://www.w3.org/2000/svg") + escape(words)) for sample, words in entries]
+    samples = [
+        element("li", element("svg", sample, viewBox="0 0 28 14", aria_hidden="true", xmlns="http://www.w3.org/2000/svg") + escape(words))
+        for sample, words in entries
+    ]
     return element("ul", *samples, class_="key")
 
 
@@ -70,7 +73,9 @@ def _row(cells, marked, *more):
 
 
 def _frame_section(story):
-    described = f"Of the {_ticks(story.plan.frame)} of a frame these are supplied{whose(story.plan, ' to')}: {_counted(story.stretches, 8)}. Then the frame repeats."
+    described = (
+        f"Of the {_ticks(story.plan.frame)} of a frame these are supplied{whose(story.plan, ' to')}: {_counted(story.stretches, 8)}. Then the frame repeats."
+    )
     return element("section", element("h2", "The frame"), _figure(pictures.frame(story, described), described))
 
 
@@ -107,7 +112,9 @@ def _jobs_table(story):
         given = [element("td", escape(_counted([(first, end) for first, end, _ in view.stretches[job]], 4) or "none"), class_="words")] if view.exact else []
         rows.append(_row([job.task, f"{job.release:,}", f"{job.deadline:,}", f"{job.work:,}", finished], job is miss.late, *given))
     part = f", the last {len(rows)} of {len(due):,}" if len(rows) < len(due) else ""
-    return _table(f"The jobs that are due by tick {miss.end:,}{part}.", ["task", "released", "due", "work", "finished at", *(["ticks given"] if view.exact else [])], rows)
+    return _table(
+        f"The jobs that are due by tick {miss.end:,}{part}.", ["task", "released", "due", "work", "finished at", *(["ticks given"] if view.exact else [])], rows
+    )
 
 
 def _curve_section(story):
@@ -124,7 +131,11 @@ def _curves_told(story):
             f"At length {mark.length:,} the demand is {mark.demand:,} and the least supply {mark.supply:,}, in the {_ticks(mark.length)} from tick {story.miss.start:,} of a frame. "
             f"At every shorter length the demand is covered."
         )
-    where = f"within the cycle of {_ticks(story.cycle)}" if curves.searched else f"up to length {curves.searched_to:,}, a part of the cycle of {_ticks(story.cycle)}"
+    where = (
+        f"within the cycle of {_ticks(story.cycle)}"
+        if curves.searched
+        else f"up to length {curves.searched_to:,}, a part of the cycle of {_ticks(story.cycle)}"
+    )
     return (
         f"At no length is the demand above the least supply. Of the lengths at which the demand rises {where}, the margin is smallest at length {mark.length:,}: "
         f"demand {mark.demand:,}, least supply {mark.supply:,}, margin {mark.margin:,}."
@@ -152,7 +163,9 @@ def _rises_section(story):
             rows.append(element("tr", element("td", words, colspan=4, class_="words")))
         cells = (f"{number:,}".replace("-", "\u2212") for number in (here.length, here.demand, here.supply, here.margin))
         rows.append(_row(cells, here.length == mark.length))
-    caption = f"The lengths at which the demand rises, up to length {mark.length:,}, where " + ("it is above the least supply." if story.miss else "the margin is smallest.")
+    caption = f"The lengths at which the demand rises, up to length {mark.length:,}, where " + (
+        "it is above the least supply." if story.miss else "the margin is smallest."
+    )
     return element("section", element("h2", "Where the demand rises"), _table(caption, ["length", "demand", "least supply", "margin"], rows))
 
 

@@ -14,7 +14,12 @@ NAMED = 64  # points of a frame that leave room for its name
 def frame(story, described):
     """The windows over one frame."""
     scale = Scale(0, story.plan.frame, LEFT, WIDTH - RIGHT)
-    parts = [hatch("lost-frame", "hatched-given"), text(LEFT - 8, 31, "supplied", anchor="end"), _supply_lane(story, scale, 12, 30, "lost-frame"), ticks_axis(scale, 44)]
+    parts = [
+        hatch("lost-frame", "hatched-given"),
+        text(LEFT - 8, 31, "supplied", anchor="end"),
+        _supply_lane(story, scale, 12, 30, "lost-frame"),
+        ticks_axis(scale, 44),
+    ]
     return picture("frame", WIDTH, 72, "The windows over one frame", described, *parts), _supply_key(story, "lost-frame"), []
 
 
@@ -49,7 +54,12 @@ def run(story, view, name, title, described):
     top, lanes = 24, 58
     bottom = lanes + LANE * len(plan.group)
     pattern = f"lost-{name}"
-    parts = [hatch(pattern, "hatched-given"), text(LEFT - 8, top + 19, "supplied", anchor="end"), _supply_lane(story, scale, top, 28, pattern), _frame_borders(story, scale, top, bottom)]
+    parts = [
+        hatch(pattern, "hatched-given"),
+        text(LEFT - 8, top + 19, "supplied", anchor="end"),
+        _supply_lane(story, scale, top, 28, pattern),
+        _frame_borders(story, scale, top, bottom),
+    ]
     numbers = [" · ".join(f"{number:,}" for number in task) for task in plan.group]
     numbered = max(map(len, numbers)) * SMALL <= LEFT - 12
     close = [task for task, (_, period, _) in enumerate(plan.group) if period * scale.unit < BESIDE]
@@ -183,7 +193,14 @@ def _wrong_steps(story, shown, scale, height):
 def _short_of(shown, scale, height):
     """Where the demand is above the least supply."""
     return "".join(
-        box(scale.at(here.length), height.at(here.demand), (end - here.length) * scale.unit, height.at(here.supply) - height.at(here.demand), "short", fill="url(#short)")
+        box(
+            scale.at(here.length),
+            height.at(here.demand),
+            (end - here.length) * scale.unit,
+            height.at(here.supply) - height.at(here.demand),
+            "short",
+            fill="url(#short)",
+        )
         for here, end in _with_ends(shown, scale)
         if here.demand > here.supply
     )

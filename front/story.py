@@ -203,7 +203,11 @@ class Curves:
         end = mark if self.marked else min(plan.frame, LENGTH)
         self.end = min(end + max(2, end // 8), LENGTH)
         self.every = self.end <= CURVE
-        lengths = range(self.end + 1) if self.every else sorted({*range(0, self.end + 1, -(-self.end // (CURVE // 2))), self.end, *((end - 1, end, end + 1) if self.end > end else (end,))})
+        lengths = (
+            range(self.end + 1)
+            if self.every
+            else sorted({*range(0, self.end + 1, -(-self.end // (CURVE // 2))), self.end, *((end - 1, end, end + 1) if self.end > end else (end,))})
+        )
         self.lengths = at_lengths(plan, list(lengths), progress)
         self.mark = next(length for length in self.lengths if length.length == end) if self.marked else None
 
