@@ -2,6 +2,7 @@
 
 import os
 import platform
+import shutil
 import subprocess
 import sys
 import time
@@ -32,14 +33,13 @@ def _build():
         return INSTALLED
     if os.access(BUILT, os.X_OK) and not _newer_than(BUILT):
         return BUILT
+    if not shutil.which("rt"):
+        raise Cannot("the Rattle kit's rt is not on the path, and the program is not built")
     log = os.path.join(TOP, "target", "palikudyom.log")
     os.makedirs(os.path.dirname(log), exist_ok=True)
     started = time.monotonic()
     with open(log, "wb") as out, Progress() as progress:
-        try:
-            check = subprocess.Popen(["rt", "check", "palikudyom"], cwd=TOP, stdin=subprocess.DEVNULL, stdout=out, stderr=out)
-        except OSError:
-            raise Cannot("the Rattle kit's rt is not on the path, and the program is not built") from None
+        check = subprocess.Popen(["rt", "check", "palikudyom"], cwd=TOP, stdin=subprocess.DEVNULL, stdout=out, stderr=out)
         while check.poll() is None:
             progress.show(f"proving and building the program, once, some minutes: {time.monotonic() - started:.0f} s")
             time.sleep(0.2)
@@ -66,9 +66,12 @@ def _start(arguments, **streams):
         program = _build()
         _command.extend([*_loader(), program])
     try:
-        return subprocess.run([*_command, *arguments], stdout=subprocess.PIPE, stderr=subprocess.PIPE, **streams)
+        done = subprocess.run([*_command, *arguments], stdout=subprocess.PIPE, stderr=subprocess.PIPE, **streams)
     except OSError as error:
         raise Cannot(f"the program can't be run: {error.strerror}") from None
+    if done.returncode != 0:  # a proved program always ends with 0: it was not started, or was ended
+        raise Cannot(f"the program can't be run: {done.stderr.decode().strip() or f'status {done.returncode}'}")
+    return done
 
 
 def _lines(done):
