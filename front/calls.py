@@ -12,7 +12,7 @@ OPTIONS = """\
   --owner N         for owner N, its own windows and tasks; else for owner 0
   --quiet, -q       no sentence on standard error;   --  no more options, words
   --ask < STREAM    answers a stream of queries: docs/ASK.md
-exit status: 0 answered, 1 a miss, 2 refused, 3 it could not be asked"""
+exit status: 0 answered, 1 a miss or a difference, 2 refused, 3 not asked"""
 
 FLAGS = {"--help": "help", "-h": "help", "--quiet": "quiet", "-q": "quiet", "--text": "text", "--ask": "ask"}
 FORM_OPTIONS = ("--with-shortest", "--with-rule")
@@ -30,7 +30,7 @@ class Call:
             if argument == "--":
                 self.operands += rest
                 break
-            if argument.startswith("-") and argument != "-":
+            if argument.startswith("-") and not argument[1:].isdigit() and argument != "-":
                 self._option(argument, rest)
             elif self.word is None and not self.operands and argument in words.NAMES:
                 self.word = argument
@@ -85,9 +85,13 @@ def nearest(word, known):
 
 
 def check_spelling(argument):
-    """A plan that is not there may be a misspelt word."""
-    word = nearest(argument, words.NAMES)
-    if word and not os.path.lexists(argument):
+    """A plan that is not there may be a misspelt word; a name with a dot or a slash is a file's."""
+    if os.path.lexists(argument) or "." in argument or "/" in argument:
+        return
+    if argument.lower() == "help":
+        raise Cannot("say palikudyom --help, or palikudyom WORD --help")
+    word = nearest(argument.lower(), words.NAMES)
+    if word:
         raise Cannot(f"{argument}: no such file, and no word; the nearest word is {word}")
 
 

@@ -5,6 +5,10 @@ class Cannot(Exception):
     """It could not be asked: exit status 3, and the message says why."""
 
 
+class CannotWrite(Cannot):
+    """Standard output is closed or full: no other plan can be answered either."""
+
+
 class BadLine(Cannot):
     """A line of a text that can't be read; the message begins with its place."""
 

@@ -6,7 +6,7 @@ import sys
 from front import program, sentences, words
 from front.answers import Answer
 from front.calls import Call, arguments_of, check_spelling, usage, word_usage
-from front.errors import BadLine, Cannot, Refused
+from front.errors import BadLine, Cannot, CannotWrite, Refused
 from front.plans import Plan
 from front.progress import Progress
 
@@ -14,8 +14,12 @@ CANNOT = 3
 
 
 def say(message):
+    """A sentence for people. Where nobody can read it, the answer and its status stand all the same."""
     if sys.stderr is not None:
-        print(message, file=sys.stderr, flush=True)
+        try:
+            os.write(sys.stderr.fileno(), f"{message}\n".encode("utf-8", "backslashreplace"))
+        except OSError:
+            pass
 
 
 def write(data):
@@ -27,7 +31,7 @@ def write(data):
         sys.stdout.buffer.flush()
     except OSError as error:
         sys.stdout = None  # what is left in it can't be written either
-        raise Cannot(f"standard output can't be written: {error.strerror}") from None
+        raise CannotWrite(f"standard output can't be written: {error.strerror}") from None
 
 
 def answer(word, plan, arguments):
@@ -47,15 +51,20 @@ def told(word, plan, given, arguments):
     return own or sentences.refusal(plan, *given.refused)
 
 
-def tell_about(call, word, name, arguments, named):
-    """Asks the word about one plan and gives the answer; the exit status."""
-    is_text = getattr(word, "TEXT", None)
-    if is_text is False and "text" in call.flags:
+def reads_text(call, word):
+    """Whether the plan is a text: a word may always or never read one."""
+    always = getattr(word, "TEXT", None)
+    if always is False and "text" in call.flags:
         raise Cannot(f"`{call.word}` reads a plan file, and --text says that it is a text")
-    is_text = is_text or "text" in call.flags
+    is_text = bool(always) or "text" in call.flags
     if is_text and call.form:
         raise Cannot(f"--{call.form} is for a plan file; a text says `shortest TICKS` and `lose TICKS`")
-    plan = Plan(name, is_text, call.form, call.owner)
+    return is_text
+
+
+def tell_about(call, word, name, arguments, named):
+    """Asks the word about one plan and gives the answer; the exit status."""
+    plan = Plan(name, reads_text(call, word), call.form, call.owner)
     if hasattr(word, "read"):
         arguments = [word.read(plan, *arguments)]
     given = answer(word, plan, arguments)
@@ -86,6 +95,8 @@ def over_plans(call, word, arguments, names):
             progress.clear()
             try:
                 worst = max(worst, tell_about(call, word, name, arguments, True))
+            except CannotWrite:
+                raise
             except Cannot as error:
                 worst = failed(error, "" if str(error).startswith(name) else f"{name}: ")
             progress.step()
@@ -107,13 +118,13 @@ def answer_stream(call):
 
 def perform(arguments):
     call = Call(arguments)
+    if call.misspelt:
+        check_spelling(call.misspelt)
     if "help" in call.flags:
         write(((word_usage(call.word) if call.word else usage()) + "\n").encode())
         return 0
     if "ask" in call.flags:
         return answer_stream(call)
-    if call.misspelt:
-        check_spelling(call.misspelt)
     if not arguments and sys.stdin is not None and sys.stdin.isatty():
         raise Cannot(f"which plan?\n{usage()}")
     if call.word is None and len(call.operands) > 1:
@@ -124,6 +135,7 @@ def perform(arguments):
         raise Cannot("one plan at a time")
     if names.count("-") > 1:
         raise Cannot("standard input can be read once")
+    reads_text(call, word)  # what is wrong with the call is said once
     return over_plans(call, word, values, names)
 
 

@@ -2,19 +2,19 @@
 
 from xml.sax.saxutils import escape
 
-from front import pictures
+from front import pictures, sentences
 from front.drawing import element
-from front.sentences import whose
+from front.sentences import are, ticks, whose
 from front.story import FIRST_ROWS
 from front.style import STYLE
 
 ROWS = 24  # a screenful
-FOOT = "The answers here are a proved program's, of the plan as it stands here; the pictures are drawn from them. Ticks, tasks, windows and jobs are counted from 0."
+FOOT = "The answers are a proved program's, of the plan as it stands here. Ticks, tasks, windows and jobs are counted from 0."
 
 
 def written(story, told):
     """The whole page, with the verdict's sentences."""
-    name = "standard input" if story.plan.name == "-" else story.plan.name
+    name = "standard input" if story.plan.name == "-" else _printable(story.plan.name)
     kind = story.line.split()[0].lower()
     heading = {"miss": "misses a deadline", "meets": "meets every deadline", "refused": "is refused"}[kind]
     title = f"{name}{whose(story.plan, ',')} {heading}"
@@ -26,24 +26,25 @@ def written(story, told):
     head = [
         element("meta", charset="utf-8"),
         element("meta", name="viewport", content="width=device-width, initial-scale=1"),
-        element("meta", name="description", content=f"{story.line}. {told}"),
+        element("meta", name="description", content=_printable(f"{story.line}. {told}".replace("\n", " "))),
         element("title", escape(f"{title} - palikudyom")),
         element("style", escape(STYLE)),
     ]
     return "<!DOCTYPE html>\n" + element("html", element("head", *head), element("body", element("main", *body), class_=kind), lang="en") + "\n"
 
 
-def _ticks(count):
-    return "1 tick" if count == 1 else f"{count:,} ticks"
+def _printable(words):
+    """Words with what no page can have replaced: a file's name may be any bytes."""
+    return "".join(letter if letter.isprintable() else "\ufffd" for letter in words)
 
 
 def _paragraph(words):
-    return element("p", escape(words))
+    return element("p", escape(_printable(words)))
 
 
 def _counted(stretches, most):
     """Stretches of ticks in words, as first to last."""
-    parts = [f"{first:,}" if end - first == 1 else f"{first:,} to {end - 1:,}" for first, end in stretches]
+    parts = [f"tick {first:,}" if end - first == 1 else f"{first:,} to {end - 1:,}" for first, end in stretches]
     more = len(parts) - most
     return ", ".join(parts[:most]) + ("" if more <= 0 else " and 1 stretch more" if more == 1 else f" and {more} stretches more")
 
@@ -74,18 +75,18 @@ def _row(cells, marked, *more):
 
 def _frame_section(story):
     described = (
-        f"Of the {_ticks(story.plan.frame)} of a frame these are supplied{whose(story.plan, ' to')}: {_counted(story.stretches, 8)}. Then the frame repeats."
+        f"Of the {ticks(story.plan.frame)} of a frame these are supplied{whose(story.plan, ' to')}: {_counted(story.stretches, 8)}. Then the frame repeats."
     )
     return element("section", element("h2", "The frame"), _figure(pictures.frame(story, described), described))
 
 
 def _run_section(story):
     miss = story.miss
-    title = f"From tick {miss.start:,}, for {_ticks(miss.length)}"
+    title = f"From tick {miss.start:,}, for {ticks(miss.length)}"
     described = _run_told(story)
     figures = [_figure(pictures.run(story, miss.view, "run", title, described), described)]
     if miss.close:
-        last = f"The last {_ticks(miss.end - miss.close.first)}" + ("" if miss.whole else " that are drawn")
+        last = f"The last {ticks(miss.end - miss.close.first)}" + ("" if miss.whole else " that are drawn")
         figures.append(_figure(pictures.run(story, miss.close, "end", last, f"{last}, closer."), f"{last}, closer."))
     return element("section", element("h2", escape(title)), *figures, _jobs_table(story))
 
@@ -97,15 +98,16 @@ def _run_told(story):
         return f"{words} Only the first {miss.shown:,} of the {miss.length:,} ticks are drawn: with more the run would have over 4,096 jobs. The job that is late comes after them."
     late = miss.late
     return (
-        f"{words} At tick {miss.end:,}, the end of the {_ticks(miss.length)}, the job of task {late.task} released at tick {late.release:,} is due and has been given "
-        f"{miss.view.given(late):,} of its {_ticks(late.work)}: it is late. No other order would do: {_ticks(miss.demand)} of work are due by then, and {miss.supply:,} are supplied."
+        f"{words} At tick {miss.end:,}, the end of the {ticks(miss.length)}, the job of task {late.task} released at tick {late.release:,} is due and has been given "
+        f"{miss.view.given(late):,} of its {ticks(late.work)}: it is late. No other order would do: {ticks(miss.demand)} of work {are(miss.demand)} due by then, and {miss.supply:,} {are(miss.supply)} supplied."
     )
 
 
 def _jobs_table(story):
-    """The jobs that are due by the end, in words: the last of them, up to a screenful. Which ticks each was given is told where every gap was looked for."""
+    """The jobs that are due by the end, in words, by deadline: the last of them, up to a screenful, the late job at the end. Which ticks each was given is told where
+    every gap was looked for."""
     miss, view = story.miss, story.miss.view
-    due = [job for job in miss.jobs if job.deadline <= miss.end]
+    due = sorted((job for job in miss.jobs if job.deadline <= miss.end), key=lambda job: (job.deadline, job is miss.late, job.task))
     rows = []
     for job in due[-ROWS:]:
         finished = f"{job.finished:,}" if job.finished else "late" if job is miss.late else "not by then"
@@ -118,23 +120,26 @@ def _jobs_table(story):
 
 
 def _curve_section(story):
-    described = _curves_told(story)
-    return element("section", element("h2", "Least supply and demand"), _figure(pictures.curves(story, described), described, _wrong_told(story)))
+    curves, described = story.curves, _curves_told(story)
+    drawn = pictures.curves(story, curves.lengths, "curves", "Least supply and demand over the length", described)
+    figures = [_figure(drawn, described, _wrong_told(story))]
+    if curves.close and curves.mark:
+        closer = f"The same around length {curves.mark.length:,}, closer; amounts below those shown are cut off."
+        figures.append(_figure(pictures.curves(story, curves.close, "near", "Least supply and demand around the marked length", closer), closer))
+    return element("section", element("h2", "Least supply and demand"), *figures)
 
 
 def _curves_told(story):
     curves, mark = story.curves, story.curves.mark
     if mark is None:
-        return f"There is no demand: the group has no tasks. The least supply over {_ticks(curves.end)} is {curves.lengths[-1].supply:,}."
+        return f"There is no demand: the group has no tasks. The least supply over {ticks(curves.end)} is {curves.lengths[-1].supply:,}."
     if story.miss:
         return (
-            f"At length {mark.length:,} the demand is {mark.demand:,} and the least supply {mark.supply:,}, in the {_ticks(mark.length)} from tick {story.miss.start:,} of a frame. "
+            f"At length {mark.length:,} the demand is {mark.demand:,} and the least supply {mark.supply:,}, in the {ticks(mark.length)} from tick {story.miss.start:,} of a frame. "
             f"At every shorter length the demand is covered."
         )
     where = (
-        f"within the cycle of {_ticks(story.cycle)}"
-        if curves.searched
-        else f"up to length {curves.searched_to:,}, a part of the cycle of {_ticks(story.cycle)}"
+        f"within the cycle of {ticks(story.cycle)}" if curves.searched else f"up to length {curves.searched_to:,}, a part of the cycle of {ticks(story.cycle)}"
     )
     return (
         f"At no length is the demand above the least supply. Of the lengths at which the demand rises {where}, the margin is smallest at length {mark.length:,}: "
@@ -150,7 +155,7 @@ def _wrong_told(story):
     if story.from_zero == mark.supply:
         return f"Counted from tick 0 as a wrong lesson did, the supply at length {mark.length:,} is the same, {story.from_zero:,}."
     lets_in = " It would see no miss at this length." if story.miss and story.from_zero >= mark.demand else ""
-    return f"Counted from tick 0 as a wrong lesson did, {_ticks(story.from_zero)} would seem to be supplied at length {mark.length:,}, and from the worst start it is {mark.supply:,}.{lets_in}"
+    return f"Counted from tick 0 as a wrong lesson did, {ticks(story.from_zero)} would seem to be supplied at length {mark.length:,}, and from the worst start it is {mark.supply:,}.{lets_in}"
 
 
 def _rises_section(story):
@@ -170,18 +175,17 @@ def _rises_section(story):
 
 
 def _plan_section(story):
-    """The plan's own numbers, as text; of a refused plan what is refused is marked."""
+    """The plan: a text as it was written, with the numbers of its lines; else the file's numbers as text. The window or task that is refused is marked."""
     plan = story.plan
-    if not plan.is_read():
+    if plan.text:
+        blamed = sentences.blamed(plan, *story.refused) if story.refused else None
+        lines = [(f"{at:>3}  {row.expandtabs().rstrip()}", blamed is not None and blamed.at == at) for at, row in enumerate(plan.text.rows, 1)]
+    elif plan.is_read():
+        refused, place = story.refused or (None, None)
+        lines = [(f"frame {plan.frame}", False), *((f"{word} {value}", False) for word, value in zip(("shortest", "rule", "lose"), plan.settings))]
+        lines += [(f"window {start} {end}", refused in (3, 12) and place == at) for at, (start, end, _) in enumerate(plan.windows)]
+        lines += [(f"task {work} {period} {deadline}", refused == 5 and place == at) for at, (work, period, deadline) in enumerate(plan.group)]
+    else:
         return ""
-    refused, place = story.refused or (None, None)
-    blamed = {3: "window", 12: "window", 5: "task"}.get(refused)
-    owned = plan.owner is not None
-    listed = {
-        "window": [f"window {start} {end}" + (f" owner {owner}" if owned else "") for start, end, owner in plan.windows],
-        "task": [f"task {work} {period} {deadline}" for work, period, deadline in plan.group],
-    }
-    lines = [f"frame {plan.frame}", *(f"{word} {value}" for word, value in zip(("shortest", "rule", "lose"), plan.settings))]
-    for word, some in listed.items():
-        lines += [element("mark", line) if (word, at) == (blamed, place) else line for at, line in enumerate(some)]
-    return element("section", element("h2", escape(f"The plan{whose(plan, ', as asked for')}")), element("pre", "\n".join(lines)))
+    shown = [element("mark", escape(_printable(line))) if marked else escape(_printable(line)) for line, marked in lines]
+    return element("section", element("h2", "The plan"), element("pre", "\n".join(shown)))

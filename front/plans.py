@@ -32,7 +32,10 @@ def file_bytes(name, most=-1):
 
 def text_of(name, forms):
     """The text that a file has."""
-    return texts.Text("standard input" if name == "-" else name, file_bytes(name), forms)
+    shown, data = "standard input" if name == "-" else name, file_bytes(name)
+    if not texts.is_text(data):
+        raise Cannot(f"{shown}: not a text; a plan file and a trace file go without --text")
+    return texts.Text(shown, data, forms)
 
 
 class Plan:
@@ -69,6 +72,11 @@ class Plan:
         self._lists = settings, [frame, *listed(threes)], listed(_flat(self.own_tasks[:TASKS_KEPT]))
 
     @property
+    def looks_like_text(self):
+        """Whether a plan file's bytes may be a text that was not told."""
+        return self.text is None and texts.is_text(self.bytes) and b"frame" in self.bytes
+
+    @property
     def has_owners(self):
         return any(line.owner is not None for line in self.text.lines)
 
@@ -89,17 +97,17 @@ class Plan:
     @property
     def settings(self):
         """The shortest allowed window; or that, the rule and the lost ticks; or nothing."""
-        return self._read()[0]
+        return self.read()[0]
 
     @property
     def table(self):
         """The frame and the windows, as a query has them."""
-        return self._read()[1]
+        return self.read()[1]
 
     @property
     def tasks(self):
         """The tasks, as a query has them."""
-        return self._read()[2]
+        return self.read()[2]
 
     @property
     def frame(self):
@@ -131,8 +139,8 @@ class Plan:
         """How many ticks the board loses of every window."""
         return self.settings[2] if self.form == "with-rule" else 0
 
-    def _read(self):
-        """The program is asked to read the plan with a byte left over: it names that byte exactly where the others are a plan, and judges nothing. A file that is
+    def read(self):
+        """Settings, table and tasks. The program is asked to read the plan with a byte left over: it names that byte exactly where the others are a plan, and judges nothing. A file that is
         none is refused as the program refuses it: 9, and the counts' 1 and 4."""
         if self._lists is None:
             if self._of_bytes(self.bytes + b"\0") != f"REFUSED 9 at {len(self.bytes)}":
@@ -141,15 +149,16 @@ class Plan:
             first = FORMS[self.form][1]
             settings, frame, count = numbers[:first], numbers[first], 2 * numbers[first + 1]
             windows, tasks = numbers[first + 2 : first + 2 + count], numbers[first + 3 + count :]
-            if self.owner is not None or settings:  # all are owner 0's
+            if self.owner is not None or settings:  # all are owner 0's, tasks too
                 windows = [number for at in range(0, count, 2) for number in (*windows[at : at + 2], 0)]
+                tasks = tasks if not self.owner else []
             self._lists = settings, [frame, *listed(windows)], listed(tasks)
         return self._lists
 
     def is_read(self):
         """Whether there is a table to ask about: of a file that is no plan there is none."""
         try:
-            return bool(self._read())
+            return bool(self.read())
         except Refused:
             return False
 

@@ -29,12 +29,16 @@ class Progress:
     def show(self, line):
         if self.watched:
             width = os.get_terminal_size(sys.stderr.fileno()).columns or 80
-            sys.stderr.write(f"\r\x1b[K{('palikudyom: ' + line)[:width - 1]}")
-            sys.stderr.flush()
+            self._write(f"\r\x1b[K{('palikudyom: ' + line)[:width - 1]}")
             self.shown = True
 
     def clear(self):
         if self.shown:
-            sys.stderr.write("\r\x1b[K")
-            sys.stderr.flush()
+            self._write("\r\x1b[K")
             self.shown = False
+
+    def _write(self, line):
+        try:
+            os.write(sys.stderr.fileno(), line.encode())
+        except OSError:  # the terminal is gone
+            self.watched = False

@@ -2,7 +2,7 @@
 
 
 def ticks(count):
-    return "1 tick" if count == 1 else f"{count} ticks"
+    return "1 tick" if count == 1 else f"{count:,} ticks"
 
 
 def are(count):
@@ -18,7 +18,7 @@ def loss(plan):
     """One sentence more where windows are not given whole."""
     if plan.lost == 0:
         return ""
-    return " The first tick of every window is lost." if plan.lost == 1 else f" The first {plan.lost} ticks of every window are lost."
+    return " The first tick of every window is lost." if plan.lost == 1 else f" The first {plan.lost:,} ticks of every window are lost."
 
 
 def stands_at(text, line, sentence):
@@ -29,12 +29,11 @@ def stands_at(text, line, sentence):
 def verdict(plan, line):
     words = line.split()
     if words[0] == "MEETS":
-        return f"Every deadline{whose(plan)} is met: at no length does the demand exceed the least supply. Table and tasks repeat after {words[2]} ticks."
+        return f"Every deadline{whose(plan)} is met: at no length does the demand exceed the least supply. Table and tasks repeat after {ticks(int(words[2]))}."
     length, start, demand, supply = map(int, words[2::2])
-    its = "" if plan.owner is None else " of its"
     return (
-        f"In the {ticks(length)} from tick {start} of a frame, {supply} {are(supply)} supplied{whose(plan, ' to')}. Jobs of every task{its} released in full at that tick, "
-        f"and each period after, need {demand} of them by the end.{loss(plan)}"
+        f"In the {ticks(length)} from tick {start:,} of a frame, {supply:,} {are(supply)} supplied{whose(plan, ' to')}. Jobs of every task{whose(plan)} released in full at that tick, "
+        f"and each period after, need {demand:,} by the end.{loss(plan)}"
     )
 
 
@@ -43,12 +42,21 @@ def refusal(plan, number, place):
     return _REFUSALS[number](plan, place) + other_form(plan, number)
 
 
-def _of_plan(plan, word, index, sentence):
+def blamed(plan, number, place):
+    """The line of a text that a refusal is about, None where it is about no one line."""
+    if number == 5:
+        return plan.own_tasks[place]
+    if number in (3, 12) and place != 64:
+        return plan.text.of("window")[place]
+    return next(iter(plan.text.of(*{2: ("frame",), 12: ("shortest",), 13: ("lose", "rule")}.get(number, ()))), None)
+
+
+def _of_plan(plan, number, place, sentence):
     """A sentence about a window or a task, with its place where there is a text."""
+    word = "task" if number == 5 else "window"
     if plan.text and plan.name != "-":
-        line = (plan.text.of("window") if word == "window" else plan.own_tasks)[index]
-        return stands_at(plan.text, line, f"{word} {index} {sentence}")
-    return f"{word} {index} (counted from 0) {sentence}"
+        return stands_at(plan.text, blamed(plan, number, place), f"{word} {place} {sentence}")
+    return f"{word} {place} (counted from 0) {sentence}"
 
 
 def _of_setting(plan, word, sentence):
@@ -70,12 +78,12 @@ def _window(plan, index):
         rules = "starts before the end of the one before it, or touches it and has the same owner; or its owner is neither 0 nor 1."
     else:
         rules = "does not start after the end of the one before it; touching windows are written as one."
-    return _of_plan(plan, "window", index, f"is empty, ends past the frame, or {rules}")
+    return _of_plan(plan, 3, index, f"is empty, ends past the frame, or {rules}")
 
 
 def _task(plan, index):
     of = "" if plan.owner is None else f"of owner {plan.owner} "
-    return _of_plan(plan, "task", index, f"{of}has a number that is not 1 to 1,000,000, or a deadline past its period.")
+    return _of_plan(plan, 5, index, f"{of}has a number that is not 1 to 1,000,000, or a deadline past its period.")
 
 
 def _sliver(plan, index):
@@ -83,7 +91,7 @@ def _sliver(plan, index):
     shortest = plan.settings[0]
     if index != 64:
         start, end, _ = plan.windows[index]
-        return _of_plan(plan, "window", index, f"has {ticks(end - start)}, and no window here may have fewer than {shortest}.")
+        return _of_plan(plan, 12, index, f"has {ticks(end - start)}, and no window here may have fewer than {shortest}.")
     if plan.text and plan.name != "-":
         return _of_setting(plan, "shortest", "the shortest allowed window is not 1 to 65,536 ticks.")
     return f"The shortest allowed window is {ticks(shortest)}, and not 1 to 65,536."
@@ -128,7 +136,7 @@ def other_form(plan, number):
     """A plan file does not say which form it has, and in another form its numbers may be a plan too; but an owner without a window has none in any form."""
     if plan.text or number == 1 and plan.owner is not None:
         return ""
-    if plan.bytes.isascii() and b"frame" in plan.bytes:
+    if plan.looks_like_text:
         return "\nOr it is a text: then say --text."
     return "\n" + _OTHER_FORMS[plan.form]
 

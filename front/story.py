@@ -2,6 +2,7 @@
 from the plan; what is shown is answered."""
 
 import heapq
+import math
 
 from front import program
 from front.answers import Answer
@@ -12,9 +13,11 @@ from front.progress import Progress
 JOBS = 4_096  # of a run
 LENGTH = 1_000_000  # the longest that can be asked for
 CURVE = 1_200  # lengths at which a curve is asked for: more can't be told apart in a picture
+CLOSE = 90  # lengths before the marked one that a closer view of the curves shows
+ASKED = 1_000  # jobs of a long run whose ticks are looked for one by one
 RISES = 4_096  # lengths among which the smallest margin is looked for
 FIRST_ROWS, LAST_ROWS = 8, 16  # of the table, where not all lengths are in it
-ENDLESS = (1_000_000, 1_000_000, 1_000_000)  # a task whose one job is never late in a run
+ENDLESS = (1_000_000, 1_000_000, 1_000_000)  # a task whose one job takes what is supplied
 
 
 class Job:
@@ -94,11 +97,18 @@ class View:
 
     def __init__(self, plan, miss, first, columns, progress):
         self.first, self.end = first, miss.end
-        self.finest = max(1, 2 * (self.end - first) / columns if self.end - first > columns else 1)
         self.jobs = [job for job in miss.jobs if job.finished is None or job.finished > first]
+        self.finest = self._finest((self.end - first) / columns)
         self._known = {job: {job.work: job.finished} for job in self.jobs}
         self._ask(plan, miss, progress)
-        self.stretches = {job: _stretches(self._known[job], self.finest) for job in self.jobs}
+        self.stretches = {job: _stretches(job, self._known[job], self.finest) for job in self.jobs}
+
+    def _finest(self, column):
+        """The narrowest gap that is looked for: one tick where each has a column; else two columns, or more where too many jobs would have to be looked into."""
+        if column <= 1:
+            return 1
+        counts = sorted((job.count for job in self.jobs if job.work > 1), reverse=True)
+        return max(math.ceil(2 * column), counts[ASKED] + 1 if len(counts) > ASKED else 1)
 
     def given(self, job):
         """How many ticks a job was given: every one is looked for, however fine the picture is."""
@@ -113,9 +123,9 @@ class View:
         index = {job: at for at, job in enumerate(miss.jobs)}
         wanted = [(job, 1) for job in self.jobs if job.work > 1 and (job.finished is None or job.count >= self.finest)]
         while wanted:
-            queries = [self._cut(plan, miss, job, work) for job, work in wanted]
-            progress.of += len(queries)
-            for (job, work), line in zip(wanted, program.ask(queries, progress)):
+            progress.of += len(wanted)
+            lines = program.ask((self._cut(plan, miss, job, work) for job, work in wanted), progress)
+            for (job, work), line in zip(wanted, lines):
                 count = _counts(line.split())[index[job]]
                 self._known[job][work] = job.release + count if count else None
             wanted = [(job, work) for job in self.jobs for work in self._between(self._known[job])]
@@ -136,7 +146,7 @@ class View:
                 yield (low + high) // 2
 
 
-def _stretches(known, finest):
+def _stretches(job, known, finest):
     """The ticks given, as stretches: from a first tick up to, but not including, an end, and how many ticks of it were given. Gaps below the finest are in them."""
     stretches, before = [], None
     for work in sorted(work for work in known if known[work] is not None):
@@ -144,9 +154,10 @@ def _stretches(known, finest):
         if before is not None and end - known[before] - (work - before) < finest:
             first, _, given = stretches.pop()
             stretches.append((first, end, given + work - before))
+        elif before is None and work > 1:  # not looked into: somewhere while it was pending
+            stretches.append((job.release, end, work))
         else:
-            given = work if before is None else 1
-            stretches.append((end - given, end, given))
+            stretches.append((end - 1, end, 1))
         before = work
     return stretches
 
@@ -195,21 +206,16 @@ class Curves:
 
     def __init__(self, plan, miss, cycle, progress):
         self.searched = True
-        if miss:
-            mark = miss.length
-        else:
-            mark = self._smallest(plan, cycle, progress)
-        self.marked = mark is not None
-        end = mark if self.marked else min(plan.frame, LENGTH)
-        self.end = min(end + max(2, end // 8), LENGTH)
+        mark = miss.length if miss else self._smallest(plan, cycle, progress)
+        middle = plan.frame if mark is None else mark
+        self.end = min(middle + max(2, middle // 8), LENGTH)
         self.every = self.end <= CURVE
-        lengths = (
-            range(self.end + 1)
-            if self.every
-            else sorted({*range(0, self.end + 1, -(-self.end // (CURVE // 2))), self.end, *((end - 1, end, end + 1) if self.end > end else (end,))})
-        )
-        self.lengths = at_lengths(plan, list(lengths), progress)
-        self.mark = next(length for length in self.lengths if length.length == end) if self.marked else None
+        near = range(max(0, middle - CLOSE), min(middle + CLOSE // 3, self.end) + 1)
+        wide = range(0, self.end + 1, 1 if self.every else -(-self.end // (CURVE // 2)))
+        asked = at_lengths(plan, sorted({*wide, *near, self.end}), progress)
+        self.close = [] if self.every else [here for here in asked if here.length in near]
+        self.lengths = [here for here in asked if here.length in wide or here.length in (middle - 1, middle, middle + 1, self.end)]
+        self.mark = next((here for here in asked if here.length == mark), None)
 
     def _smallest(self, plan, cycle, progress):
         """The least length within a cycle at which the demand rises and the margin is smallest."""
@@ -237,7 +243,7 @@ class Story:
     def __init__(self, plan, columns):
         self.plan, self.miss, self.curves = plan, None, None
         try:
-            plan.table  # what is no plan is refused as the program refuses it
+            plan.read()
             self.line = plan.verdict()
         except Refused as refused:
             self.line = refused.line
@@ -252,7 +258,7 @@ class Story:
             else:
                 self.cycle = int(self.line.split()[2])
                 self.curves = Curves(plan, None, self.cycle, progress)
-            self.from_zero = self._from_zero() if self.curves.marked else None
+            self.from_zero = self._from_zero() if self.curves.mark else None
             self.rows, self.left_out = self._rows(progress)
 
     @property
@@ -266,19 +272,19 @@ class Story:
         return sum(frames * (end - first) + max(0, min(end, rest) - first) for first, end in self.stretches)
 
     def _from_zero(self):
-        """That supply at the marked length, confirmed by a run: so many ticks of work, released at tick 0, are done by then, and one more is not."""
+        """That supply at the marked length, confirmed by a run up to there: so many ticks of work, released at tick 0, are done in it, and one more is not."""
         length = self.curves.mark.length
         amount = self.counted_from_zero(length)
         jobs = [[0, 0, amount], [0, 1, 1]][amount == 0 :]
-        line = self.plan.ask(9, self.plan.table, listed(ENDLESS * 2), length + self.plan.frame, listed([number for job in jobs for number in job]), len(jobs))
+        line = self.plan.ask(9, self.plan.table, listed(ENDLESS * 2), length, listed([number for job in jobs for number in job]), len(jobs))
         *before, after = _counts(line.split())
-        if any(count > length for count in before) or after <= length:
+        if 0 in before or after != 0:
             raise Cannot("the supply from tick 0 is not what the program says")
         return amount
 
     def _rows(self, progress):
         """The lengths at which the demand rises, up to the marked one: all, or the first and the last of them, and how many stand between, None if too many to count."""
-        most = self.curves.mark.length if self.curves.marked else 0
+        most = self.curves.mark.length if self.curves.mark else 0
         found, all_found = rises(self.plan, most, RISES)
         if all_found and len(found) <= FIRST_ROWS + LAST_ROWS:
             return at_lengths(self.plan, found, progress), 0

@@ -1,6 +1,7 @@
-"""The page's style: a light and a dark scheme, and one for paper. No colour says what a shape, a dash or hatching does not say too."""
+"""The page's style: a light and a dark scheme, and one for paper."""
 
-# The colours are those of Okabe and Ito, which colour-blind readers can tell apart; shapes, dashes and hatching say the same without colour.
+# Blue, vermilion and green are after Okabe and Ito, whom colour-blind readers can follow, darker or lighter where the paper asks for it. What differs by colour
+# differs by thickness, height, dashes or hatching too.
 STYLE = """
 :root {
   color-scheme: light dark; --paper: #ffffff; --ink: #1a1a1a; --soft: #5c5c5c; --faint: #d5d5d5; --given: #0072b2; --needed: #c04a00;
@@ -52,7 +53,7 @@ th { font-weight: 600; }
 .words { text-align: left; }
 tr.marked { background: var(--mark); font-weight: 600; }
 mark { background: var(--mark); color: inherit; font-weight: 600; }
-pre { columns: 16rem; margin: 0.5rem 0; }
+pre { columns: 16rem; margin: 0.5rem 0; white-space: pre-wrap; overflow-wrap: anywhere; }
 .label { font-size: 12px; fill: var(--ink); }
 .soft { font-size: 11px; fill: var(--soft); }
 .strong { font-size: 13px; font-weight: 600; fill: var(--ink); }
@@ -67,7 +68,7 @@ pre { columns: 16rem; margin: 0.5rem 0; }
 .lost { stroke: var(--given); stroke-width: 1; }
 .other { fill: none; stroke: var(--soft); stroke-width: 1; stroke-dasharray: 3 2; }
 .work { fill: var(--work); }
-.late-work { fill: var(--needed); }
+.late-work { stroke: var(--needed); stroke-width: 1.2; }
 .pending { stroke: var(--work); stroke-width: 1.5; }
 .late-pending { stroke: var(--needed); stroke-width: 2; }
 .release { fill: none; stroke: var(--ink); stroke-width: 1.2; }

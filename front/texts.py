@@ -35,14 +35,24 @@ TRACE = {"release": Form("TASK WORK STAMP"), "complete": Form("TASK STAMP")}
 JOBS = {"ticks": Form("N", once=True), "job": Form("RELEASE TASK WORK")}
 
 
+def is_text(data):
+    """Whether bytes can be a text at all: no control characters but those that part words and lines."""
+    return not any(byte < 32 and byte not in b"\t\n\v\f\r" or byte == 127 for byte in data)
+
+
+def cut(word):
+    """A word in a message: of one that is very long its beginning."""
+    return word if len(word) <= 40 else word[:40] + ".."
+
+
 class Text:
     """A text's lines, and its name in messages."""
 
     def __init__(self, name, data, forms):
         self.name, self.forms, self.lines = name, forms, []
-        rows = data.decode("utf-8", "replace").split("\n")
-        self.length = len(rows) - (rows[-1] == "")
-        for at, row in enumerate(rows, 1):
+        self.rows = data.decode("utf-8-sig", "replace").removesuffix("\n").split("\n")
+        self.length = len(self.rows) if data else 0
+        for at, row in enumerate(self.rows, 1):
             words = row.split("#")[0].split()
             if words:
                 self.lines.append(self._line(words, at))
@@ -65,7 +75,7 @@ class Text:
         word, rest = words[0], words[1:]
         form = self.forms.get(word)
         if form is None:
-            raise self.bad(at, f"`{word}` is {_none_of(list(self.forms))}")
+            raise self.bad(at, f"`{cut(word)}` is {_none_of(list(self.forms))}")
         if form.once and self.of(word):
             raise self.bad(at, f"a second {word}")
         count = len(form.numbers)
@@ -78,9 +88,9 @@ class Text:
     def _number(self, word, at):
         number = written(word)
         if number is None:
-            raise self.bad(at, f"`{word}` is not a whole number")
+            raise self.bad(at, f"`{cut(word)}` is not a whole number")
         if number > MOST:
-            raise self.bad(at, f"`{word.lstrip('0')}` is over {MOST}")
+            raise self.bad(at, f"`{cut(word.lstrip('0'))}` is over {MOST}")
         return number
 
     def bad(self, at, message):

@@ -9,7 +9,7 @@ SUMMARY = "the response bound of TASK by fixed priority"
 HELP = """
 The response bound of a task, counted from 0, where the lower index goes first: the
 least length up to its deadline whose least supply covers its work and that of the
-tasks before it. NO BOUND is no miss, and its exit status is 0.
+tasks before it. NO BOUND shows no miss by itself, and its exit status is 0.
     $ palikudyom bound 1 plans/w6.plan
     NO BOUND
 """
@@ -19,14 +19,15 @@ def answer(plan, task):
     return [plan.ask(8, plan.table, plan.tasks, task)]
 
 
-def told(task, line):
-    if line == "NO BOUND":
-        return f"task {task} has no response bound up to its deadline, which is no miss: no single start need be so bad"
-    return f"task {task} has the response bound {ticks(int(line.split()[1]))}"
+def told(plan, tasks, lines):
+    """What the lines say of tasks, and once what it means to have no bound."""
+    bounds = [f"task {task} has " + ("none up to its deadline" if line == "NO BOUND" else ticks(int(line.split()[1]))) for task, line in zip(tasks, lines)]
+    none = " To have none shows no miss by itself." if "NO BOUND" in lines else ""
+    return f"Of the response bounds by fixed priority, lower index first, {', '.join(bounds)}.{none}{sentences.loss(plan)}"
 
 
 def tell(plan, lines, task):
-    return f"By fixed priority, lower index first, {told(task, lines[0])}.{sentences.loss(plan)}"
+    return told(plan, [task], lines)
 
 
 def refused(plan, number, place, task):

@@ -1,6 +1,6 @@
 """The response bounds of all tasks: the word `bound`, asked of each."""
 
-from front import program, sentences
+from front import program
 from front.words import bound
 
 TOPIC = "the tasks"
@@ -23,4 +23,4 @@ def answer(plan):
 def tell(plan, lines):
     if not lines:
         return "There are no tasks."
-    return f"By fixed priority, lower index first, {'; '.join(bound.told(task, line) for task, line in enumerate(lines))}.{sentences.loss(plan)}"
+    return bound.told(plan, range(len(lines)), lines)

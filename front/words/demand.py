@@ -21,8 +21,8 @@ def answer(plan, length):
 
 
 def tell(plan, lines, length):
-    amount = lines[0].split()[1]
-    return f"Released in full together, and each period after, the tasks{sentences.whose(plan)} need {amount} of the first {ticks(length)} to meet the deadlines in them."
+    amount = int(lines[0].split()[1])
+    return f"Released in full together, and each period after, the tasks{sentences.whose(plan)} need {ticks(amount)} of work within {ticks(length)} to meet the deadlines in them."
 
 
 def refused(plan, number, place, length):

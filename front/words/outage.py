@@ -25,5 +25,5 @@ def tell(plan, lines):
     if length == 0:
         return f"{board} never silent: every tick is supplied."
     miss = plan.ask(7, plan.table, [3, 1, plan.frame, length]).split()
-    start = f" from tick {miss[4]} of each frame" if miss[:3] == ["MISS", "length", str(length)] else ""
+    start = f" from tick {int(miss[4]):,} of each frame" if miss[:3] == ["MISS", "length", str(length)] else ""
     return f"{board} silent for {ticks(length)}{start}, and never for longer.{sentences.loss(plan)}"

@@ -36,14 +36,13 @@ class Trace:
     def records(self):
         """The records of bytes that the program has read: index, kind, task, instant and, of a release, work. A record is later than the one before it by what the
         board's counter, which goes past its top back to 0, went on."""
-        numbers, records, instant, before = decode(self.bytes), [], 0, None
-        while numbers:
-            release = numbers[0] == 0
-            record, numbers = numbers[: 4 - (not release)], numbers[4 - (not release) :]
-            stamp = record[-1]
+        numbers, records, instant, before, at = decode(self.bytes), [], 0, None, 0
+        while at < len(numbers):
+            release = numbers[at] == 0
+            task, *work, stamp = numbers[at + 1 : at + (4 if release else 3)]
             instant += 0 if before is None else (stamp - before) % 2**32
-            before = stamp
-            records.append(Record(len(records), release, record[1], instant, record[2] if release else None))
+            records.append(Record(len(records), release, task, instant, *work))
+            before, at = stamp, at + (4 if release else 3)
         return records
 
     def about(self, record, sentence):
@@ -54,7 +53,7 @@ class Trace:
 
 
 class Record:
-    def __init__(self, index, release, task, instant, work):
+    def __init__(self, index, release, task, instant, work=None):
         self.index, self.release, self.task, self.instant, self.work = index, release, task, instant, work
 
 

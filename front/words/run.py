@@ -1,10 +1,8 @@
 """The tick machine's run of a job list (document 01, "The tick machine")."""
 
 from front import sentences, texts
-from front.errors import Cannot
-from front.numbers import encode, listed
+from front.numbers import listed
 from front.plans import text_of
-from front.program import STREAM
 from front.sentences import ticks
 
 TOPIC = "runs"
@@ -21,7 +19,7 @@ and `job RELEASE TASK WORK` a job, by rising tick, then by rising task.
     MET backlog 2 BUFFER 4 7
 """
 
-JOBS_KEPT = 4_097  # one more than is legal is refused, whatever follows
+JOBS_KEPT = 4_097  # one more than is legal is refused, whatever follows; these fit a stream, whatever their numbers
 
 
 class Jobs:
@@ -40,24 +38,9 @@ def read(plan, name):
 
 
 def answer(plan, jobs):
-    """A list whose numbers fill more than a stream has a job that is not legal among the first: a legal one takes seven bytes at most. Then the first alone are
-    asked, and the lowest job that breaks a rule is one of them."""
     count = min(len(jobs.lines), JOBS_KEPT)
-    room = count
-    query = _query(plan, jobs, count, room)
-    while len(encode(query)) > STREAM:
-        count = count * 3 // 4
-        query = _query(plan, jobs, count, room)
-    line = plan.ask(*query[len(plan.board) :])
-    if line.startswith("REFUSED"):
-        return [" ".join(line.split()[:4])]
-    if count < len(jobs.lines):
-        raise Cannot(f"{jobs.text.name}: a job list that the program can't be asked")
-    return [line]
-
-
-def _query(plan, jobs, count, room):
-    return plan.query(9, plan.table, plan.tasks, jobs.ticks, listed(jobs.numbers(count)), room)
+    line = plan.ask(9, plan.table, plan.tasks, jobs.ticks, listed(jobs.numbers(count)), count)
+    return [" ".join(line.split()[:4]) if line.startswith("REFUSED") else line]
 
 
 def tell(plan, lines, jobs):

@@ -20,7 +20,8 @@ def answer(plan, length):
 
 def tell(plan, lines, length):
     amount = int(lines[0].split()[1])
-    return f"Of any {ticks(length)} in a row at least {amount} {are(amount)} supplied{sentences.whose(plan, ' to')}, and of some no more.{sentences.loss(plan)}"
+    which = "tick" if length == 1 else f"{ticks(length)} in a row"
+    return f"Of any {which} at least {amount:,} {are(amount)} supplied{sentences.whose(plan, ' to')}, and of some no more.{sentences.loss(plan)}"
 
 
 def refused(plan, number, place, length):

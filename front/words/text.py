@@ -1,6 +1,7 @@
 """A plan file as text."""
 
 from front.answers import Answer
+from front.errors import Cannot
 
 TOPIC = "files"
 ARGUMENTS = ()
@@ -23,6 +24,8 @@ allowed window does, --with-rule that this, the rule and the lost ticks do.
 
 
 def answer(plan):
+    if plan.owner is not None:
+        raise Cannot("a plan file has no owners")
     lines = [f"frame {plan.frame}", *_settings(plan)]
     lines += [f"window {start} {end}" for start, end, _ in plan.windows]
     lines += [f"task {work} {period} {deadline}" for work, period, deadline in plan.group]
@@ -39,3 +42,7 @@ def _settings(plan):
 
 def tell(plan, lines):
     return ""
+
+
+def refused(plan, number, place):
+    return "It is a text already." if plan.looks_like_text else None
