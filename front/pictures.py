@@ -241,7 +241,7 @@ def _steps(points, scale, height):
 
 def _wrong_steps(story, shown, scale, height):
     """The curve of the wrong lesson, where it differs from the least supply."""
-    commands, drawing, before = [], False, shown[0].supply
+    commands, drawing, before = [], False, story.counted_from_zero(shown[0].length)
     for here, end in _with_ends(shown, scale):
         amount = story.counted_from_zero(here.length)
         if amount != here.supply:

@@ -1,4 +1,4 @@
-"""The proved program: proved and built once, and asked. Every number that the command shows comes from here."""
+"""The proved program: proved and built once, and asked. Every answer that the command gives comes from here."""
 
 import os
 import platform

@@ -4,7 +4,7 @@ A word has
   TOPIC       where it stands in --help, one of TOPICS
   ARGUMENTS   what stands before the plan: LENGTH or TASK, a number; TRACE or JOBS, a file
   SUMMARY     its line in --help
-  HELP        what `palikudyom WORD --help` says, with an example that tests/command runs
+  HELP        what `palikudyom WORD --help` says, with an example that tests/words runs
   answer(plan, ..)        its lines, each a query's, or an Answer with a page or a file
   tell(plan, lines, ..)   the sentence that goes with them
 and, where they differ from the others',
