@@ -168,9 +168,8 @@ def _rises_section(story):
             rows.append(element("tr", element("td", words, colspan=4, class_="words")))
         cells = (f"{number:,}".replace("-", "\u2212") for number in (here.length, here.demand, here.supply, here.margin))
         rows.append(_row(cells, here.length == mark.length))
-    caption = f"The lengths at which the demand rises, up to length {mark.length:,}, where " + (
-        "it is above the least supply." if story.miss else "the margin is smallest."
-    )
+    what = "it is above the least supply" if story.miss else "the margin is smallest"
+    caption = f"The lengths at which the demand rises, up to length {story.rows_to:,}. At length {mark.length:,}, marked, {what}."
     return element("section", element("h2", "Where the demand rises"), _table(caption, ["length", "demand", "least supply", "margin"], rows))
 
 

@@ -283,10 +283,14 @@ class Story:
         return amount
 
     def _rows(self, progress):
-        """The lengths at which the demand rises, up to the marked one: all, or the first and the last of them, and how many stand between, None if too many to count."""
-        most = self.curves.mark.length if self.curves.mark else 0
-        found, all_found = rises(self.plan, most, RISES)
-        if all_found and len(found) <= FIRST_ROWS + LAST_ROWS:
+        """The lengths at which the demand rises: of a cycle without a miss all, if they fit; else those up to the marked one, all or the first and the last of them, and
+        how many stand between, None if too many to count."""
+        if not self.curves.mark:
+            return [], 0
+        fit = FIRST_ROWS + LAST_ROWS
+        self.rows_to = self.curves.mark.length if self.miss or not rises(self.plan, self.cycle, fit)[1] else self.cycle
+        found, all_found = rises(self.plan, self.rows_to, RISES)
+        if all_found and len(found) <= fit:
             return at_lengths(self.plan, found, progress), 0
-        shown = [*found[:FIRST_ROWS], *last_rises(self.plan, most, LAST_ROWS)]
+        shown = [*found[:FIRST_ROWS], *last_rises(self.plan, self.rows_to, LAST_ROWS)]
         return at_lengths(self.plan, shown, progress), len(found) - len(shown) if all_found else None

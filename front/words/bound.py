@@ -21,9 +21,9 @@ def answer(plan, task):
 
 def told(plan, tasks, lines):
     """What the lines say of tasks, and once what it means to have no bound."""
-    bounds = [f"task {task} has " + ("none up to its deadline" if line == "NO BOUND" else ticks(int(line.split()[1]))) for task, line in zip(tasks, lines)]
+    bounds = [f"task {task}: " + ("none up to its deadline" if line == "NO BOUND" else ticks(int(line.split()[1]))) for task, line in zip(tasks, lines)]
     none = " To have none shows no miss by itself." if "NO BOUND" in lines else ""
-    return f"Of the response bounds by fixed priority, lower index first, {', '.join(bounds)}.{none}{sentences.loss(plan)}"
+    return f"Response bounds by fixed priority, lower index first: {'; '.join(bounds)}.{none}{sentences.loss(plan)}"
 
 
 def tell(plan, lines, task):
