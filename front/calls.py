@@ -23,7 +23,7 @@ class Call:
 
     def __init__(self, arguments):
         self.word, self.operands, self.form, self.owner, self.flags = None, [], "", None, set()
-        self.misspelt = None  # the first argument, where it may have been meant for a word
+        self.bare = None  # the first argument, where it is no word: a plan, or a misspelt one
         rest = list(arguments)
         while rest:
             argument = rest.pop(0)
@@ -35,7 +35,7 @@ class Call:
             elif self.word is None and not self.operands and argument in words.NAMES:
                 self.word = argument
             else:
-                self.misspelt = argument if self.word is None and not self.operands else self.misspelt
+                self.bare = argument if self.word is None and not self.operands else self.bare
                 self.operands.append(argument)
 
     def _option(self, argument, rest):

@@ -62,16 +62,18 @@ def reads_text(call, word):
     return is_text
 
 
-def tell_about(call, word, name, arguments, named):
-    """Asks the word about one plan and gives the answer; the exit status."""
-    plan = Plan(name, reads_text(call, word), call.form, call.owner)
+def tell_about(call, word, name, arguments, is_text, progress=None):
+    """Asks the word about one plan and gives the answer, after the plan's name where it is one of several, whose progress is shown; the exit status."""
+    plan = Plan(name, is_text, call.form, call.owner)
     if hasattr(word, "read"):
         arguments = [word.read(plan, *arguments)]
     given = answer(word, plan, arguments)
-    prefix = f"{name}: " if named else ""
+    prefix = f"{name}: " if progress else ""
     output = given.output
     if output is None:
         output = "".join(f"{prefix}{line}\n" for line in given.lines).encode("utf-8", "surrogateescape")
+    if progress:
+        progress.clear()
     write(output)
     if "quiet" not in call.flags:
         for sentence in filter(None, told(word, plan, given, arguments).split("\n")):
@@ -87,19 +89,20 @@ def failed(error, prefix=""):
 
 def over_plans(call, word, arguments, names):
     """Asks about each plan; the worst status."""
+    is_text = reads_text(call, word)
     if len(names) == 1:
-        return tell_about(call, word, names[0], arguments, False)
+        return tell_about(call, word, names[0], arguments, is_text)
     worst = 0
     with Progress(len(names), "plans done:") as progress:
-        for name in names:
-            progress.clear()
+        for progress.done, name in enumerate(names):
+            progress.show_done()
             try:
-                worst = max(worst, tell_about(call, word, name, arguments, True))
+                worst = max(worst, tell_about(call, word, name, arguments, is_text, progress))
             except CannotWrite:
                 raise
             except Cannot as error:
+                progress.clear()
                 worst = failed(error, "" if str(error).startswith(name) else f"{name}: ")
-            progress.step()
     return worst
 
 
@@ -118,8 +121,8 @@ def answer_stream(call):
 
 def perform(arguments):
     call = Call(arguments)
-    if call.misspelt:
-        check_spelling(call.misspelt)
+    if call.bare:
+        check_spelling(call.bare)
     if "help" in call.flags:
         write(((word_usage(call.word) if call.word else usage()) + "\n").encode())
         return 0
@@ -135,7 +138,6 @@ def perform(arguments):
         raise Cannot("one plan at a time")
     if names.count("-") > 1:
         raise Cannot("standard input can be read once")
-    reads_text(call, word)  # what is wrong with the call is said once
     return over_plans(call, word, values, names)
 
 

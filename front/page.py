@@ -5,14 +5,13 @@ from xml.sax.saxutils import escape
 from front import pictures, sentences
 from front.drawing import element
 from front.sentences import are, ticks, whose
-from front.story import FIRST_ROWS
+from front.story import FIRST_ROWS, ROWS
 from front.style import STYLE
 
-ROWS = 24  # a screenful
 FOOT = "The answers are a proved program's, of the plan as it stands here. Ticks, tasks, windows and jobs are counted from 0."
 
 
-def written(story, told):
+def page_of(story, told):
     """The whole page, with the verdict's sentences."""
     name = "standard input" if story.plan.name == "-" else _printable(story.plan.name)
     kind = story.line.split()[0].lower()
@@ -44,9 +43,7 @@ def _paragraph(words):
 
 def _counted(stretches, most):
     """Stretches of ticks in words, as first to last."""
-    parts = [f"tick {first:,}" if end - first == 1 else f"{first:,} to {end - 1:,}" for first, end in stretches]
-    more = len(parts) - most
-    return ", ".join(parts[:most]) + ("" if more <= 0 else " and 1 stretch more" if more == 1 else f" and {more} stretches more")
+    return sentences.some([f"tick {first:,}" if end - first == 1 else f"{first:,} to {end - 1:,}" for first, end in stretches], most)
 
 
 def _figure(drawn, *captions):
@@ -123,7 +120,7 @@ def _curve_section(story):
     curves, described = story.curves, _curves_told(story)
     drawn = pictures.curves(story, curves.lengths, "curves", "Least supply and demand over the length", described)
     figures = [_figure(drawn, described, _wrong_told(story))]
-    if curves.close and curves.mark:
+    if curves.close:
         closer = f"The same around length {curves.mark.length:,}, closer; amounts below those shown are cut off."
         figures.append(_figure(pictures.curves(story, curves.close, "near", "Least supply and demand around the marked length", closer), closer))
     return element("section", element("h2", "Least supply and demand"), *figures)
@@ -168,23 +165,20 @@ def _rises_section(story):
             rows.append(element("tr", element("td", words, colspan=4, class_="words")))
         cells = (f"{number:,}".replace("-", "\u2212") for number in (here.length, here.demand, here.supply, here.margin))
         rows.append(_row(cells, here.length == mark.length))
-    what = "it is above the least supply" if story.miss else "the margin is smallest"
-    caption = f"The lengths at which the demand rises, up to length {story.rows_to:,}. At length {mark.length:,}, marked, {what}."
+    what = "it is above the least supply" if story.miss else "the margin is smallest" + ("" if story.curves.searched else " of the lengths that were looked at")
+    caption = f"The lengths at which the demand rises, up to length {story.rows[-1].length:,}. At length {mark.length:,}, marked, {what}."
     return element("section", element("h2", "Where the demand rises"), _table(caption, ["length", "demand", "least supply", "margin"], rows))
 
 
 def _plan_section(story):
-    """The plan: a text as it was written, with the numbers of its lines; else the file's numbers as text. The window or task that is refused is marked."""
-    plan = story.plan
+    """The plan: a text as it was written, with the numbers of its lines; else the file's numbers as text. What a refusal is about is marked."""
+    plan, refused = story.plan, story.refused or (None, None)
     if plan.text:
-        blamed = sentences.blamed(plan, *story.refused) if story.refused else None
-        lines = [(f"{at:>3}  {row.expandtabs().rstrip()}", blamed is not None and blamed.at == at) for at, row in enumerate(plan.text.rows, 1)]
+        line = sentences.blamed_line(plan, *refused)
+        rows = [(f"{at:>3}  {row.expandtabs().rstrip()}", line is not None and line.at == at) for at, row in enumerate(plan.text.rows, 1)]
     elif plan.is_read():
-        refused, place = story.refused or (None, None)
-        lines = [(f"frame {plan.frame}", False), *((f"{word} {value}", False) for word, value in zip(("shortest", "rule", "lose"), plan.settings))]
-        lines += [(f"window {start} {end}", refused in (3, 12) and place == at) for at, (start, end, _) in enumerate(plan.windows)]
-        lines += [(f"task {work} {period} {deadline}", refused == 5 and place == at) for at, (work, period, deadline) in enumerate(plan.group)]
+        rows = [(line, (word, index) == sentences.blamed(plan, *refused)) for word, index, line in plan.lines()]
     else:
         return ""
-    shown = [element("mark", escape(_printable(line))) if marked else escape(_printable(line)) for line, marked in lines]
+    shown = [element("mark", escape(_printable(row))) if marked else escape(_printable(row)) for row, marked in rows]
     return element("section", element("h2", "The plan"), element("pre", "\n".join(shown)))

@@ -2,7 +2,7 @@
 
 import sys
 
-from front import program, texts
+from front import limits, program, texts
 from front.errors import Cannot, Refused
 from front.numbers import decode, encode, listed
 
@@ -13,8 +13,8 @@ FORMS = {"": (10, 0), "with-shortest": (18, 1), "with-rule": (19, 3)}
 PLAN_BYTES = 4_095
 
 # Of lists that are no plan file's, one window and one task more than is legal is enough to be refused for, whatever follows.
-WINDOWS_KEPT = 65
-TASKS_KEPT = 33
+WINDOWS_KEPT = limits.WINDOWS + 1
+TASKS_KEPT = limits.TASKS + 1
 
 
 def file_bytes(name, most=-1):
@@ -34,7 +34,7 @@ def text_of(name, forms):
     """The text that a file has."""
     shown, data = "standard input" if name == "-" else name, file_bytes(name)
     if not texts.is_text(data):
-        raise Cannot(f"{shown}: not a text; a plan file and a trace file go without --text")
+        raise Cannot(f"{shown}: not a text; it may be a plan file or a trace file")
     return texts.Text(shown, data, forms)
 
 
@@ -161,6 +161,13 @@ class Plan:
             return bool(self.read())
         except Refused:
             return False
+
+    def lines(self):
+        """The plan as the lines of a text, each with its word and its index among those of that word: those from which `palikudyom plan` makes the same numbers."""
+        lines = [("frame", 0, f"frame {self.frame}")]
+        lines += [(word, 0, f"{word} {value}") for word, value in zip(("shortest", "rule", "lose"), self.settings) if (word, value) != ("rule", 2)]
+        lines += [("window", at, f"window {start} {end}") for at, (start, end, _) in enumerate(self.windows)]
+        return lines + [("task", at, f"task {work} {period} {deadline}") for at, (work, period, deadline) in enumerate(self.group)]
 
     def query(self, code, *parts):
         """A query about this plan's board: its code, then lists and numbers."""

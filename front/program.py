@@ -24,7 +24,7 @@ def _newer_than(program):
     """Whether a file that the program is made of is newer than it."""
     built = os.stat(program).st_mtime
     places = [os.path.join(TOP, "crates.txt"), *(os.path.join(at, name) for at, _, names in os.walk(os.path.join(TOP, "crates")) for name in names)]
-    return any(os.stat(place).st_mtime > built for place in places)
+    return any(os.path.isfile(place) and os.stat(place).st_mtime > built for place in places)
 
 
 def _build():

@@ -20,11 +20,14 @@ class Progress:
         self.clear()
 
     def step(self, count=1):
-        """So many more of the whole are done. Short work shows nothing: a line comes after half a second, and then twice a second."""
+        """So many more of the whole are done. Of many short steps a line comes after half a second, and then twice a second."""
         self.done += count
         if time.monotonic() - self.last >= 0.5:
             self.last = time.monotonic()
-            self.show(f"{self.what} {self.done} of {self.of}")
+            self.show_done()
+
+    def show_done(self):
+        self.show(f"{self.what} {self.done} of {self.of}")
 
     def show(self, line):
         if self.watched:

@@ -1,5 +1,9 @@
 """Sentences for people: what a line says, in words. Each number in them is the line's or the plan's own."""
 
+from front import limits
+
+MOST_LOST = 65_535  # ticks of a window (document 02, request 7)
+
 
 def ticks(count):
     return "1 tick" if count == 1 else f"{count:,} ticks"
@@ -43,32 +47,39 @@ def refusal(plan, number, place):
 
 
 def blamed(plan, number, place):
-    """The line of a text that a refusal is about, None where it is about no one line."""
-    if number == 5:
-        return plan.own_tasks[place]
-    if number in (3, 12) and place != 64:
-        return plan.text.of("window")[place]
-    return next(iter(plan.text.of(*{2: ("frame",), 12: ("shortest",), 13: ("lose", "rule")}.get(number, ()))), None)
+    """What of a plan a refusal is about: a word of its text and the index among those of that word; None where it is no one thing."""
+    if number in (3, 12) and place != limits.WINDOWS:
+        return "window", place
+    if number == 13:
+        _, rule, lost = plan.settings
+        return ("rule" if rule not in (1, 2) or rule == 1 and lost <= MOST_LOST else "lose"), 0
+    return {5: ("task", place), 2: ("frame", 0), 12: ("shortest", 0)}.get(number)
+
+
+def blamed_line(plan, number, place):
+    """The line of a text that a refusal is about, None where there is none."""
+    word, index = blamed(plan, number, place) or ("", 0)
+    lines = plan.own_tasks if word == "task" else plan.text.of(word)
+    return lines[index] if lines else None
 
 
 def _of_plan(plan, number, place, sentence):
-    """A sentence about a window or a task, with its place where there is a text."""
-    word = "task" if number == 5 else "window"
+    """A sentence about a window or a task, with its line where there is a text."""
+    word, index = blamed(plan, number, place)
     if plan.text and plan.name != "-":
-        return stands_at(plan.text, blamed(plan, number, place), f"{word} {place} {sentence}")
-    return f"{word} {place} (counted from 0) {sentence}"
+        return stands_at(plan.text, blamed_line(plan, number, place), f"{word} {index} {sentence}")
+    return f"{word} {index} (counted from 0) {sentence}"
 
 
-def _of_setting(plan, word, sentence):
-    """A sentence about a line of a text that stands once, where there is a text."""
-    if plan.text and plan.name != "-" and plan.text.of(word):
-        return stands_at(plan.text, plan.text.of(word)[0], sentence)
-    return sentence[0].upper() + sentence[1:]
+def _of_setting(plan, number, place, sentence):
+    """A sentence about a number that stands once, with its line where there is a text that has it."""
+    line = blamed_line(plan, number, place) if plan.text and plan.name != "-" else None
+    return stands_at(plan.text, line, sentence) if line else sentence[0].upper() + sentence[1:]
 
 
 def _windows(plan, _):
     """A list with as many windows as are legal is refused so only for the owner's sake. One that is not was not always read."""
-    if plan.owner is not None and plan.is_read() and 1 <= len(plan.windows) <= 64:
+    if plan.owner is not None and plan.is_read() and 1 <= len(plan.windows) <= limits.WINDOWS:
         return f"Owner {plan.owner} has no window here."
     return "There are no windows, or more than 64."
 
@@ -89,24 +100,26 @@ def _task(plan, index):
 def _sliver(plan, index):
     """At 64, which is no window's index, the shortest allowed window is out of its range."""
     shortest = plan.settings[0]
-    if index != 64:
+    if index != limits.WINDOWS:
         start, end, _ = plan.windows[index]
         return _of_plan(plan, 12, index, f"has {ticks(end - start)}, and no window here may have fewer than {shortest}.")
     if plan.text and plan.name != "-":
-        return _of_setting(plan, "shortest", "the shortest allowed window is not 1 to 65,536 ticks.")
+        return _of_setting(plan, 12, index, "the shortest allowed window is not 1 to 65,536 ticks.")
     return f"The shortest allowed window is {ticks(shortest)}, and not 1 to 65,536."
 
 
-def _lost(plan, _):
+def _lost(plan, place):
     """Which of its four causes a refusal 13 has, the first where there are several."""
     _, rule, lost = plan.settings
     if rule not in (1, 2):
-        return _of_setting(plan, "rule", f"the board's rule is {rule}, and neither 1 nor 2.")
-    if lost > 65_535:
-        return _of_setting(plan, "lose", f"the board loses {lost} ticks of every window, and not 0 to 65,535.")
-    if rule == 1:
-        return _of_setting(plan, "rule", f"the board's rule is 1, which gives whole windows, and it comes with {ticks(lost)} lost of each.")
-    return _of_setting(plan, "lose", f"the board loses {ticks(lost)} of every window, and no window{whose(plan)} is longer: no tick is left.")
+        cause = f"the board's rule is {rule}, and neither 1 nor 2."
+    elif lost > MOST_LOST:
+        cause = f"the board loses {lost} ticks of every window, and not 0 to {MOST_LOST:,}."
+    elif rule == 1:
+        cause = f"the board's rule is 1, which gives whole windows, and it comes with {ticks(lost)} lost of each."
+    else:
+        cause = f"the board loses {ticks(lost)} of every window, and no window{whose(plan)} is longer: no tick is left."
+    return _of_setting(plan, 13, place, cause)
 
 
 def damage(what, place, also):
@@ -115,7 +128,7 @@ def damage(what, place, also):
 
 _REFUSALS = {
     1: _windows,
-    2: lambda plan, _: "The frame is not 1 to 65,536 ticks.",
+    2: lambda plan, place: _of_setting(plan, 2, place, "the frame is not 1 to 65,536 ticks."),
     3: _window,
     4: lambda plan, _: "There are more than 32 tasks.",
     5: _task,
@@ -134,7 +147,7 @@ _OTHER_FORMS = {
 
 def other_form(plan, number):
     """A plan file does not say which form it has, and in another form its numbers may be a plan too; but an owner without a window has none in any form."""
-    if plan.text or number == 1 and plan.owner is not None:
+    if plan.text or number == 1 and plan.owner is not None and plan.is_read():
         return ""
     if plan.looks_like_text:
         return "\nOr it is a text: then say --text."
@@ -142,4 +155,10 @@ def other_form(plan, number):
 
 
 def long_length(length):
-    return f"A length is at most 1,000,000 ticks, and not {length}."
+    return f"A length is at most {ticks(limits.LENGTH)}, and not {length}."
+
+
+def some(parts, most):
+    """The first of some stretches in words, and how many more there are."""
+    more = len(parts) - most
+    return ", ".join(parts[:most]) + ("" if more <= 0 else " and 1 stretch more" if more == 1 else f" and {more} stretches more")

@@ -4,19 +4,18 @@ from the plan; what is shown is answered."""
 import heapq
 import math
 
-from front import program
+from front import limits, program
 from front.answers import Answer
 from front.errors import Cannot, Refused
 from front.numbers import listed
 from front.progress import Progress
 
-JOBS = 4_096  # of a run
-LENGTH = 1_000_000  # the longest that can be asked for
 CURVE = 1_200  # lengths at which a curve is asked for: more can't be told apart in a picture
 CLOSE = 90  # lengths before the marked one that a closer view of the curves shows
 ASKED = 1_000  # jobs of a long run whose ticks are looked for one by one
 RISES = 4_096  # lengths among which the smallest margin is looked for
-FIRST_ROWS, LAST_ROWS = 8, 16  # of the table, where not all lengths are in it
+ROWS = 24  # a screenful
+FIRST_ROWS = 8  # of a table that leaves out what stands between its first and its last
 ENDLESS = (1_000_000, 1_000_000, 1_000_000)  # a task whose one job takes what is supplied
 
 
@@ -58,7 +57,7 @@ class Miss:
         least, most = 1, self.length
         while least < most:
             middle = (least + most + 1) // 2
-            if sum(-(-middle // period) for _, period, _ in plan.group) <= JOBS:
+            if sum(-(-middle // period) for _, period, _ in plan.group) <= limits.JOBS:
                 least = middle
             else:
                 most = middle - 1
@@ -208,12 +207,12 @@ class Curves:
         self.searched = True
         mark = miss.length if miss else self._smallest(plan, cycle, progress)
         middle = plan.frame if mark is None else mark
-        self.end = min(middle + max(2, middle // 8), LENGTH)
+        self.end = min(middle + max(2, middle // 8), limits.LENGTH)
         self.every = self.end <= CURVE
-        near = range(max(0, middle - CLOSE), min(middle + CLOSE // 3, self.end) + 1)
+        near = range(max(0, middle - CLOSE), min(middle + CLOSE // 3, self.end) + 1) if mark and not self.every else ()
         wide = range(0, self.end + 1, 1 if self.every else -(-self.end // (CURVE // 2)))
         asked = at_lengths(plan, sorted({*wide, *near, self.end}), progress)
-        self.close = [] if self.every else [here for here in asked if here.length in near]
+        self.close = [here for here in asked if here.length in near]
         self.lengths = [here for here in asked if here.length in wide or here.length in (middle - 1, middle, middle + 1, self.end)]
         self.mark = next((here for here in asked if here.length == mark), None)
 
@@ -283,14 +282,14 @@ class Story:
         return amount
 
     def _rows(self, progress):
-        """The lengths at which the demand rises: of a cycle without a miss all, if they fit; else those up to the marked one, all or the first and the last of them, and
-        how many stand between, None if too many to count."""
+        """The lengths at which the demand rises, up to a screenful: without a miss those of the cycle from its first on, if the marked one is among them; else those up
+        to the marked one, all or the first and the last of them, and how many stand between, None if too many to count."""
         if not self.curves.mark:
             return [], 0
-        fit = FIRST_ROWS + LAST_ROWS
-        self.rows_to = self.curves.mark.length if self.miss or not rises(self.plan, self.cycle, fit)[1] else self.cycle
-        found, all_found = rises(self.plan, self.rows_to, RISES)
-        if all_found and len(found) <= fit:
-            return at_lengths(self.plan, found, progress), 0
-        shown = [*found[:FIRST_ROWS], *last_rises(self.plan, self.rows_to, LAST_ROWS)]
+        mark = self.curves.mark.length
+        first, _ = rises(self.plan, mark if self.miss else self.cycle, ROWS)
+        if first[-1] >= mark:
+            return at_lengths(self.plan, first, progress), 0
+        found, all_found = rises(self.plan, mark, RISES)
+        shown = [*found[:FIRST_ROWS], *last_rises(self.plan, mark, ROWS - FIRST_ROWS)]
         return at_lengths(self.plan, shown, progress), len(found) - len(shown) if all_found else None

@@ -19,7 +19,7 @@ def answer(plan, task):
     return [plan.ask(8, plan.table, plan.tasks, task)]
 
 
-def told(plan, tasks, lines):
+def sentence(plan, tasks, lines):
     """What the lines say of tasks, and once what it means to have no bound."""
     bounds = [f"task {task}: " + ("none up to its deadline" if line == "NO BOUND" else ticks(int(line.split()[1]))) for task, line in zip(tasks, lines)]
     none = " To have none shows no miss by itself." if "NO BOUND" in lines else ""
@@ -27,7 +27,7 @@ def told(plan, tasks, lines):
 
 
 def tell(plan, lines, task):
-    return told(plan, [task], lines)
+    return sentence(plan, [task], lines)
 
 
 def refused(plan, number, place, task):

@@ -25,7 +25,6 @@ def answer(plan):
 
 def tell(plan, lines):
     numbers = lines[0].split()[3:]
-    parts = [f"{start} to {end}" for start, end in zip(numbers[::2], numbers[1::2])]
-    more = f" and {len(parts) - SHOWN} stretches more" if len(parts) > SHOWN else ""
-    whose = sentences.whose(plan)
-    return f"From length 0 to {plan.frame} the least supply{whose} rises by 1 a tick from length {', '.join(parts[:SHOWN])}{more}, and nowhere else.{sentences.loss(plan)}"
+    parts = [f"{int(start):,} to {int(end):,}" for start, end in zip(numbers[::2], numbers[1::2])]
+    rising = sentences.some(parts, SHOWN)
+    return f"From length 0 to {plan.frame:,} the least supply{sentences.whose(plan)} rises by 1 a tick from length {rising}, and nowhere else.{sentences.loss(plan)}"

@@ -21,6 +21,6 @@ def answer(plan):
 def tell(plan, lines):
     delay, amount = map(int, lines[0].split()[1::2])
     return (
-        f"Of {ticks(plan.frame)} {amount} {are(amount)} supplied{sentences.whose(plan, ' to')}. The delay is {delay}/{amount} ticks: in any ticks in a row at least as many are supplied "
-        f"as an even share gives in {delay}/{amount} ticks less.{sentences.loss(plan)}"
+        f"Of {ticks(plan.frame)} {amount:,} {are(amount)} supplied{sentences.whose(plan, ' to')}. The delay is {delay:,}/{amount:,} ticks: in any ticks in a row at least as many are supplied "
+        f"as an even share gives in {delay:,}/{amount:,} ticks less.{sentences.loss(plan)}"
     )

@@ -21,7 +21,7 @@ a wrong lesson draws, and a table. The exit status is that of `palikudyom check`
 def answer(plan):
     story = Story(plan, COLUMNS)
     told = sentences.refusal(plan, *story.refused) if story.refused else sentences.verdict(plan, story.line)
-    return Answer([story.line], page.written(story, told).encode())
+    return Answer([story.line], page.page_of(story, told).encode())
 
 
 def tell(plan, lines):

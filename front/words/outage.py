@@ -24,6 +24,5 @@ def tell(plan, lines):
     board = "The board is" if plan.owner is None else f"To owner {plan.owner} the board is"
     if length == 0:
         return f"{board} never silent: every tick is supplied."
-    miss = plan.ask(7, plan.table, [3, 1, plan.frame, length]).split()
-    start = f" from tick {int(miss[4]):,} of each frame" if miss[:3] == ["MISS", "length", str(length)] else ""
-    return f"{board} silent for {ticks(length)}{start}, and never for longer.{sentences.loss(plan)}"
+    start = int(plan.ask(7, plan.table, [3, 1, plan.frame, length]).split()[4])
+    return f"{board} silent for {ticks(length)} from tick {start:,} of each frame, and never for longer.{sentences.loss(plan)}"

@@ -30,7 +30,7 @@ plan file has no owners. `palikudyom text` goes back.
 def answer(plan):
     """The bytes are written where the proved reader reads them as a plan, whatever it would say of the numbers: else it refuses the counts."""
     if plan.owner is not None:
-        raise Cannot(f"{plan.text.name}: a plan file has no owners")
+        raise Cannot(f"{plan.text.name if plan.has_owners else '--owner'}: a plan file has no owners")
     if sys.stdout is not None and sys.stdout.isatty():
         raise Cannot("a plan file is not for a terminal: write > FILE")
     plan.read()

@@ -1,6 +1,6 @@
 """A board's trace held against the tick machine (document 02, request 2)."""
 
-from front import program, sentences, texts
+from front import limits, program, sentences, texts
 from front.errors import Cannot
 from front.numbers import decode, encode
 from front.plans import file_bytes, text_of
@@ -31,6 +31,11 @@ class Trace:
             self.bytes = encode(numbers)[: program.ROOM + 1]
         else:
             self.bytes = file_bytes(name, program.ROOM + 1)
+
+    @property
+    def looks_like_text(self):
+        """Whether a trace file's bytes may be a text that was not told."""
+        return self.text is None and texts.is_text(self.bytes) and b"release" in self.bytes
 
     @property
     def records(self):
@@ -118,7 +123,8 @@ def refused(plan, number, place, trace):
     if number not in (9, 10, 11) or not plan.is_read():
         return None
     if number == 9:
-        return sentences.damage("trace", place, "a record's kind is neither 0 nor 1")
+        hint = "\nOr it is a text: then say --text." if trace.looks_like_text else ""
+        return sentences.damage("trace", place, "a record's kind is neither 0 nor 1") + hint
     return _oversize(trace) if number == 10 else _broken(trace, trace.records[place])
 
 
@@ -127,13 +133,13 @@ def _oversize(trace):
     releases = 0
     for record in trace.records:
         releases += record.release
-        if record.instant >= 1_100_000:
+        if record.instant >= limits.RUN_TICKS:
             return trace.about(
                 record,
-                f"record {record.index} is at tick {record.instant}, and a trace has at most 1,100,000 ticks; a stamp below the one before it counts as the counter gone past its top.",
+                f"record {record.index} is at tick {record.instant}, and a trace has at most {limits.RUN_TICKS:,} ticks; a stamp below the one before it counts as the counter gone past its top.",
             )
-        if releases > 4_096:
-            return trace.about(record, f"record {record.index} is one release more than the 4,096 that a trace has at most.")
+        if releases > limits.JOBS:
+            return trace.about(record, f"record {record.index} is one release more than the {limits.JOBS:,} that a trace has at most.")
 
 
 def _broken(trace, record):

@@ -1,6 +1,6 @@
 """The tick machine's run of a job list (document 01, "The tick machine")."""
 
-from front import sentences, texts
+from front import limits, sentences, texts
 from front.numbers import listed
 from front.plans import text_of
 from front.sentences import ticks
@@ -19,7 +19,7 @@ and `job RELEASE TASK WORK` a job, by rising tick, then by rising task.
     MET backlog 2 BUFFER 4 7
 """
 
-JOBS_KEPT = 4_097  # one more than is legal is refused, whatever follows; these fit a stream, whatever their numbers
+JOBS_KEPT = limits.JOBS + 1  # one more than is legal is refused, whatever follows; these fit a stream, whatever their numbers
 
 
 class Jobs:
@@ -60,9 +60,9 @@ def tell(plan, lines, jobs):
 
 def refused(plan, number, place, jobs):
     if number == 10:
-        if len(jobs.lines) > 4_096:
-            return sentences.stands_at(jobs.text, jobs.lines[4_096], "this is one job more than the 4,096 that a run has at most.")
-        return sentences.stands_at(jobs.text, jobs.text.of("ticks")[0], f"a run has at most 1,100,000 ticks, and not {jobs.ticks}.")
+        if len(jobs.lines) > limits.JOBS:
+            return sentences.stands_at(jobs.text, jobs.lines[limits.JOBS], f"this is one job more than the {limits.JOBS:,} that a run has at most.")
+        return sentences.stands_at(jobs.text, jobs.text.of("ticks")[0], f"a run has at most {ticks(limits.RUN_TICKS)}, and not {jobs.ticks}.")
     if number == 11:
         release, task, work = jobs.lines[place].numbers
         return sentences.stands_at(

@@ -25,19 +25,8 @@ allowed window does, --with-rule that this, the rule and the lost ticks do.
 
 def answer(plan):
     if plan.owner is not None:
-        raise Cannot("a plan file has no owners")
-    lines = [f"frame {plan.frame}", *_settings(plan)]
-    lines += [f"window {start} {end}" for start, end, _ in plan.windows]
-    lines += [f"task {work} {period} {deadline}" for work, period, deadline in plan.group]
-    return Answer([], "".join(f"{line}\n" for line in lines).encode())
-
-
-def _settings(plan):
-    """The lines of the board's settings: those from which `palikudyom plan` makes the same numbers."""
-    lines = [f"shortest {shortest}" for shortest in plan.settings[:1]]
-    for rule in plan.settings[1:2]:
-        lines += [f"rule {rule}"] if rule != 2 else []
-    return lines + [f"lose {lost}" for lost in plan.settings[2:]]
+        raise Cannot("--owner: a plan file has no owners")
+    return Answer([], "".join(f"{line}\n" for _, _, line in plan.lines()).encode())
 
 
 def tell(plan, lines):
