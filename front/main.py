@@ -94,7 +94,8 @@ def over_plans(call, word, arguments, names):
         return tell_about(call, word, names[0], arguments, is_text)
     worst = 0
     with Progress(len(names), "plans done:") as progress:
-        for progress.done, name in enumerate(names):
+        for done, name in enumerate(names):
+            progress.done = done
             progress.show_done()
             try:
                 worst = max(worst, tell_about(call, word, name, arguments, is_text, progress))

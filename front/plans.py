@@ -140,8 +140,8 @@ class Plan:
         return self.settings[2] if self.form == "with-rule" else 0
 
     def read(self):
-        """Settings, table and tasks. The program is asked to read the plan with a byte left over: it names that byte exactly where the others are a plan, and judges nothing. A file that is
-        none is refused as the program refuses it: 9, and the counts' 1 and 4."""
+        """Settings, table and tasks. The program is asked to read the plan with a byte left over: it names that byte exactly where the others are a plan, and
+        judges nothing. A file that is none is refused as the program refuses it: 9, and the counts' 1 and 4."""
         if self._lists is None:
             if self._of_bytes(self.bytes + b"\0") != f"REFUSED 9 at {len(self.bytes)}":
                 raise Refused(self._of_bytes(self.bytes))

@@ -9,6 +9,10 @@ def ticks(count):
     return "1 tick" if count == 1 else f"{count:,} ticks"
 
 
+def counted(count, word):
+    return f"{count} {word}" if count == 1 else f"{count} {word}s"
+
+
 def are(count):
     return "is" if count == 1 else "are"
 
@@ -81,7 +85,7 @@ def _windows(plan, _):
     """A list with as many windows as are legal is refused so only for the owner's sake. One that is not was not always read."""
     if plan.owner is not None and plan.is_read() and 1 <= len(plan.windows) <= limits.WINDOWS:
         return f"Owner {plan.owner} has no window here."
-    return "There are no windows, or more than 64."
+    return f"There are no windows, or more than {limits.WINDOWS}."
 
 
 def _window(plan, index):
@@ -130,7 +134,7 @@ _REFUSALS = {
     1: _windows,
     2: lambda plan, place: _of_setting(plan, 2, place, "the frame is not 1 to 65,536 ticks."),
     3: _window,
-    4: lambda plan, _: "There are more than 32 tasks.",
+    4: lambda plan, _: f"There are more than {limits.TASKS} tasks.",
     5: _task,
     6: lambda plan, _: "The least common multiple of the frame and all periods is over 1,000,000.",
     9: lambda plan, place: damage("plan file", place, "a byte is left over"),

@@ -4,6 +4,7 @@ import sys
 
 from front.answers import Answer
 from front.errors import Cannot
+from front.sentences import counted
 
 TOPIC = "files"
 ARGUMENTS = ()
@@ -38,4 +39,5 @@ def answer(plan):
 
 
 def tell(plan, lines):
-    return ""
+    how = f"read with --{plan.form}" if plan.form else "read without an option"
+    return f"A plan file of {counted(len(plan.bytes), 'byte')}, {how}; whether its numbers are legal was not asked."

@@ -2,6 +2,7 @@
 
 from front.answers import Answer
 from front.errors import Cannot
+from front.sentences import counted, ticks
 
 TOPIC = "files"
 ARGUMENTS = ()
@@ -30,7 +31,7 @@ def answer(plan):
 
 
 def tell(plan, lines):
-    return ""
+    return f"A frame of {ticks(plan.frame)}, {counted(len(plan.windows), 'window')}, {counted(len(plan.group), 'task')}; whether they are legal was not asked."
 
 
 def refused(plan, number, place):
