@@ -14,7 +14,7 @@ pub fn gcd(a: u64, b: u64) -> u64
     if b == 0 { a } else { gcd(b, a % b) }
 }
 
-#[derive(Drop)]
+#[derive(Clone, Copy)]
 pub(crate) enum Cycle {
     Of(u32),
     Over,

@@ -1,4 +1,6 @@
 // The checker: demand, margin, verdict and bound of document 01, on any numbers at all. Each entry's answer equals its definition in `scope`.
+#![tactic(auto)]
+
 pub mod bound;
 pub mod cycle;
 pub mod demand;

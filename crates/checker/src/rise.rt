@@ -9,7 +9,7 @@ use tables::number::lesser;
 use tables::task::task_at;
 
 // What the demand rises by at a length, and the next length at which it rises.
-#[derive(Drop)]
+#[derive(Clone, Copy)]
 pub(crate) struct Rise {
     pub by: u64,
     pub next: u32,

@@ -8,7 +8,7 @@ ghost use Rattle.checker.specs.Stretches.{on_at, slid_of, Slides, Spans};
 use tables::cursor::Cursor;
 
 // The cursors of the first tick and of the one after the last, and the supplied ticks.
-#[derive(Drop)]
+#[derive(Clone, Copy)]
 pub(crate) struct Stretch {
     pub from: Cursor,
     pub to: Cursor,

@@ -16,7 +16,7 @@ use tables::board::Board;
 use tables::window::Window;
 
 // Of the window at an index: a new start and end, where it keeps its owner; a window inserted before it, or after the last; or its removal.
-#[derive(Drop)]
+#[derive(Clone, Copy)]
 pub enum Edit {
     Move {
         index: u32,

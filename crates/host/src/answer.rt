@@ -6,7 +6,7 @@ use tables::answer::{Amount, Refusal};
 
 // An answer as a code and numbers, for an enum can't cross to C. Numbers that a code has no use for are 0.
 #[repr(C)]
-#[derive(Drop)]
+#[derive(Clone, Copy)]
 pub struct Answer {
     pub code: u32,
     pub a: u64,

@@ -1,5 +1,7 @@
 // Every entry for a host that has only numbers, such as a C program: palikudyom.h declares these functions.
 // specs/Told.antt gives each answer's code and numbers.
+#![tactic(auto)]
+
 pub mod answer;
 pub mod bound;
 pub mod demand;

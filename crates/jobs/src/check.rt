@@ -13,12 +13,12 @@ use tables::list::bad_count;
 use tables::task::{Task, check_tasks, task_at};
 
 // The ticks of a run.
-#[derive(Drop)]
+#[derive(Clone, Copy)]
 pub struct Run {
     pub ticks: u32,
 }
 
-#[derive(Drop)]
+#[derive(Clone, Copy)]
 pub enum MadeRun {
     Is(Run),
     Refused(Refusal),

@@ -3,7 +3,7 @@ ghost use Rattle.scope.specs.Jobs.{jobs_of, job_at};
 ghost use Rattle.jobs.specs.Told.{job_of};
 
 // A job: the tick at which it is released, the index of its task, and its work.
-#[derive(Drop)]
+#[derive(Clone, Copy)]
 pub struct Job {
     pub release: u32,
     pub task: u32,

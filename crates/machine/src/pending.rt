@@ -6,7 +6,7 @@ ghost use Rattle.machine.specs.Places.{all_places, due_at, soonest_of};
 
 use crate::state::RunState;
 
-#[derive(Drop)]
+#[derive(Clone, Copy)]
 pub(crate) struct Pending {
     pub bits: u32,
 }

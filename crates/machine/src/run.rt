@@ -26,7 +26,7 @@ use tables::task::Task;
 use tables::window::Window;
 
 // What a run answers.
-#[derive(Drop)]
+#[derive(Clone, Copy)]
 pub enum Ran {
     Met {
         backlog: u32,

@@ -13,7 +13,7 @@ use tables::task::Task;
 // A run at an instant: the ticks before it are done, and `cursor` is at the tick that begins there. The jobs before `next` are released.
 // The tasks that have a job with work left are pending, and have that job in their places; none of these is due before `soon`.
 // `done` is the job that ended in the last tick, or no job. The run ends at the instant `end`.
-#[derive(Drop)]
+#[derive(Clone, Copy)]
 pub(crate) struct RunState {
     pub instant: u32,
     pub end: u32,

@@ -10,7 +10,7 @@ const NUMBERS: u32 = 200;
 // All others have at most so many.
 pub(crate) const LATER_NUMBERS: u32 = 400;
 
-#[derive(Drop)]
+#[derive(Clone, Copy)]
 pub(crate) struct Asked {
     // the team that is asked for
     pub owner: u32,
@@ -70,7 +70,7 @@ impl Asked {
 }
 
 // What stands before a query under code 16.
-#[derive(Drop)]
+#[derive(Clone, Copy)]
 pub(crate) struct Settings {
     pub asked: Asked,
     pub after: Cursor,

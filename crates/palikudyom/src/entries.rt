@@ -59,7 +59,7 @@ fn trace_bytes() -> [u8; TRACE as usize]
 
 // ---- entries over a table
 
-#[derive(Drop)]
+#[derive(Clone, Copy)]
 pub(crate) struct Table {
     pub board: Board,
     pub count: usize,

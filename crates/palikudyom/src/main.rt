@@ -2,6 +2,8 @@
 // input is a plan file with the shortest allowed window first, with `--with-rule` one with that, the rule and the lost ticks first. With `--ask` it answers a
 // stream of queries on standard input: docs/ASK.md. With `--replay` it replays a trace on standard input, with `--replay-for` one team's, with `--replay-on`
 // one on a board with its settings.
+#![tactic(auto)]
+
 mod ask;
 mod asked;
 mod entries;

@@ -4,7 +4,7 @@ use plan::check::{buffer, check_plan, check_plan_with_rule, check_plan_with_shor
 use tables::answer::Verdict;
 
 // What a plan file has before P: nothing, the shortest allowed window, or that, the rule and the lost ticks.
-#[derive(Drop)]
+#[derive(Clone, Copy)]
 pub(crate) enum Form {
     Plain,
     WithShortest,

@@ -23,20 +23,20 @@ pub(crate) const SUMMARY: u32 = 9000;
 pub(crate) const LENGTHS: u32 = 1000;
 
 // Where the next number begins; or, where the reading is stopped, the bad one.
-#[derive(Drop)]
+#[derive(Clone, Copy)]
 pub(crate) struct Cursor {
     pub at: usize,
     pub good: bool,
 }
 
-#[derive(Drop)]
+#[derive(Clone, Copy)]
 pub(crate) struct Read {
     pub value: u32,
     pub after: Cursor,
 }
 
 // A list's numbers stand at the front of the buffer it was read into.
-#[derive(Drop)]
+#[derive(Clone, Copy)]
 pub(crate) struct Listed {
     pub count: usize,
     pub after: Cursor,

@@ -126,7 +126,7 @@ fn margins_into(
 
 // ---- an edit
 
-#[derive(Drop)]
+#[derive(Clone, Copy)]
 struct Change {
     edit: Edit,
     after: Cursor,

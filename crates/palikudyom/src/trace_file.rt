@@ -16,7 +16,7 @@ fn space() -> [u8; MOST]
 }
 
 // What stands before P: nothing, where the windows are pairs; else they are in threes, after the owner, or after the settings as code 16 has them.
-#[derive(Drop)]
+#[derive(Clone, Copy)]
 pub(crate) enum Before {
     Nothing,
     Owner,

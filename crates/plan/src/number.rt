@@ -5,7 +5,7 @@ ghost use Rattle.scope.specs.Plan.{read_groups, read_number};
 ghost use Rattle.plan.specs.Told.{told_number};
 
 // The number at an offset, with the offset after it; or the offset that refusal 9 names.
-#[derive(Drop)]
+#[derive(Clone, Copy)]
 pub enum Number {
     Is { value: u32, next: usize },
     Bad(usize),

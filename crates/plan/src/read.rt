@@ -12,14 +12,14 @@ use tables::task::Task;
 use tables::window::Window;
 
 // How many numbers stand at the front of a lent buffer, with the offset after them in the file; or the refusal.
-#[derive(Drop)]
+#[derive(Clone, Copy)]
 pub(crate) enum Listed {
     Is { count: usize, next: usize },
     Refused(Refusal),
 }
 
 // P, and how many numbers of the windows and of the tasks stand at the front of the lent buffers; or the refusal.
-#[derive(Drop)]
+#[derive(Clone, Copy)]
 pub(crate) enum ReadPlan {
     Is {
         frame: u32,

@@ -1,4 +1,6 @@
 // What is written: the line of a verdict, and the bytes of a plan. Each equals its definition in `scope`.
+#![tactic(auto)]
+
 pub mod line;
 mod text;
 pub mod write;

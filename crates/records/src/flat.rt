@@ -4,7 +4,7 @@ ghost use Rattle.records.specs.Numbers.{numbers_of, enough_records, enough_numbe
 use tables::task::Task;
 
 // The numbers of a group's first records, as the entries of `checker` take them: C, T, D, C, T, D, ..
-#[derive(Drop)]
+#[derive(Clone, Copy)]
 pub(crate) struct Flat {
     pub numbers: [u32; 3 * (Task::MOST + 1)],
     pub len: usize,

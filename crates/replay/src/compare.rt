@@ -10,7 +10,7 @@ use crate::ending::{Seen, completion_after};
 use crate::read::{Reader, next, start};
 
 // The first pair that differs, if one does.
-#[derive(Drop)]
+#[derive(Clone, Copy)]
 pub(crate) enum Compared {
     Equal,
     Differ { trace: Seen, machine: Seen },

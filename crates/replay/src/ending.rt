@@ -6,7 +6,7 @@ ghost use Rattle.replay.specs.Ending.{next_end, best_of, nearer_of, completion_i
 use jobs::job::job_at;
 
 // A completion; or none, where a side has ended.
-#[derive(Drop)]
+#[derive(Clone, Copy)]
 pub enum Seen {
     None,
     At { instant: u32, task: u32 },
@@ -20,7 +20,7 @@ fn complete(release: u32, count: u32) -> u64
 }
 
 // The best job so far, and the first instant that is too late to be before it.
-#[derive(Drop)]
+#[derive(Clone, Copy)]
 struct Best {
     job: usize,
     until: u64,

@@ -9,7 +9,7 @@ use jobs::check::Run;
 use plan::number::{Number, read_number};
 
 // A record as it is stamped, with the offset after it; or the offset that refusal 9 names. A completion has work 0.
-#[derive(Drop)]
+#[derive(Clone, Copy)]
 pub(crate) enum ReadRecord {
     Is {
         kind: u32,
@@ -22,7 +22,7 @@ pub(crate) enum ReadRecord {
 }
 
 // Where a reader stands after a record, and the record at its instant; `bad` with the offset where there is none.
-#[derive(Drop)]
+#[derive(Clone, Copy)]
 pub(crate) struct Reader {
     pub(crate) at: usize,
     pub(crate) bad: bool,

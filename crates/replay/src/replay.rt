@@ -24,7 +24,7 @@ use tables::answer::{Checked, Refusal};
 use tables::board::Board;
 
 // What a replay answers. The job of a miss is its index among the trace's releases.
-#[derive(Drop)]
+#[derive(Clone, Copy)]
 pub enum Replayed {
     Same,
     Differs { trace: Seen, machine: Seen },

@@ -12,7 +12,7 @@ use jobs::check::Run;
 use tables::answer::{Checked, Refusal};
 
 // The ticks of the run, no more than one too many, and the number of releases; or the offset that refusal 9 names.
-#[derive(Drop)]
+#[derive(Clone, Copy)]
 pub(crate) enum Extent {
     Is { ticks: u32, releases: usize },
     Bad(usize),

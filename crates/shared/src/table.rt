@@ -14,13 +14,13 @@ use tables::board::{Board, check_frame, check_rule, check_shortest};
 use tables::window::{MadeWindow, Window, check_list};
 
 // A window and the team that it belongs to.
-#[derive(Drop)]
+#[derive(Clone, Copy)]
 pub struct Owned {
     pub window: Window,
     pub owner: u32,
 }
 
-#[derive(Drop)]
+#[derive(Clone, Copy)]
 pub enum MadeOwned {
     Is(Owned),
     Refused(Refusal),

@@ -1,4 +1,6 @@
 // What a table supplies: a tick, the least supply of a length, the critical partition and the delay; and a summary of it, over one owner's windows.
+#![tactic(auto)]
+
 pub mod partition;
 mod pieces;
 mod row;

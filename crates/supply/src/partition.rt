@@ -18,7 +18,7 @@ use tables::board::Board;
 use tables::window::Window;
 
 // How many numbers the critical partition has, the delay, and whether the numbers that are held begin with the partition.
-#[derive(Drop)]
+#[derive(Clone, Copy)]
 pub(crate) struct Measure {
     pub numbers: u32,
     pub delay: u32,
@@ -26,7 +26,7 @@ pub(crate) struct Measure {
 }
 
 // The edges of the critical partition that are met so far: how many, and whether the numbers that are held begin with them.
-#[derive(Drop)]
+#[derive(Clone, Copy)]
 struct Met {
     count: u32,
     same: bool,

@@ -12,14 +12,14 @@ use tables::number::{larger, lesser};
 use tables::window::window_at;
 
 // What lies ahead of a length: the least supply stays for `flat` lengths or, where that is none, rises at each of `rise`.
-#[derive(Drop)]
+#[derive(Clone, Copy)]
 struct Ahead {
     flat: u32,
     rise: u32,
 }
 
 // Lengths up to `end` over which the least supply rises at each tick or at none, and what it is at `end`.
-#[derive(Drop)]
+#[derive(Clone, Copy)]
 pub(crate) struct Piece {
     pub rising: bool,
     pub end: u32,

@@ -8,7 +8,7 @@ ghost use Rattle.supply.specs.Positions.{first, opens, closes, following, ticks_
 use tables::window::Window;
 
 // Window `index` of the frame that begins at tick `base`, with the supplied ticks before that window.
-#[derive(Drop)]
+#[derive(Clone, Copy)]
 pub(crate) struct Position {
     pub index: usize,
     pub base: u32,
@@ -99,7 +99,7 @@ pub(crate) fn upto(windows: &[u32], position: Position, x: u32) -> u32
 }
 
 // Ticks that are all supplied or all unsupplied, and how many.
-#[derive(Drop)]
+#[derive(Clone, Copy)]
 pub(crate) struct Ticks {
     pub on: bool,
     pub far: u32,

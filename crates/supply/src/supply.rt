@@ -16,14 +16,14 @@ use tables::number::lesser;
 use tables::window::{Window, check_table, is_on, window_at};
 
 // The least supply of a length, and A, which is the whole frame's.
-#[derive(Drop)]
+#[derive(Clone, Copy)]
 pub(crate) struct Least {
     pub supply: u32,
     pub whole: u32,
 }
 
 // A start that is tried, and the supplied ticks before it.
-#[derive(Drop)]
+#[derive(Clone, Copy)]
 pub(crate) struct Start {
     pub tick: u32,
     pub before: u32,

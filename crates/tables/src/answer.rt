@@ -4,7 +4,7 @@ ghost use Rattle.scope.specs.Answers.{◌or_else◌};
 ghost use Rattle.tables.specs.Told.{number as number_of, place as place_of, no, fault_of, told_amount};
 
 // Why an input is refused.
-#[derive(Drop)]
+#[derive(Clone, Copy)]
 pub enum Refusal {
     WindowList,
     Frame,
@@ -69,7 +69,7 @@ impl Refusal {
 }
 
 // Whether a check passes.
-#[derive(Drop)]
+#[derive(Clone, Copy)]
 pub enum Checked {
     Fine,
     Bad(Refusal),
@@ -88,14 +88,14 @@ impl Checked {
 }
 
 // Whether a tick is supplied.
-#[derive(Drop)]
+#[derive(Clone, Copy)]
 pub enum Supplied {
     Is(bool),
     Refused(Refusal),
 }
 
 // A least supply, an outage, a demand, a number of windows, of bytes or of numbers.
-#[derive(Drop)]
+#[derive(Clone, Copy)]
 pub enum Amount {
     Of(u64),
     Refused(Refusal),
@@ -118,13 +118,13 @@ pub fn refuse_signed(why: Refusal, out: &mut [i64]) -> Amount
 }
 
 // The delay times A, with A beside it.
-#[derive(Drop)]
+#[derive(Clone, Copy)]
 pub enum Delay {
     Of { delay: u64, per_frame: u32 },
     Refused(Refusal),
 }
 
-#[derive(Drop)]
+#[derive(Clone, Copy)]
 pub enum Margin {
     Of(i64),
     Refused(Refusal),
@@ -142,7 +142,7 @@ pub fn magnitude(m: i64) -> u64
     }
 }
 
-#[derive(Drop)]
+#[derive(Clone, Copy)]
 pub enum Verdict {
     Meets {
         cycle: u32,
@@ -156,7 +156,7 @@ pub enum Verdict {
     Refused(Refusal),
 }
 
-#[derive(Drop)]
+#[derive(Clone, Copy)]
 pub enum Bound {
     Of(u32),
     NoBound,
@@ -164,7 +164,7 @@ pub enum Bound {
 }
 
 // What an edit leaves: how many windows, and how many numbers their summary has.
-#[derive(Drop)]
+#[derive(Clone, Copy)]
 pub enum Edited {
     Is { windows: u64, numbers: u64 },
     Refused(Refusal),

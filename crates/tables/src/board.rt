@@ -9,7 +9,7 @@ use crate::window::Window;
 // What a table is judged by beside its windows: the frame, the owner that is asked for, the shortest allowed window, the rule by which windows are given, and
 // the ticks that are lost of each. Any value may be lent: the entries check it. C lends it too, as it is.
 #[repr(C)]
-#[derive(Drop)]
+#[derive(Clone, Copy)]
 pub struct Board {
     pub frame: u32,
     pub owner: u32,
@@ -18,7 +18,7 @@ pub struct Board {
     pub lost: u32,
 }
 
-#[derive(Drop)]
+#[derive(Clone, Copy)]
 pub enum MadeBoard {
     Is(Board),
     Refused(Refusal),

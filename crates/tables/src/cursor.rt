@@ -6,7 +6,7 @@ use crate::window::window_at;
 
 // A tick of the frame and the window at hand there: on a legal table the first one that ends after the tick, which alone can give it; past the last one
 // none is. So whoever goes on tick by tick looks at one window each time.
-#[derive(Drop)]
+#[derive(Clone, Copy)]
 pub struct Cursor {
     pub tick: u32,
     pub window: usize,

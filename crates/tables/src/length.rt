@@ -5,12 +5,12 @@ ghost use Rattle.tables.specs.Told.{fault_of, told_length};
 use crate::answer::{Checked, Refusal};
 
 // A length that is asked for.
-#[derive(Drop)]
+#[derive(Clone, Copy)]
 pub struct Length {
     pub ticks: u32,
 }
 
-#[derive(Drop)]
+#[derive(Clone, Copy)]
 pub enum MadeLength {
     Is(Length),
     Refused(Refusal),

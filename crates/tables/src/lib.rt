@@ -1,5 +1,7 @@
 // What a table and a group are, their checks, a cursor that goes through a table tick by tick, the lesser and the larger of two
 // numbers, and what every entry answers. Each public function is total: any numbers at all may be lent.
+#![tactic(auto)]
+
 pub mod answer;
 pub mod board;
 pub mod cursor;

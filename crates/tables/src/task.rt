@@ -7,14 +7,14 @@ use crate::answer::{Checked, Refusal};
 use crate::list::bad_count;
 
 // A task: C is the work, T the period (least distance of releases), D the deadline after release.
-#[derive(Drop)]
+#[derive(Clone, Copy)]
 pub struct Task {
     pub work: u32,
     pub period: u32,
     pub deadline: u32,
 }
 
-#[derive(Drop)]
+#[derive(Clone, Copy)]
 pub enum MadeTask {
     Is(Task),
     Refused(Refusal),

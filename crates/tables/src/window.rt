@@ -8,13 +8,13 @@ use crate::board::check_frame;
 use crate::list::bad_count;
 
 // The ticks `start` up to but not including `end`.
-#[derive(Drop)]
+#[derive(Clone, Copy)]
 pub struct Window {
     pub start: u32,
     pub end: u32,
 }
 
-#[derive(Drop)]
+#[derive(Clone, Copy)]
 pub enum MadeWindow {
     Is(Window),
     Refused(Refusal),

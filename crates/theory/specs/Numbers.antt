@@ -23,7 +23,8 @@ bool_cases true = inl refl
 bool_cases false = inr refl
 
 pub or_neither : (a b : Bool) → (a || b) ≡ false → (a ≡ false) × (b ≡ false)
-or_neither true b e = (e, elim b [ true ↦ e | false ↦ refl ])
+or_neither true true e = (e, e)
+or_neither true false e = (e, refl)
 or_neither false b e = (refl, e)
 
 -- a ≤ x and y ≤ e, as a test
