@@ -2,6 +2,7 @@ use mathlib.Core.Path.{sym, ap, ◌∙◌}
 use native.Mathlib.Omega.{arith}
 use lib.ListN.{take}
 use lib.Seq.{length-take-le}
+use borrow.Author.Rules.{rules}
 use Rattle.scope.specs.Windows.{Board}
 use Rattle.scope.specs.Shared.{as_owned, verdict_for}
 use Rattle.plan.specs.Told.{told_plan}
@@ -9,7 +10,7 @@ use Rattle.plan.proofs.ReadLaws.{plan_refused, plan_judged}
 use Rattle.plan.proofs.check.check_with.Goals as goal
 
 pub slice_bounds-board_of-end : goal.slice_bounds-board_of-end
-slice_bounds-board_of-end c = sym (length-take-le _ _ (slice_bounds-settings-end c))
+slice_bounds-board_of-end c = sym (length-take-le _ _ (search rules))
 
 pub slice_bounds-windows-end : goal.slice_bounds-windows-end
 slice_bounds-windows-end c =
@@ -35,9 +36,8 @@ slice_bounds-verdict_of-end-in-Is c = sym (length-take-le _ _ (let d = c in
 
 pub verdict_of-requires : goal.verdict_of-requires
 verdict_of-requires c =
-    let h = slice_bounds-windows-end c in
-    let e = slice_bounds-verdict_of-end c in
-    omega (arith, h, e)
+    let h = rw c.in-Is.is at c.read_plan.ensures.room in
+    omega (arith, length-take-le c.in-Is.w c.read_plan.new.windows (omega (arith, h.0)), h.0)
 
 pub returns-in-Refused : goal.returns-in-Refused
 returns-in-Refused c =

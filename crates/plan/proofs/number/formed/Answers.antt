@@ -1,6 +1,6 @@
 use mathlib.Core.Logic.{⊎_elim}
 use native.Mathlib.Omega.{arith}
-use borrow.Author.Tests.{eqb-true, eqb-false}
+use borrow.Author.Tests.{eqb-true}
 use Rattle.theory.specs.Reading.{well_formed_lem, is_well_formed}
 use Rattle.plan.proofs.NumberLaws.{number_formed, number_ill_formed}
 use Rattle.plan.proofs.number.formed.Goals as goal
@@ -13,9 +13,8 @@ returns-then-last-eq0 c = number_ill_formed _ _ (λ w. omega (arith, (well_forme
 
 pub returns : goal.returns
 returns c =
-    let last = c.args.last in
     number_formed _ _
     (⊎_elim
-    (λ w. is_well_formed _ (omega arith) (λ n. omega (arith, eqb-false last 0 w.1.left)))
-    (λ w. is_well_formed _ (omega arith) (λ n. absurd (omega (arith, w.left, n))))
-    c.else-size-ne1.branch)
+    (λ w. is_well_formed _ (omega arith) (λ n. omega (arith, w.1)))
+    (λ w. is_well_formed _ (omega arith) (λ n. absurd (omega (arith, w, n))))
+    c.else-size-ne1.either)

@@ -12,6 +12,7 @@ use borrow.Author.Rules.{rules}
 use Rattle.plan.proofs.read.read_counted.Lts as lts
 use Rattle.plan.proofs.read.read_counted.Tie as tie
 use Rattle.plan.proofs.read.read_counted.Reads as reads
+use mathlib.Core.Logic.{⊎_elim}
 use Rattle.plan.proofs.read.read_counted.Goals as goal
 
 abbrev Past-After-known_told2 : Type 0
@@ -23,8 +24,7 @@ Else2 = lts.Else2 tie.the-claims reads.Pre reads.Post tie.handed_clauses
 -- the count that was read
 count_at : (c : Past-After-known_told2) →
     let a = c.args in
-    let v = c.value-1.given in
-    read_number a.bytes.now a.at ≡ read v.0.0 v.0.1.0
+    read_number a.bytes.now a.at ≡ read c.in-Is.value c.in-Is.next
 count_at c = sym c.read_number.ensures ∙ ap told_number c.in-Is.is
 
 -- the count passes, so its numbers fit the buffer
@@ -40,7 +40,7 @@ pub returns-then-count-least : goal.returns-then-count-least
 returns-then-count-least c =
     let d = c in
     let n = c.in-Is.value in record { answer = count_refused _ _ _ _ _ d.args.refusal _ _ (count_at c.before.before) d.requires.0
-          (λ h. elim c.then-count-least.branch [ inl w ↦ omega (arith, w.taken, h.0) | inr w ↦ omega (arith, ltb-true d.args.most n w.1.taken, h.1) ]); room = search rules }
+          (λ h. ⊎_elim (λ w. omega (arith, w, h.0)) (λ w. omega (arith, w.1, h.1)) c.then-count-least.either); room = search rules }
 
 pub overflow_mul-each : goal.overflow_mul-each
 overflow_mul-each c =
@@ -62,4 +62,4 @@ returns-else-most-count c =
     let a = d.args in
     let r = c.read_numbers.ensures in
     let e = count_at c.before.before.before.before.before.before.before in
-    record { answer = r.answer ∙ count_taken _ _ _ _ _ a.refusal _ _ e d.then-count-least.false (few c.before.before.before.before.before); room = r.room }
+    record { answer = r.answer ∙ count_taken _ _ _ _ _ a.refusal _ _ e c.if-count-least.false (few c.before.before.before.before.before); room = r.room }

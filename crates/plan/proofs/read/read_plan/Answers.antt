@@ -16,5 +16,5 @@ returns-in-Is c =
     let r = c.read_from.ensures in
     let e = told_at told_listed _ n.ensures.answer d.in-Is.is in
     let room = rw d.in-Is.is at n.ensures.room in
-    let fits = rw (sym n.auto.1.1.1.0) at room in
+    let fits = rw (sym n.auto.out) at room in
     record { answer = r.answer _ ∙ settings_read _ _ _ _ _ fits e; room = r.room }
