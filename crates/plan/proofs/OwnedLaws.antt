@@ -1,5 +1,5 @@
 -- A plan's windows as threes of owner 0, in memory that has room for the threes of the longest list
-use mathlib.Core.Path.{◌≡◌, sym, ap, ◌∙◌}
+use mathlib.Core.Path.{◌≡◌, sym, ◌∙◌}
 use mathlib.Core.List.{List}
 use Prim.Native.Nat.{ℕ, ◌*◌, ◌≤◌}
 use native.Mathlib.Omega.{arith}
@@ -8,7 +8,7 @@ use lib.Seq.{take-append_seam}
 use borrow.Author.Tests.{le-ltb}
 use Rattle.scope.specs.Numbers.{written}
 use Rattle.scope.specs.Limits.{most_windows}
-use Rattle.scope.specs.Answers.{Answer.given, Answer.refused, unless, room_fault}
+use Rattle.scope.specs.Answers.{Answer.given, Answer.refused, room_fault}
 use Rattle.scope.specs.Shared.{as_owned, as_owned_answer, as_owned_out}
 use Rattle.theory.specs.Answers.{fault_not_fine, unless_given, unless_refused_lem}
 use Rattle.theory.specs.Alone.{owned_length}

@@ -11,7 +11,7 @@ use native.Mathlib.Omega.{arith}
 use borrow.Author.Tests.{lt-ltb, eq-eqb, ne_eqb}
 use Rattle.scope.specs.Numbers.{first, pieces, pieces_from, bad_count}
 use Rattle.scope.specs.Limits.{teams, most_frame, most_windows}
-use Rattle.scope.specs.Windows.{Board, framed, Window, window, windows_of, window_at, supplied, supplied_by, window_legal, bad_window}
+use Rattle.scope.specs.Windows.{Board, framed, Window, windows_of, window_at, supplied, supplied_by, window_legal, bad_window}
 use Rattle.scope.specs.Answers.{Fault, Fault.fine, Fault.fault, Answer, Answer.given, Answer.refused, fault_if, fault_at, ◌or_else◌}
 use Rattle.scope.specs.Answers.{window_list_fault, frame_fault, window_fault, table_fault, shortest_fault, rule_fault, cycle_fault, critical_fault, run_fault}
 use Rattle.scope.specs.Answers.{supplied_answer, least_supply_answer, critical_answer, critical_out, delay_answer, outage_answer}

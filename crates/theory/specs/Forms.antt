@@ -1,19 +1,19 @@
 -- Document 02, request 5: what stands after a plan file's settings is read as the file without them, the early answers too, and refusal 9 names an offset that is
 -- later by as many bytes as the settings have. Over any settings
-use Rattle.std.specs.Prelude.{◌≡◌, Bool, cond, ◌||◌, leb, eqb}
+use Rattle.std.specs.Prelude.{◌≡◌, Bool, cond, ◌||◌, eqb}
 use Rattle.std.proofs.Math.Path.{refl, sym, ap}
 use Rattle.std.proofs.Common.{◌∙◌, arith, add-zero, zero-add, add_assoc, drop-drop}
 use Rattle.std.proofs.Math.Bool.{true, false}
 use Rattle.std.proofs.Math.Option.{Option, none, some}
 use mathlib.Core.List.{List, [], ◌∷◌, ◌++◌}
-use Prim.Native.Nat.{ℕ, zero, suc, ◌+◌, ◌*◌, ◌≤◌, ◌<◌}
+use Prim.Native.Nat.{ℕ, zero, suc, ◌+◌, ◌*◌}
 use Rattle.std.proofs.Math.Decide.{dec_le, dec_lt}
 use Rattle.std.proofs.Math.Dec.{ltb}
 use Rattle.std.proofs.Math.ListN.{length, drop, length-append}
 use Rattle.std.proofs.Math.Seq.{drop-append_seam}
 use borrow.Author.Tests.{le-leb, lt-leb, lt-ltb, le-ltb}
 use Rattle.scope.specs.Limits.{most_windows, most_tasks, most_number}
-use Rattle.scope.specs.Answers.{Fault, Fault.fine, Fault.fault, Answer, Answer.given, Answer.refused, fault_if, unless}
+use Rattle.scope.specs.Answers.{Answer, Answer.given, Answer.refused, fault_if, unless}
 use Rattle.scope.specs.Plan.{Groups, well_formed, groups, Read, Read.read, Read.bad, read_groups, read_number, and_read, read_numbers, Plan, or_nine, past, and_then, count_fault}
 use Rattle.scope.specs.Plan.{window_count_fault, task_count_fault, rest_fault, Listed, as_listed, counted_from, lists_from, plan_from, plan_of, numbers_bytes}
 use Rattle.scope.specs.Shared.{as_owned, verdict_for, plan_board, plan_answer}

@@ -1,6 +1,6 @@
 -- The longest outage: no run of unsupplied ticks anywhere is longer; it is the greatest length whose least supply is 0, and the start of the first
 -- critical window
-use Rattle.std.specs.Prelude.{◌≡◌, Bool, true, false, ◌↔◌, List, [], ◌∷◌}
+use Rattle.std.specs.Prelude.{◌≡◌, Bool, true, ◌↔◌, List, [], ◌∷◌}
 use Rattle.std.proofs.Math.Path.{refl, sym, ap}
 use Rattle.std.proofs.Common.{◌∙◌, true≢false, mod-lt}
 use Rattle.std.proofs.Math.Logic.{inl, inr}

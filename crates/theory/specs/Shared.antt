@@ -15,7 +15,7 @@ use Rattle.std.proofs.Math.ListN.{length, get_or}
 use borrow.Author.Tests.{ltb-true, leb-true, eqb-true, eqb-false, eq-eqb, ne_eqb, not-false}
 use Rattle.scope.specs.Numbers.{pieces, pieces_from, bad_count}
 use Rattle.scope.specs.Limits.{most_windows}
-use Rattle.scope.specs.Windows.{Board, window, windows_of, window_fits, gives, covers, supplied, supplied_by}
+use Rattle.scope.specs.Windows.{Board, windows_of, window_fits, gives, covers, supplied, supplied_by}
 use Rattle.scope.specs.Answers.{Fault, Fault.fine, Fault.fault, Answer, Answer.given, Answer.refused, ◌or_else◌, unless}
 use Rattle.scope.specs.Answers.{frame_fault, window_fault, table_fault}
 use Rattle.scope.specs.Shared.{Owned, owned, owned_of, owned_at, windows_for, own, follows, owned_legal, bad_owned, owned_list_fault, owned_fault}

@@ -7,7 +7,6 @@ use Rattle.scope.specs.Cycle.{cycle}
 use Rattle.theory.specs.Cycle.{gcd_pos}
 use Rattle.tables.proofs.TaskLaws.{read_rule}
 use Rattle.checker.proofs.CycleLaws.{cycle_turn, cycle_end, product_most, cycle_over, cycle_found}
-use borrow.Author.Rules.{rules}
 use native.Mathlib.Omega.{arith}
 use Rattle.checker.proofs.cycle.cycle_of.Lts as lts
 use Rattle.checker.proofs.cycle.cycle_of.Tie as tie

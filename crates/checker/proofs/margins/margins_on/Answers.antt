@@ -1,5 +1,4 @@
 use mathlib.Core.Path.{sym, ap, ◌∙◌}
-use Rattle.scope.specs.Windows.{framed}
 use Rattle.scope.specs.Summary.{margins_answer, margins_out}
 use Rattle.tables.specs.Told.{fault_of}
 use Rattle.tables.proofs.FaultLaws.{refused_by, given_by, kept_by, written_by}

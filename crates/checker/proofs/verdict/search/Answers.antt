@@ -4,7 +4,6 @@ use mathlib.Core.List.{List}
 use Prim.Native.Nat.{ℕ, ◌+◌, ◌%◌, ◌≤◌, ◌<◌}
 use native.Mathlib.Omega.{arith}
 use native.Mathlib.Nat.{mod-lt}
-use borrow.Author.Rules.{rules}
 use Rattle.scope.specs.Limits.{most_frame, most_number}
 use Rattle.scope.specs.Ticks.{Periodic}
 use Rattle.scope.specs.Windows.{framed, supplied_by}

@@ -78,5 +78,9 @@ returns-in-Fine c =
     let new : List ℕ = edited_list a.count a.windows.now x in
     let is : take c.edited_into-n.result c.edited_into-n.new.out ≡ new = ap₂ take made.numbers made.buffer ∙ take_written new _ in
     let fine_at = counted _ _ _ _ _ _ h (sym c.check_ready.ensures ∙ ap fault_of c.in-Fine.is) in
-    let s = c.store.ensures in record { answer = s.answer ∙ ap (λ (l : List ℕ). store_answer teams b l (length a.windows.now) (length a.summary.now)) is
-          ∙ edit_answer_lem teams b a.count a.windows.now a.summary.now x h fine_at; list = s.list ∙ ap (λ (l : List ℕ). store_windows teams b l a.windows.now (length a.summary.now)) is ∙ edit_windows_lem teams b a.count a.windows.now a.summary.now x h fine_at; held = s.held ∙ ap (λ (l : List ℕ). store_summary teams b l (length a.windows.now) a.summary.now) is ∙ edit_summary_lem teams b a.count a.windows.now a.summary.now x h fine_at }
+    let s = c.store.ensures in record {
+      answer = s.answer ∙ ap (λ (l : List ℕ). store_answer teams b l (length a.windows.now) (length a.summary.now)) is
+          ∙ edit_answer_lem teams b a.count a.windows.now a.summary.now x h fine_at;
+      list = s.list ∙ ap (λ (l : List ℕ). store_windows teams b l a.windows.now (length a.summary.now)) is ∙ edit_windows_lem teams b a.count a.windows.now a.summary.now x h fine_at;
+      held = s.held ∙ ap (λ (l : List ℕ). store_summary teams b l (length a.windows.now) a.summary.now) is ∙ edit_summary_lem teams b a.count a.windows.now a.summary.now x h fine_at;
+    }

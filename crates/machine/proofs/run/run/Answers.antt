@@ -37,7 +37,7 @@ returns-in-Refused c =
     let r = c.own_windows in
     let e = c.refuse.ensures in
     let x = run_not (board_of a.board) _ _ _ _ _ _ _ _ _ _ (omega arith)
-        (sym r.ensures.answer ∙ ap told_amount c.in-Refused.is) (e.answer, e.buffer) in
+    (sym r.ensures.answer ∙ ap told_amount c.in-Refused.is) (e.answer, e.buffer) in
     record { answer = x.0; buffer = x.1 }
 
 pub returns-in-Of : goal.returns-in-Of

@@ -1,6 +1,5 @@
 use mathlib.Core.Path.{refl, subst}
 use mathlib.Core.Bool.{Bool}
-use mathlib.Core.List.{List}
 use Prim.Native.Nat.{ℕ}
 use native.Mathlib.Omega.{arith}
 use lib.ListN.{replicate}
@@ -26,9 +25,9 @@ returns-then-job-lt-NO_JOB g c =
     let a = c.args in
     let σ = supplied_by (framed a.frame) a.windows.now in
     let r = subst (λ (before : ℕ → ℕ → Bool). Ended σ before (tasks_of a.tasks.now) a.jobs.now a.n a.counts.now a.counts.now a.counts.now
-        c.advance-s.new.counts (missed c.advance-s.result.instant c.late-job.result) c.advance-s.result.backlog) c.requires.0
-        ((run_ends σ (rule (tasks_of a.tasks.now) (jobs_of a.jobs.now)) _ a.jobs.now _ _ _ (replicate all_places 0)
-        c.requires.1.1 c.clear.ensures refl _ _ _ c.advance-s.ensures _ c.late-job.ensures).1 c.if-job-lt-NO_JOB.true) in
+    c.advance-s.new.counts (missed c.advance-s.result.instant c.late-job.result) c.advance-s.result.backlog) c.requires.0
+    ((run_ends σ (rule (tasks_of a.tasks.now) (jobs_of a.jobs.now)) _ a.jobs.now _ _ _ (replicate all_places 0)
+    c.requires.1.1 c.clear.ensures refl _ _ _ c.advance-s.ensures _ c.late-job.ensures).1 c.if-job-lt-NO_JOB.true) in
     record { answer = r.0; buffer = r.1 }
 
 pub returns : goal.returns
@@ -36,7 +35,7 @@ returns g c =
     let a = c.args in
     let σ = supplied_by (framed a.frame) a.windows.now in
     let r = subst (λ (before : ℕ → ℕ → Bool). Ended σ before (tasks_of a.tasks.now) a.jobs.now a.n a.counts.now a.counts.now a.counts.now
-        c.advance-s.new.counts met c.advance-s.result.backlog) c.requires.0
-        ((run_ends σ (rule (tasks_of a.tasks.now) (jobs_of a.jobs.now)) _ a.jobs.now _ _ _ (replicate all_places 0)
-        c.requires.1.1 c.clear.ensures refl _ _ _ c.advance-s.ensures _ c.late-job.ensures).0 c.if-job-lt-NO_JOB.false) in
+    c.advance-s.new.counts met c.advance-s.result.backlog) c.requires.0
+    ((run_ends σ (rule (tasks_of a.tasks.now) (jobs_of a.jobs.now)) _ a.jobs.now _ _ _ (replicate all_places 0)
+    c.requires.1.1 c.clear.ensures refl _ _ _ c.advance-s.ensures _ c.late-job.ensures).0 c.if-job-lt-NO_JOB.false) in
     record { answer = r.0; buffer = r.1 }

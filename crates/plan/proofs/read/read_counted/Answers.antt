@@ -1,10 +1,9 @@
 use native.Mathlib.Omega.{arith}
 use mathlib.Core.Path.{◌≡◌, sym, ap, ◌∙◌}
-use mathlib.Core.Logic.{inl, inr}
 use Prim.Native.Nat.{◌*◌, ◌≤◌, ◌<◌}
 use native.Mathlib.Nat.{le_trans, mul-le-mul_left}
 use lib.ListN.{length}
-use borrow.Author.Tests.{ltb-true, ltb-false}
+use borrow.Author.Tests.{ltb-false}
 use Rattle.scope.specs.Plan.{Read.read, read_number, counted_from}
 use Rattle.plan.specs.Told.{told_number}
 use Rattle.plan.proofs.ReadLaws.{bad_nine, count_refused, count_taken}
@@ -39,8 +38,11 @@ fits c = le_trans (mul-le-mul_left _ (few c)) c.requires.1
 pub returns-then-count-least : goal.returns-then-count-least
 returns-then-count-least c =
     let d = c in
-    let n = c.in-Is.value in record { answer = count_refused _ _ _ _ _ d.args.refusal _ _ (count_at c.before.before) d.requires.0
-          (λ h. ⊎_elim (λ w. omega (arith, w, h.0)) (λ w. omega (arith, w.1, h.1)) c.then-count-least.either); room = search rules }
+    let n = c.in-Is.value in record {
+      answer = count_refused _ _ _ _ _ d.args.refusal _ _ (count_at c.before.before) d.requires.0
+          (λ h. ⊎_elim (λ w. omega (arith, w, h.0)) (λ w. omega (arith, w.1, h.1)) c.then-count-least.either);
+      room = search rules;
+    }
 
 pub overflow_mul-each : goal.overflow_mul-each
 overflow_mul-each c =

@@ -4,7 +4,6 @@ use Rattle.tables.specs.Told.{told_amount}
 use Rattle.records.specs.Sums.{add_of, Roomy}
 use Rattle.records.proofs.TaskLaws.{task_most}
 use native.Mathlib.Omega.{arith}
-use lib.ListN.{length}
 use Rattle.records.proofs.demand.add.Goals as goal
 
 pub overflow_add-total : goal.overflow_add-total

@@ -29,6 +29,7 @@ loop-i-preserved c =
 pub returns : goal.returns
 returns c =
     let l = c.loop-i in
-    let at : l.i ≡ c.enough-n.result = omega (arith, l.invariant.within) in
-    (omega (arith, l.invariant.long),
-    l.invariant.so_far ∙ ap (λ (k : ℕ). numbers_of (take k c.args.tasks.now)) at ∙ enough_is c.args.tasks.now c.enough-n.result c.enough-n.ensures)
+    let at : l.i ≡ c.enough-n.result = omega (arith, l.invariant.within) in (
+      omega (arith, l.invariant.long),
+      l.invariant.so_far ∙ ap (λ (k : ℕ). numbers_of (take k c.args.tasks.now)) at ∙ enough_is c.args.tasks.now c.enough-n.result c.enough-n.ensures,
+    )

@@ -93,24 +93,27 @@ loop-i-preserved c =
     let ws = owned_of a.windows.now in
     let read = c.owned_at-here.ensures in
     let h : l.i < length ws = omega (arith, l.invariant.1) in
-    elim (c.if-is_left.branch) [ then-is_left t ↦     let e = left_hit (board_of a.board) _ (sym c.is_left.ensures ∙ t.if-is_left.true) in
-    let n = count_hit _ (gathers_left (board_of a.board)) ws l.i h read _ _ e in
-    let fits : l.at + 1 < length a.out.now = omega (arith, l.invariant.2, l.invariant.3, n, front_few _ (gathers_left (board_of a.board)) ws (l.i + 1)) in
-    let two = written_two _ a.out.now l.at _ _ l.out l.invariant.2 l.invariant.5 fits in (
-      omega arith,
-      l.invariant.1,
-      t.at-is ∙ omega (arith, l.invariant.2, n),
-      l.invariant.3,
-      ap length t.out-is ∙ length_two l.out l.at (l.at + 1) _ _ ∙ l.invariant.4,
-      t.out-is ∙ two ∙ ap (λ (m : List ℕ). written m a.out.now) (sym (front_hit _ (gathers_left (board_of a.board)) ws l.i h read _ _ e)),
-    ) | else-is_left f ↦     let z = sym (front_miss _ (gathers_left (board_of a.board)) ws l.i h read (left_miss (board_of a.board) _ (sym c.is_left.ensures ∙ f.if-is_left.false))) in (
-      omega arith,
-      l.invariant.1,
-      f.at-is ∙ l.invariant.2 ∙ ap length z,
-      l.invariant.3,
-      ap length f.out-is ∙ l.invariant.4,
-      f.out-is ∙ l.invariant.5 ∙ ap (λ (m : List ℕ). written m a.out.now) z,
-    ) ]
+    elim (c.if-is_left.branch) [
+      | then-is_left t ↦ let e = left_hit (board_of a.board) _ (sym c.is_left.ensures ∙ t.if-is_left.true) in
+          let n = count_hit _ (gathers_left (board_of a.board)) ws l.i h read _ _ e in
+          let fits : l.at + 1 < length a.out.now = omega (arith, l.invariant.2, l.invariant.3, n, front_few _ (gathers_left (board_of a.board)) ws (l.i + 1)) in
+          let two = written_two _ a.out.now l.at _ _ l.out l.invariant.2 l.invariant.5 fits in (
+            omega arith,
+            l.invariant.1,
+            t.at-is ∙ omega (arith, l.invariant.2, n),
+            l.invariant.3,
+            ap length t.out-is ∙ length_two l.out l.at (l.at + 1) _ _ ∙ l.invariant.4,
+            t.out-is ∙ two ∙ ap (λ (m : List ℕ). written m a.out.now) (sym (front_hit _ (gathers_left (board_of a.board)) ws l.i h read _ _ e)),
+          )
+      | else-is_left f ↦ let z = sym (front_miss _ (gathers_left (board_of a.board)) ws l.i h read (left_miss (board_of a.board) _ (sym c.is_left.ensures ∙ f.if-is_left.false))) in (
+        omega arith,
+        l.invariant.1,
+        f.at-is ∙ l.invariant.2 ∙ ap length z,
+        l.invariant.3,
+        ap length f.out-is ∙ l.invariant.4,
+        f.out-is ∙ l.invariant.5 ∙ ap (λ (m : List ℕ). written m a.out.now) z,
+      )
+    ]
 
 pub returns : goal.returns
 returns c =

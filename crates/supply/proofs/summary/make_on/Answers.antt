@@ -49,7 +49,10 @@ returns-else-out-needed c =
     let b = framed a.frame in
     let n : _ ≡ length (summary_of b a.windows.now) = summary_numbers b a.windows.now _ m.measured-measure.ensures.numbers in
     let left = c.if-out-needed.false in
-    let f = make_fine b a.windows.now (length a.out.now) e.requires (omega (arith, n, left)) in record { answer = ap given n ∙ given_by _ _ f; buffer = c.write_edges.ensures
+    let f = make_fine b a.windows.now (length a.out.now) e.requires (omega (arith, n, left)) in record {
+      answer = ap given n ∙ given_by _ _ f;
+      buffer = c.write_edges.ensures
           ∙ made b a.windows.now a.out.now _ _ _ _ (omega (arith, left)) c.write_head.ensures
           m.least_at_ends-whole.ensures.1 m.measured-measure.ensures.delay (ap (λ (x : ℕ). x / 2) m.measured-measure.ensures.numbers)
-          ∙ written_by _ _ _ f }
+          ∙ written_by _ _ _ f;
+    }

@@ -29,8 +29,8 @@ after_two c =
     let x = c.args.self in
     let e = c.in_range.ensures in
     elim c.if-in_range.branch [
-      then-in_range w ↦ w.value-is ∙ w.in_range-then-in_range.ensures ∙ and_yes (task_number x.work) (task_number x.period) (sym e ∙ w.if-in_range.true)
-    | else-in_range w ↦ w.value-is ∙ e ∙ and_no (task_number x.work) (task_number x.period) (sym e ∙ w.if-in_range.false)
+      | then-in_range w ↦ w.value-is ∙ w.in_range-then-in_range.ensures ∙ and_yes (task_number x.work) (task_number x.period) (sym e ∙ w.if-in_range.true)
+      | else-in_range w ↦ w.value-is ∙ e ∙ and_no (task_number x.work) (task_number x.period) (sym e ∙ w.if-in_range.false)
     ]
 
 after_three : (c : Joined2) → let x = c.args.self in c.if-in_range-2.value ≡ all x
@@ -38,8 +38,8 @@ after_three c =
     let x = c.args.self in
     let e = after_two c.before in
     elim c.if-in_range-2.branch [
-      then-in_range-2 w ↦ w.value-is ∙ w.in_range-then-in_range-2.ensures ∙ and_yes (two x) (task_number x.deadline) (sym e ∙ w.if-in_range-2.true)
-    | else-in_range-2 w ↦ w.value-is ∙ e ∙ and_no (two x) (task_number x.deadline) (sym e ∙ w.if-in_range-2.false)
+      | then-in_range-2 w ↦ w.value-is ∙ w.in_range-then-in_range-2.ensures ∙ and_yes (two x) (task_number x.deadline) (sym e ∙ w.if-in_range-2.true)
+      | else-in_range-2 w ↦ w.value-is ∙ e ∙ and_no (two x) (task_number x.deadline) (sym e ∙ w.if-in_range-2.false)
     ]
 
 pub returns-then-in_range-3 : goal.returns-then-in_range-3
