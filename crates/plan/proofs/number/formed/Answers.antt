@@ -1,4 +1,3 @@
-use mathlib.Core.Logic.{⊎_elim}
 use native.Mathlib.Omega.{arith}
 use borrow.Author.Tests.{eqb-true}
 use Rattle.theory.specs.Reading.{well_formed_lem, is_well_formed}
@@ -12,9 +11,4 @@ pub returns-then-last-eq0 : goal.returns-then-last-eq0
 returns-then-last-eq0 c = number_ill_formed _ _ (λ w. omega (arith, (well_formed_lem _ w).1 (omega arith), eqb-true c.args.last 0 c.if-last-eq0.true-raw))
 
 pub returns : goal.returns
-returns c =
-    number_formed _ _
-    (⊎_elim
-    (λ w. is_well_formed _ (omega arith) (λ n. omega (arith, w.1)))
-    (λ w. is_well_formed _ (omega arith) (λ n. absurd (omega (arith, w, n))))
-    c.else-size-ne1.either)
+returns c = number_formed _ _ (is_well_formed _ (omega arith) (λ n. omega (arith, n)))
