@@ -3,9 +3,7 @@ pub mod Counting
 pub mod Digits
 pub mod Finding
 pub mod Holding
-pub mod Lent
 pub mod Lowest
-pub mod Passed
 pub mod Pick
 pub mod PlaceLaws
 pub mod Releasing

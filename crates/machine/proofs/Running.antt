@@ -271,7 +271,7 @@ module _ (σ : ℕ → Bool) (before : ℕ → ℕ → Bool) (ts : List Task) (j
 -- what the code answers and writes: j is the late job that it finds at the end
 module _ (σ : ℕ → Bool) (before : ℕ → ℕ → Bool) (ts : List Task) (jobs : List ℕ) (n : ℕ) (b d p₀ : List ℕ) where
   -- the outcome o and the greatest backlog β are the run's, and c has its counts
-  abbrev Ended : List ℕ → Outcome → ℕ → Type 0
+  abbrev pub Ended : List ℕ → Outcome → ℕ → Type 0
   Ended c o β = (answers o β ≡ given (ran σ before ts (jobs_of jobs) n)) × (c ≡ written (counts σ before ts (jobs_of jobs) n) b)
 
   pub run_ends : Tasks ts × Jobs ts (jobs_of jobs) × (n ≤ most_ticks) × (length (jobs_of jobs) ≤ length b) →

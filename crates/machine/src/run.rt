@@ -62,9 +62,9 @@ fn run_legal(
     counts: &mut [u32],
 ) -> Ran
     ghost before: { ℕ → ℕ → Bool }
-    requires jobs_value { rule (tasks_of tasks.now) (jobs_of jobs.now) ≡ before }
-    requires legal_table { LegalTable (framed frame) windows.now }
-    requires tasks { Tasks (tasks_of tasks.now) × Jobs (tasks_of tasks.now) (jobs_of jobs.now) × (n ≤ most_ticks)
+    requires tied { rule (tasks_of tasks.now) (jobs_of jobs.now) ≡ before }
+    requires table { LegalTable (framed frame) windows.now }
+    requires lists { Tasks (tasks_of tasks.now) × Jobs (tasks_of tasks.now) (jobs_of jobs.now) × (n ≤ most_ticks)
         × (length (jobs_of jobs.now) ≤ length counts.old) }
     ensures answer { told_ran result ≡ given (ran (supplied_by (framed frame) windows.now)
         before (tasks_of tasks.now) (jobs_of jobs.now) n) }

@@ -1,0 +1,73 @@
+use mathlib.Core.Path.{◌∙◌}
+use Rattle.scope.specs.Windows.{framed, supplied_by}
+use Rattle.scope.specs.Tasks.{tasks_of}
+use Rattle.scope.specs.Jobs.{jobs_of}
+use Rattle.tables.specs.Cursors.{after}
+use Rattle.tables.proofs.CursorLaws.{on_at_lem}
+use Rattle.machine.specs.Rule.{rule}
+use Rattle.machine.proofs.Pick.{chosen_follows}
+use Rattle.machine.proofs.Stepping.{GivenOut, still_all, can_work, all_served, may_note, step_is}
+use Rattle.machine.proofs.tick.step.Lts as lts
+use Rattle.machine.proofs.tick.step.Tie as tie
+use Rattle.machine.proofs.tick.step.Reads as reads
+use Rattle.machine.proofs.tick.step.Goals as goal
+
+abbrev After-serve : Type 0
+After-serve = lts.After-serve tie.the-claims reads.Pre reads.Post tie.handed_clauses
+
+pub goes_to-i-requires : goal.goes_to-i-requires
+goes_to-i-requires c =
+    let r = c in
+    (still_all _ _ _ _ _ _ _ r.requires.1 _ _ r.release-fed.ensures).0
+
+pub serve-done-requires : goal.serve-done-requires
+serve-done-requires c =
+    let r = c in
+    (still_all _ _ _ _ _ _ _ r.requires.1 _ _ r.release-fed.ensures).0
+
+-- what is known once the tick is given out
+abbrev given_out : (c : After-serve) →
+    let a = c.args in
+    GivenOut (supplied_by (framed a.frame) a.windows.now) (after (framed a.frame) a.windows.now)
+    (rule (tasks_of a.tasks.now) (jobs_of a.jobs.now)) (tasks_of a.tasks.now) (jobs_of a.jobs.now) a.s a.places.now a.counts.now
+given_out c =
+    let g = c in
+    let n = g in
+    let o = n in
+    let k = o in
+    let r = k in
+    let s = r in
+    record {
+      ready = s.requires.1;
+      fed = _;
+      fed_places = _;
+      counted = _;
+      on = _;
+      cursor = _;
+      task = _;
+      done = _;
+      places = _;
+      released = r.release-fed.ensures;
+      backlog = k.counted-counted.ensures;
+      supplied = o.is_on-on.ensures ∙ on_at_lem _ _ s.requires.0.table _ _ s.requires.0.cursor;
+      moves = n.next-next.ensures;
+      goes = g.goes_to-i.ensures;
+      ended = c.serve-done.ensures.answer;
+      served = c.serve-done.ensures.places;
+    }
+
+pub worked-worked-requires : goal.worked-worked-requires
+worked-worked-requires c = can_work _ _ _ _ _ _ _ _ (given_out c.before.before.before)
+
+pub note-requires : goal.note-requires
+note-requires c =
+    let x = given_out c.before.before.before.before.before in
+    may_note _ _ _ _ _ _ _ _ x _ c.worked-worked.ensures (chosen_follows _ _ x.ready.tasks x.ready.jobs)
+
+pub tested-requires : goal.tested-requires
+tested-requires c = all_served _ _ _ _ _ _ _ _ (given_out c.before.before.before.before.before.before.before.before)
+
+pub returns : goal.returns
+returns c =
+    step_is _ _ _ _ _ _ _ _ (given_out c.before.before.before.before.before.before.before.before.before)
+    _ c.worked-worked.ensures _ _ c.tested.ensures c.note.ensures
