@@ -1,5 +1,1 @@
 pub mod RecordLaws
-pub mod Front
-pub mod Held
-pub mod Lending
-pub mod Asking

@@ -5,16 +5,11 @@ use Prim.Native.Nat.{ℕ, zero, suc, ◌+◌, ◌*◌, ◌<◌, ◌≤◌, min}
 use native.Mathlib.Omega.{arith}
 use native.Mathlib.Numerals.{add-one}
 use native.Mathlib.Decide.{dec_le}
-use lib.ListN.{length, get_or, take, length-map}
-use lib.Seq.{length-take-le, take_all, take-nil}
-use mir.Val.{Val}
-use denote.Laws.{Is}
-use denote.Struct.Laws as LL
+use lib.ListN.{length, get_or, take}
+use lib.Seq.{take_all, take-nil}
 use Rattle.tables.specs.declared.task.Task.{Task}
 use Rattle.records.specs.declared.flat.Flat.{Flat}
 use Rattle.records.specs.Numbers.{numbers_of, enough_records, enough_numbers}
-use Rattle.records.specs.contracts.flat.Flat as F
-use Rattle.records.proofs.flat.Flat.TheLaws as F'
 use Rattle.records.proofs.NumberLaws.{none, numbers_length}
 
 -- ---- the numbers of the first i records
@@ -50,12 +45,6 @@ enough_is ys n e =
 
 -- ---- what whoever holds a `Flat` knows
 
-abbrev pub flat_vals : Flat → List Val
-flat_vals = LL.vals F.the_type F'.the_laws
-
-pub flat_length : (f : Flat) (vs : List Val) → Is F.the_row f vs → length f.numbers ≡ enough_numbers
-flat_length f vs is = sym (length-map f.numbers (λ v. v)) ∙ (LL.owed F.the_type F'.the_laws f vs is).0.1.0.1
-
 -- what is written of it, as it is lent
 abbrev pub front : Flat → List ℕ
 front f = take f.len f.numbers
@@ -63,10 +52,3 @@ front f = take f.len f.numbers
 -- what `flatten` says of what it returns
 abbrev pub Flattened : List Task → Flat → Type 0
 Flattened ys f = (f.len ≤ enough_numbers) × (front f ≡ take enough_numbers (numbers_of ys))
-
-module _ (f : Flat) (vs : List Val) (is : Is F.the_row f vs) (le : f.len ≤ enough_numbers) where
-  pub front_within : f.len ≤ length f.numbers
-  front_within = omega (arith, flat_length f vs is)
-
-  pub front_length : f.len ≡ length (front f)
-  front_length = sym (length-take-le f.len f.numbers front_within)

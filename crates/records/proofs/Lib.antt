@@ -3,8 +3,3 @@ pub mod TaskLaws
 pub mod SumLaws
 pub mod FlatLaws
 pub mod AlikeLaws
-pub mod Carried
-pub mod Passed
-pub mod Buffered
-pub mod Flattening
-pub mod Asked

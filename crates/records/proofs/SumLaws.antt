@@ -48,7 +48,7 @@ module _ (ys : List records.Task) (t : ℕ) where
 
   pub begin_is : begin_of (length ys) ≡ so_far 0
   unfolding so_far begin_of first_by sum
-  begin_is = rw (sym (numbers.list-fault ys)) (alone (task_list_fault (numbers_of ys)))
+  begin_is = rw (sym (numbers.list_fault_lem ys)) (alone (task_list_fault (numbers_of ys)))
     where
       alone : (f : Fault) → unless {A = ℕ} f 0 ≡ unless (f or_else fine) 0
       alone fine = refl
@@ -57,7 +57,7 @@ module _ (ys : List records.Task) (t : ℕ) where
   -- record i is added
   pub add_is : (i : ℕ) → add_of (so_far i) i (task_of (get_or ys i numbers.none)) t ≡ so_far (i + 1)
   unfolding so_far add_of sum
-  add_is i = rw (sym (numbers.task-at ys i), add-one i) (go (task_list_fault (numbers_of ys)) (first broken i) refl)
+  add_is i = rw (sym (numbers.task_at_lem ys i), add-one i) (go (task_list_fault (numbers_of ys)) (first broken i) refl)
     where
       one : (z : Bool) (n : ℕ) → unless (fault_if z 5 i) n ≡ unless (fault_at 5 (cond z (some i) none)) n
       one true n = refl
@@ -72,7 +72,7 @@ module _ (ys : List records.Task) (t : ℕ) where
 
   pub finish_is : finish_of (so_far (length ys)) t ≡ demand_answer (numbers_of ys) t
   unfolding so_far finish_of demand_answer group_fault task_fault bad_task
-  finish_is = rw (sym (numbers.tasks-length ys), sym (demand_sum ts t)) (go (task_list_fault (numbers_of ys) or_else fault_at 5 (first broken (length ts))))
+  finish_is = rw (sym (numbers.tasks_length ys), sym (demand_sum ts t)) (go (task_list_fault (numbers_of ys) or_else fault_at 5 (first broken (length ts))))
     where
       go : (f : Fault) → finish_of (unless f (demand ts t)) t ≡ unless (f or_else length_fault t) (demand ts t)
       go fine = refl
@@ -93,7 +93,7 @@ module _ (ys : List records.Task) (t : ℕ) where
       go fine none e e' = omega (
         arith,
         (task_list_legal (numbers_of ys) e).1,
-        numbers.numbers-length ys,
+        numbers.numbers_length ys,
         sum_le (λ k. task_demand (task_at ts k) t) (λ k. 2 ^ 52) i (each e'),
         sum_same (2 ^ 52) i,
       )
