@@ -23,7 +23,7 @@ pkgconfigdir = $(libdir)/pkgconfig
 commanddir = $(libdir)/palikudyom
 
 # What is proved is as old as the command takes it to be: front/program.py.
-SOURCES := crates.txt $(shell find crates -type f)
+SOURCES := crates.txt $(shell find crates -name out -prune -o -type f -print)
 FRONT := $(shell find front -name '*.py')
 BUILT = target/bin/palikudyom target/staticlib/libhost.a target/palikudyom.1
 
@@ -43,18 +43,15 @@ export PC
 
 .PHONY: all install uninstall check
 .DELETE_ON_ERROR:
-.NOTPARALLEL: # the kit proves in parallel itself, and in one target/
+.NOTPARALLEL: # the kit proves in parallel itself, and one run at a time in a crate
 
 all: $(BUILT)
 
-# The kit leaves alone what its contents say is proved, however old.
 target/bin/palikudyom: $(SOURCES)
-	rt check palikudyom
-	touch $@
+	tools/build program
 
 target/staticlib/libhost.a: $(SOURCES)
-	rt staticlib host
-	touch $@
+	tools/build library
 
 # The folders are newer where a word was taken away.
 target/palikudyom.1: Makefile tools/man-page plans/w6.txt plans/lines $(FRONT) $(sort $(dir $(FRONT)))
@@ -73,7 +70,7 @@ install: all
 	install -D -m 644 target/staticlib/libhost.a "$(DESTDIR)$(libdir)/libpalikudyom.a"
 	install -D -m 644 crates/host/palikudyom.h "$(DESTDIR)$(includedir)/palikudyom.h"
 	printf '%s\n' "$$PC" | install -D -m 644 /dev/stdin "$(DESTDIR)$(pkgconfigdir)/palikudyom.pc"
-	@[ "$$(uname -m)" = x86_64 ] || echo "This processor is not x86-64: the C library is for x86-64 alone, and the command needs the Rattle kit's rt on the path."
+	@[ "$$(uname -m)" = x86_64 ] || echo "This processor is not x86-64, and the command and the C library are for x86-64 alone."
 
 uninstall:
 	rm -rf "$(DESTDIR)$(commanddir)"

@@ -23,7 +23,10 @@ _command = []
 def _newer_than(program):
     """Whether a file that the program is made of is newer than it."""
     built = os.stat(program).st_mtime
-    places = [os.path.join(TOP, "crates.txt"), *(os.path.join(at, name) for at, _, names in os.walk(os.path.join(TOP, "crates")) for name in names)]
+    places = [os.path.join(TOP, "crates.txt")]
+    for at, folders, names in os.walk(os.path.join(TOP, "crates")):
+        folders[:] = [folder for folder in folders if folder != "out"]  # the kit's, made of the others
+        places += [os.path.join(at, name) for name in names]
     return any(os.path.isfile(place) and os.stat(place).st_mtime > built for place in places)
 
 
@@ -39,23 +42,22 @@ def _build():
     os.makedirs(os.path.dirname(log), exist_ok=True)
     started = time.monotonic()
     with open(log, "wb") as out, Progress() as progress:
-        check = subprocess.Popen(["rt", "check", "palikudyom"], cwd=TOP, stdin=subprocess.DEVNULL, stdout=out, stderr=out)
-        while check.poll() is None:
+        build = subprocess.Popen([os.path.join(TOP, "tools", "build"), "program"], stdin=subprocess.DEVNULL, stdout=out, stderr=out)
+        while build.poll() is None:
             progress.show(f"proving and building the program, once, some minutes: {time.monotonic() - started:.0f} s")
             time.sleep(0.2)
-    if check.returncode != 0:
+    if build.returncode != 0:
         raise Cannot(f"it could not be built: see {log}")
-    os.utime(BUILT)
     return BUILT
 
 
 def _loader():
-    """What runs an x86-64 program here: the kit's emulator and loader as tools/loader names them, or, where there is no kit, the machine itself."""
+    """What runs an x86-64 program here: the kit's loader as tools/loader names it, or, where there is no kit, the machine itself."""
+    if platform.machine() != "x86_64":
+        raise Cannot("the program is for x86-64, and this processor is not")
     try:
         words = subprocess.run([os.path.join(TOP, "tools", "loader")], stdout=subprocess.PIPE, stderr=subprocess.DEVNULL, check=True, text=True)
     except (OSError, subprocess.CalledProcessError):
-        if platform.machine() != "x86_64":
-            raise Cannot("the program is for x86-64, and the Rattle kit, which runs it on other processors, is not on the path") from None
         return []
     return words.stdout.split("\n")[:-1]
 
