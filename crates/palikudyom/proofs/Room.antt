@@ -1,5 +1,5 @@
 -- What was delivered to lent memory fits there
-use Rattle.std.proofs.Common.{◌≡◌, sym, ap, ◌∙◌, List, ℕ, ◌≤◌, length, take, arith, ltb-false}
+use Rattle.std.proofs.Common.{◌≡◌, sym, ap, ◌∙◌, List, ℕ, ◌≤◌, length, arith, ltb-false}
 use Rattle.std.proofs.lemmas.List.{length-take-le}
 use Rattle.scope.specs.Verdict.{Verdict}
 use Rattle.scope.specs.Answers.{Answer, unless, room_fault}

@@ -6,7 +6,8 @@ use std::io;
 use std::io::Read;
 
 // As `read`, but reads on until the buffer is full or the input ends: how many bytes stand at the buffer's front, or why a read failed.
-// A byte at a time: the inputs are short, and a pipe that delivers in pieces is no case of its own.
+// An error leaves in the buffer what was read before it. A byte at a time: the inputs are short, and a pipe that delivers in pieces is no
+// case of its own.
 pub(crate) fn read_on(input: &mut impl Read, buffer: &mut [u8]) -> io::Result<usize>
     ensures { IfOk result (λ n. IsPrefixLen n buffer.new) }
 {

@@ -127,7 +127,7 @@ pub(crate) fn edited(rt: &impl Print, e: Edited, windows: &[u32], summary: &[u32
     buffer(rt, summary);
 }
 
-// The line of a verdict, as `plan` makes it; it is never longer than `MOST`. An error where it was not written.
+// The line of a verdict, as `plan` makes it; it is never longer than `MOST`. An error where not all of it was written.
 pub(crate) fn verdict(rt: &impl Print, v: Verdict) -> io::Result<()> {
     let mut text = [0u8; MOST];
     match line(v, &mut text) {

@@ -35,13 +35,11 @@ pub(crate) fn check(rt: &HostRuntime, input: &mut impl Read, name: &[u8], form: 
     }
 }
 
-// The system's number for a name that is no text: paths of std are UTF-8.
-const NO_TEXT: i32 = 84;
-
+// Paths of std are text.
 fn open(rt: &HostRuntime, path: &[u8]) -> io::Result<File> {
     match str::from_utf8(path) {
         Ok(path) => File::open(rt, path),
-        Err(_) => Err(io::Error::from_raw_os_error(NO_TEXT)),
+        Err(_) => Err(io::Error::new(io::ErrorKind::InvalidInput, "the name is not UTF-8")),
     }
 }
 

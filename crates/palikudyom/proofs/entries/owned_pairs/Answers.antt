@@ -1,4 +1,4 @@
-use Rattle.std.proofs.Common.{refl, arith}
+use Rattle.std.proofs.Common.{arith}
 use Rattle.palikudyom.proofs.Room.{owned_fits, prefix_len}
 use Rattle.palikudyom.proofs.entries.owned_pairs.Goals as goal
 
