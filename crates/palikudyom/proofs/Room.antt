@@ -1,10 +1,6 @@
 -- What was delivered to lent memory fits there
-use mathlib.Core.Path.{◌≡◌, sym, ap, ◌∙◌}
-use mathlib.Core.List.{List}
-use Prim.Native.Nat.{ℕ, ◌≤◌}
-use native.Mathlib.Omega.{arith}
-use lib.ListN.{length}
-use borrow.Author.Tests.{ltb-false}
+use Rattle.std.proofs.Common.{◌≡◌, sym, ap, ◌∙◌, List, ℕ, ◌≤◌, length, arith, ltb-false}
+use Rattle.std.proofs.lemmas.List.{length-take-le}
 use Rattle.scope.specs.Verdict.{Verdict}
 use Rattle.scope.specs.Answers.{Answer, unless, room_fault}
 use Rattle.scope.specs.Line.{line, line_answer}
@@ -13,6 +9,10 @@ use Rattle.theory.specs.Answers.{fault_if_fine, unless_given}
 use Rattle.tables.specs.declared.answer.Amount.{Amount}
 use Rattle.tables.specs.declared.answer.Amount.TheVariants.{Of}
 use Rattle.tables.specs.Told.{told_amount}
+use Rattle.palikudyom.specs.Prefix.{IsPrefixLen}
+
+pub prefix_len : (n : ℕ) (xs : List ℕ) → n ≤ length xs → IsPrefixLen n xs
+prefix_len n xs l = (l, sym (length-take-le n xs l))
 
 fits : (needed room : ℕ) (r : Amount) (n : ℕ) → told_amount r ≡ unless (room_fault needed room) needed → r ≡ Of n → n ≤ room
 unfolding room_fault

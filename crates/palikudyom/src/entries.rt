@@ -1,7 +1,7 @@
 // One function for each entry: it reads the entry's arguments, calls it and prints its line; where an argument is bad, it prints nothing. The
 // cursor that it answers stands after the query, or at the bad number.
 ghost use Rattle.std.specs.Prelude.{◌≡◌, ◌≤◌, length};
-ghost use Rattle.io.specs.Counts.{IsPrefixLen};
+ghost use Rattle.palikudyom.specs.Prefix.{IsPrefixLen};
 
 use crate::asked::{Asked, LATER_NUMBERS};
 use crate::lines;
@@ -108,7 +108,7 @@ pub(crate) fn table_of(stream: &[u8], from: Cursor, asked: Asked, out: &mut [u32
     }
 }
 
-pub(crate) fn least_supply(stream: &[u8], from: Cursor, asked: Asked) -> Cursor {
+pub(crate) fn least_supply(rt: &impl Print, stream: &[u8], from: Cursor, asked: Asked) -> Cursor {
     let mut windows = threes();
     let w = table_of(stream, from, asked, &mut windows);
     let length = any(stream, w.after);
@@ -117,6 +117,7 @@ pub(crate) fn least_supply(stream: &[u8], from: Cursor, asked: Asked) -> Cursor 
         let board = w.board;
         let m = w.count;
         lines::amount(
+            rt,
             b"AMOUNT ",
             supply::supply::least_supply(board, &windows[..m], length.value),
         );
@@ -124,7 +125,7 @@ pub(crate) fn least_supply(stream: &[u8], from: Cursor, asked: Asked) -> Cursor 
     end
 }
 
-pub(crate) fn critical(stream: &[u8], from: Cursor, asked: Asked) -> Cursor {
+pub(crate) fn critical(rt: &impl Print, stream: &[u8], from: Cursor, asked: Asked) -> Cursor {
     let mut windows = threes();
     let w = table_of(stream, from, asked, &mut windows);
     let mut out = lent();
@@ -134,36 +135,36 @@ pub(crate) fn critical(stream: &[u8], from: Cursor, asked: Asked) -> Cursor {
         let board = w.board;
         let m = w.count;
         let n = room.count;
-        critical_into(board, &windows[..m], &mut out[..n]);
+        critical_into(rt, board, &windows[..m], &mut out[..n]);
     }
     end
 }
 
-fn critical_into(board: Board, windows: &[u32], out: &mut [u32]) {
+fn critical_into(rt: &impl Print, board: Board, windows: &[u32], out: &mut [u32]) {
     let found = partition::critical(board, windows, out);
-    lines::filled(b"WINDOWS ", found, out);
+    lines::filled(rt, b"WINDOWS ", found, out);
 }
 
-pub(crate) fn delay(stream: &[u8], from: Cursor, asked: Asked) -> Cursor {
+pub(crate) fn delay(rt: &impl Print, stream: &[u8], from: Cursor, asked: Asked) -> Cursor {
     let mut windows = threes();
     let w = table_of(stream, from, asked, &mut windows);
     let end = w.after;
     if end.good {
         let board = w.board;
         let m = w.count;
-        lines::delay(partition::delay(board, &windows[..m]));
+        lines::delay(rt, partition::delay(board, &windows[..m]));
     }
     end
 }
 
-pub(crate) fn outage(stream: &[u8], from: Cursor, asked: Asked) -> Cursor {
+pub(crate) fn outage(rt: &impl Print, stream: &[u8], from: Cursor, asked: Asked) -> Cursor {
     let mut windows = threes();
     let w = table_of(stream, from, asked, &mut windows);
     let end = w.after;
     if end.good {
         let board = w.board;
         let m = w.count;
-        lines::amount(b"OUTAGE ", outage::outage(board, &windows[..m]));
+        lines::amount(rt, b"OUTAGE ", outage::outage(board, &windows[..m]));
     }
     end
 }
@@ -189,14 +190,24 @@ fn demand_of(as_records: bool, tasks: &[u32], length: u32) -> Amount {
     }
 }
 
-pub(crate) fn demand(stream: &[u8], from: Cursor, asked: Asked, as_records: bool) -> Cursor {
+pub(crate) fn demand(
+    rt: &impl Print,
+    stream: &[u8],
+    from: Cursor,
+    asked: Asked,
+    as_records: bool,
+) -> Cursor {
     let mut tasks = numbers();
     let t = group(stream, from, asked, as_records, &mut tasks);
     let length = any(stream, t.after);
     let end = length.after;
     if end.good {
         let n = t.count;
-        lines::amount(b"DEMAND ", demand_of(as_records, &tasks[..n], length.value));
+        lines::amount(
+            rt,
+            b"DEMAND ",
+            demand_of(as_records, &tasks[..n], length.value),
+        );
     }
     end
 }
@@ -215,7 +226,13 @@ fn margin_of(
     }
 }
 
-pub(crate) fn margin(stream: &[u8], from: Cursor, asked: Asked, as_records: bool) -> Cursor {
+pub(crate) fn margin(
+    rt: &impl Print,
+    stream: &[u8],
+    from: Cursor,
+    asked: Asked,
+    as_records: bool,
+) -> Cursor {
     let mut windows = threes();
     let w = table_of(stream, from, asked, &mut windows);
     let mut tasks = numbers();
@@ -226,7 +243,10 @@ pub(crate) fn margin(stream: &[u8], from: Cursor, asked: Asked, as_records: bool
         let board = w.board;
         let m = w.count;
         let n = t.count;
-        lines::margin(margin_of(as_records, board, &windows[..m], &tasks[..n], length.value));
+        lines::margin(
+            rt,
+            margin_of(as_records, board, &windows[..m], &tasks[..n], length.value),
+        );
     }
     end
 }
@@ -239,7 +259,13 @@ fn verdict_of(as_records: bool, board: Board, windows: &[u32], tasks: &[u32]) ->
     }
 }
 
-pub(crate) fn verdict(stream: &[u8], from: Cursor, asked: Asked, as_records: bool) -> Cursor {
+pub(crate) fn verdict(
+    rt: &impl Print,
+    stream: &[u8],
+    from: Cursor,
+    asked: Asked,
+    as_records: bool,
+) -> Cursor {
     let mut windows = threes();
     let w = table_of(stream, from, asked, &mut windows);
     let mut tasks = numbers();
@@ -249,7 +275,10 @@ pub(crate) fn verdict(stream: &[u8], from: Cursor, asked: Asked, as_records: boo
         let board = w.board;
         let m = w.count;
         let n = t.count;
-        lines::verdict(verdict_of(as_records, board, &windows[..m], &tasks[..n]));
+        let _ = lines::verdict(
+            rt,
+            verdict_of(as_records, board, &windows[..m], &tasks[..n]),
+        );
     }
     end
 }
@@ -262,7 +291,13 @@ fn bound_of(as_records: bool, board: Board, windows: &[u32], tasks: &[u32], inde
     }
 }
 
-pub(crate) fn bound(stream: &[u8], from: Cursor, asked: Asked, as_records: bool) -> Cursor {
+pub(crate) fn bound(
+    rt: &impl Print,
+    stream: &[u8],
+    from: Cursor,
+    asked: Asked,
+    as_records: bool,
+) -> Cursor {
     let mut windows = threes();
     let w = table_of(stream, from, asked, &mut windows);
     let mut tasks = numbers();
@@ -273,12 +308,21 @@ pub(crate) fn bound(stream: &[u8], from: Cursor, asked: Asked, as_records: bool)
         let board = w.board;
         let m = w.count;
         let n = t.count;
-        lines::bound(bound_of(as_records, board, &windows[..m], &tasks[..n], index.value));
+        lines::bound(
+            rt,
+            bound_of(as_records, board, &windows[..m], &tasks[..n], index.value),
+        );
     }
     end
 }
 
-pub(crate) fn run(stream: &[u8], from: Cursor, asked: Asked, as_records: bool) -> Cursor {
+pub(crate) fn run(
+    rt: &impl Print,
+    stream: &[u8],
+    from: Cursor,
+    asked: Asked,
+    as_records: bool,
+) -> Cursor {
     let mut windows = threes();
     let w = table_of(stream, from, asked, &mut windows);
     let mut tasks = numbers();
@@ -287,6 +331,7 @@ pub(crate) fn run(stream: &[u8], from: Cursor, asked: Asked, as_records: bool) -
     let m = w.count;
     let n = t.count;
     run_jobs(
+        rt,
         stream,
         t.after,
         as_records,
@@ -297,6 +342,7 @@ pub(crate) fn run(stream: &[u8], from: Cursor, asked: Asked, as_records: bool) -
 }
 
 fn run_jobs(
+    rt: &impl Print,
     stream: &[u8],
     from: Cursor,
     as_records: bool,
@@ -314,6 +360,7 @@ fn run_jobs(
         let m = j.count;
         let n = room.count;
         run_into(
+            rt,
             as_records,
             board,
             windows,
@@ -327,6 +374,7 @@ fn run_jobs(
 }
 
 fn run_into(
+    rt: &impl Print,
     as_records: bool,
     board: Board,
     windows: &[u32],
@@ -337,22 +385,22 @@ fn run_into(
 ) {
     if as_records {
         let ran = groups::run::run(board, windows, tasks, ticks, jobs, counts);
-        lines::ran(ran, counts);
+        lines::ran(rt, ran, counts);
     } else {
         let ran = run::run(board, windows, tasks, ticks, jobs, counts);
-        lines::ran(ran, counts);
+        lines::ran(rt, ran, counts);
     }
 }
 
 // ---- a plan
 
-pub(crate) fn plan(stream: &[u8], from: Cursor, form: Form) -> Cursor {
+pub(crate) fn plan(rt: &impl Print, stream: &[u8], from: Cursor, form: Form) -> Cursor {
     let mut plan = plan_bytes();
     let b = bytes(stream, from, BYTES, &mut plan);
     let end = b.after;
     if end.good {
         let count = b.count;
-        lines::verdict(judged(&plan[..count], form));
+        let _ = lines::verdict(rt, judged(&plan[..count], form));
     }
     end
 }
@@ -360,7 +408,7 @@ pub(crate) fn plan(stream: &[u8], from: Cursor, form: Form) -> Cursor {
 // ---- a trace
 
 // Its bytes are numbers of the stream.
-pub(crate) fn replay(stream: &[u8], from: Cursor, asked: Asked) -> Cursor {
+pub(crate) fn replay(rt: &impl Print, stream: &[u8], from: Cursor, asked: Asked) -> Cursor {
     let mut windows = threes();
     let w = table_of(stream, from, asked, &mut windows);
     let mut tasks = numbers();
@@ -373,13 +421,16 @@ pub(crate) fn replay(stream: &[u8], from: Cursor, asked: Asked) -> Cursor {
         let m = w.count;
         let n = t.count;
         let k = b.count;
-        lines::replayed(replay::replay::replay(board, &windows[..m], &tasks[..n], &trace[..k]));
+        lines::replayed(
+            rt,
+            replay::replay::replay(board, &windows[..m], &tasks[..n], &trace[..k]),
+        );
     }
     end
 }
 
 // Its bytes are those of the stream after the other numbers, to the end: whether these could be read.
-pub(crate) fn replay_rest(stream: &[u8], from: Cursor, asked: Asked) -> bool {
+pub(crate) fn replay_rest(rt: &impl Print, stream: &[u8], from: Cursor, asked: Asked) -> bool {
     let mut windows = threes();
     let w = table_of(stream, from, asked, &mut windows);
     let mut tasks = numbers();
@@ -392,6 +443,9 @@ pub(crate) fn replay_rest(stream: &[u8], from: Cursor, asked: Asked) -> bool {
     let board = w.board;
     let m = w.count;
     let n = t.count;
-    lines::replayed(replay::replay::replay(board, &windows[..m], &tasks[..n], &stream[at..]));
+    lines::replayed(
+        rt,
+        replay::replay::replay(board, &windows[..m], &tasks[..n], &stream[at..]),
+    );
     true
 }

@@ -1,30 +1,31 @@
 // Reading a file or a pipe.
-ghost use Rattle.std.specs.Prelude.{length};
-ghost use Rattle.libc.specs.Io.{Moved};
+ghost use Rattle.std.specs.Prelude.{IfOk};
+ghost use Rattle.palikudyom.specs.Prefix.{IsPrefixLen};
 
-// As libc::read, but reads on until the buffer is full or the input ends: how many bytes stand at the buffer's front, or -1 where a read
-// fails, and errno says why. A byte at a time: the inputs are short, and a pipe that delivers in pieces is no case of its own.
-pub(crate) fn read_on(fd: i32, buffer: &mut [u8]) -> isize
-    ensures { Moved (length buffer.old) result }
+use std::io;
+use std::io::Read;
+
+// As `read`, but reads on until the buffer is full or the input ends: how many bytes stand at the buffer's front, or why a read failed.
+// An error leaves in the buffer what was read before it. A byte at a time: the inputs are short, and a pipe that delivers in pieces is no
+// case of its own.
+pub(crate) fn read_on(input: &mut impl Read, buffer: &mut [u8]) -> io::Result<usize>
+    ensures { IfOk result (λ n. IsPrefixLen n buffer.new) }
 {
     let mut filled: usize = 0;
     while filled < buffer.len() {
         let mut byte = [0u8; 1];
-        let got = libc::read(fd, &mut byte);
-        if got < 0 {
-            return -1;
-        }
+        let got = input.read(&mut byte)?;
         if got == 0 {
             break;
         }
         buffer[filled] = byte[0];
         filled += 1;
     }
-    filled as isize
+    Ok(filled)
 }
 
 // Whether there is one byte more.
-pub(crate) fn more(fd: i32) -> bool {
+pub(crate) fn more(input: &mut impl Read) -> bool {
     let mut byte = [0u8; 1];
-    libc::read(fd, &mut byte) > 0
+    matches!(input.read(&mut byte), Ok(got) if got > 0)
 }

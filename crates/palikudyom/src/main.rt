@@ -4,9 +4,12 @@
 // one on a board with its settings.
 #![tactic(auto)]
 
+ghost use Rattle.std.specs.Prelude.{◌≡◌, length};
+
 mod ask;
 mod asked;
 mod entries;
+mod failure;
 mod input;
 mod lines;
 mod plan_file;
@@ -16,55 +19,50 @@ mod trace_file;
 
 use crate::plan_file::Form;
 use crate::trace_file::Before;
-use libc::{STDERR_FILENO, STDIN_FILENO};
+use std::env::{Env, FillError};
 
 // What the one argument asks for: one of the words, or the file that it names.
-fn answer(word: &[u8]) {
-    if check::same(word, b"-") {
-        plan_file::check(STDIN_FILENO, b"standard input", Form::Plain);
-        return;
+fn answer(rt: &HostRuntime, word: &[u8]) {
+    match word {
+        b"-" => plan_file::check(rt, &mut rt.stdin(), b"standard input", Form::Plain),
+        b"--with-shortest" => plan_file::check(
+            rt,
+            &mut rt.stdin(),
+            b"standard input",
+            Form::WithShortest,
+        ),
+        b"--with-rule" => plan_file::check(rt, &mut rt.stdin(), b"standard input", Form::WithRule),
+        b"--ask" => ask::answer_stream(rt),
+        b"--replay" => trace_file::replay(rt, Before::Nothing),
+        b"--replay-for" => trace_file::replay(rt, Before::Owner),
+        b"--replay-on" => trace_file::replay(rt, Before::Settings),
+        path => plan_file::check_named(rt, path),
     }
-    if check::same(word, b"--with-shortest") {
-        plan_file::check(STDIN_FILENO, b"standard input", Form::WithShortest);
-        return;
-    }
-    if check::same(word, b"--with-rule") {
-        plan_file::check(STDIN_FILENO, b"standard input", Form::WithRule);
-        return;
-    }
-    if check::same(word, b"--ask") {
-        ask::answer_stream();
-        return;
-    }
-    if check::same(word, b"--replay") {
-        trace_file::replay(Before::Nothing);
-        return;
-    }
-    if check::same(word, b"--replay-for") {
-        trace_file::replay(Before::Owner);
-        return;
-    }
-    if check::same(word, b"--replay-on") {
-        trace_file::replay(Before::Settings);
-        return;
-    }
-    plan_file::check_named(word);
 }
 
-fn main() {
-    if os::arg_count() < 2 {
-        plan_file::check(STDIN_FILENO, b"standard input", Form::Plain);
+// There is room for the longest path.
+fn space() -> [u8; 4096]
+    ensures { 4096 ≡ length result }
+{
+    [0; 4096]
+}
+
+fn main(rt: HostRuntime) {
+    let mut word = space();
+    if !matches!(rt.arg(2, &mut word), Err(FillError::NotPresent)) {
+        let _ = eprintln!(rt; "palikudyom: one plan file at a time");
         return;
     }
-    if os::arg_count() > 2 {
-        io::write_all(STDERR_FILENO, b"palikudyom: one plan file at a time\n");
-        return;
+    match rt.arg(1, &mut word) {
+        Ok(length) => answer(&rt, &word[..length]),
+        Err(FillError::NotPresent) => plan_file::check(
+            &rt,
+            &mut rt.stdin(),
+            b"standard input",
+            Form::Plain,
+        ),
+        Err(FillError::TooLong) => {
+            let _ = eprintln!(rt; "palikudyom: the file's name: File name too long");
+        }
     }
-    let mut word = io::buffer();
-    let length = os::arg(1, &mut word);
-    if os::errno() != 0 {
-        os::fail(b"palikudyom: the file's name");
-        return;
-    }
-    answer(&word[..length]);
 }

@@ -1,6 +1,9 @@
 // The line of a plan file.
-use crate::{input, lines};
+use crate::{failure, input, lines};
 use plan::check::{buffer, check_plan, check_plan_with_rule, check_plan_with_shortest};
+use std::fs::File;
+use std::io::Read;
+use std::{io, str};
 use tables::answer::Verdict;
 
 // What a plan file has before P: nothing, the shortest allowed window, or that, the rule and the lost ticks.
@@ -20,25 +23,29 @@ pub(crate) fn judged(bytes: &[u8], form: Form) -> Verdict {
 }
 
 // The buffer is enough for any answer: what a longer file has after it is not read.
-pub(crate) fn check(fd: i32, name: &[u8], form: Form) {
+pub(crate) fn check(rt: &HostRuntime, input: &mut impl Read, name: &[u8], form: Form) {
     let mut bytes = buffer();
-    let got = input::read_on(fd, &mut bytes);
-    if got < 0 {
-        os::fail(name);
-        return;
-    }
-    let n = io::count(got, &bytes);
-    if !lines::verdict(judged(&bytes[..n], form)) {
-        os::fail(b"standard output");
+    match input::read_on(input, &mut bytes) {
+        Ok(n) => {
+            if let Err(error) = lines::verdict(rt, judged(&bytes[..n], form)) {
+                failure::tell(rt, b"standard output", error);
+            }
+        }
+        Err(error) => failure::tell(rt, name, error),
     }
 }
 
-pub(crate) fn check_named(path: &[u8]) {
-    let fd = os::open_read(path);
-    if fd < 0 {
-        os::fail(path);
-        return;
+// Paths of std are text.
+fn open(rt: &HostRuntime, path: &[u8]) -> io::Result<File> {
+    match str::from_utf8(path) {
+        Ok(path) => File::open(rt, path),
+        Err(_) => Err(io::Error::new(io::ErrorKind::InvalidInput, "the name is not UTF-8")),
     }
-    check(fd, path, Form::Plain);
-    libc::close(fd);
+}
+
+pub(crate) fn check_named(rt: &HostRuntime, path: &[u8]) {
+    match open(rt, path) {
+        Ok(mut file) => check(rt, &mut file, path, Form::Plain),
+        Err(error) => failure::tell(rt, path, error),
+    }
 }

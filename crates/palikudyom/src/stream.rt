@@ -1,6 +1,6 @@
 // The numbers of a query stream, one after the other. A bad one stops the reading: from there on nothing is read and every number is 0.
 ghost use Rattle.std.specs.Prelude.{◌*◌, ◌≤◌, ◌≡◌, length, take};
-ghost use Rattle.io.specs.Counts.{IsPrefixLen};
+ghost use Rattle.palikudyom.specs.Prefix.{IsPrefixLen};
 
 use plan::number::{Number, read_number};
 

@@ -31,7 +31,7 @@ fn lent_signed() -> [i64; JOBS as usize]
     [7; JOBS as usize]
 }
 
-pub(crate) fn make(stream: &[u8], from: Cursor, asked: Asked) -> Cursor {
+pub(crate) fn make(rt: &impl Print, stream: &[u8], from: Cursor, asked: Asked) -> Cursor {
     let mut windows = threes();
     let w = table_of(stream, from, asked, &mut windows);
     let mut out = lent();
@@ -41,17 +41,17 @@ pub(crate) fn make(stream: &[u8], from: Cursor, asked: Asked) -> Cursor {
         let board = w.board;
         let m = w.count;
         let n = room.count;
-        make_into(board, &windows[..m], &mut out[..n]);
+        make_into(rt, board, &windows[..m], &mut out[..n]);
     }
     end
 }
 
-fn make_into(board: Board, windows: &[u32], out: &mut [u32]) {
+fn make_into(rt: &impl Print, board: Board, windows: &[u32], out: &mut [u32]) {
     let made = summary::make_summary(board, windows, out);
-    lines::filled(b"SUMMARY ", made, out);
+    lines::filled(rt, b"SUMMARY ", made, out);
 }
 
-pub(crate) fn least_supply(stream: &[u8], from: Cursor, asked: Asked) -> Cursor {
+pub(crate) fn least_supply(rt: &impl Print, stream: &[u8], from: Cursor, asked: Asked) -> Cursor {
     let mut windows = threes();
     let w = table_of(stream, from, asked, &mut windows);
     let mut summary = kept();
@@ -63,6 +63,7 @@ pub(crate) fn least_supply(stream: &[u8], from: Cursor, asked: Asked) -> Cursor 
         let m = w.count;
         let k = s.count;
         lines::amount(
+            rt,
             b"AMOUNT ",
             summary::least_supply(board, &windows[..m], &summary[..k], length.value),
         );
@@ -70,7 +71,7 @@ pub(crate) fn least_supply(stream: &[u8], from: Cursor, asked: Asked) -> Cursor 
     end
 }
 
-pub(crate) fn margins(stream: &[u8], from: Cursor, asked: Asked) -> Cursor {
+pub(crate) fn margins(rt: &impl Print, stream: &[u8], from: Cursor, asked: Asked) -> Cursor {
     let mut windows = threes();
     let w = table_of(stream, from, asked, &mut windows);
     let mut summary = kept();
@@ -82,6 +83,7 @@ pub(crate) fn margins(stream: &[u8], from: Cursor, asked: Asked) -> Cursor {
     let k = s.count;
     let n = t.count;
     margins_at(
+        rt,
         stream,
         t.after,
         board,
@@ -92,6 +94,7 @@ pub(crate) fn margins(stream: &[u8], from: Cursor, asked: Asked) -> Cursor {
 }
 
 fn margins_at(
+    rt: &impl Print,
     stream: &[u8],
     from: Cursor,
     board: Board,
@@ -107,12 +110,21 @@ fn margins_at(
     if end.good {
         let m = l.count;
         let n = room.count;
-        margins_into(board, windows, summary, tasks, &lengths[..m], &mut out[..n]);
+        margins_into(
+            rt,
+            board,
+            windows,
+            summary,
+            tasks,
+            &lengths[..m],
+            &mut out[..n],
+        );
     }
     end
 }
 
 fn margins_into(
+    rt: &impl Print,
     board: Board,
     windows: &[u32],
     summary: &[u32],
@@ -121,7 +133,7 @@ fn margins_into(
     out: &mut [i64],
 ) {
     let found = margins::margins(board, windows, summary, tasks, lengths, out);
-    lines::margins(found, out);
+    lines::margins(rt, found, out);
 }
 
 // ---- an edit
@@ -159,7 +171,7 @@ fn read_edit(stream: &[u8], from: Cursor) -> Change {
 }
 
 // The windows memory is in threes as it is read, and may have more than the list.
-pub(crate) fn edit(stream: &[u8], from: Cursor, asked: Asked) -> Cursor {
+pub(crate) fn edit(rt: &impl Print, stream: &[u8], from: Cursor, asked: Asked) -> Cursor {
     let frame = any(stream, from);
     let count = any(stream, frame.after);
     let mut windows = numbers();
@@ -174,6 +186,7 @@ pub(crate) fn edit(stream: &[u8], from: Cursor, asked: Asked) -> Cursor {
         let k = s.count;
         let edit = change.edit;
         edit_both(
+            rt,
             board,
             count.value,
             &mut windows[..m],
@@ -184,7 +197,14 @@ pub(crate) fn edit(stream: &[u8], from: Cursor, asked: Asked) -> Cursor {
     end
 }
 
-fn edit_both(board: Board, count: u32, windows: &mut [u32], summary: &mut [u32], edit: Edit) {
+fn edit_both(
+    rt: &impl Print,
+    board: Board,
+    count: u32,
+    windows: &mut [u32],
+    summary: &mut [u32],
+    edit: Edit,
+) {
     let edited = edit_table(board, count, windows, summary, edit);
-    lines::edited(edited, windows, summary);
+    lines::edited(rt, edited, windows, summary);
 }

@@ -3,8 +3,7 @@ ghost use Rattle.std.specs.Prelude.{◌≡◌, length};
 
 use crate::asked::{Asked, Settings, read_settings};
 use crate::stream::{Cursor, any};
-use crate::{entries, input};
-use libc::{STDERR_FILENO, STDIN_FILENO};
+use crate::{entries, failure, input};
 
 // There is room for so many bytes. A longer input gets no answer: what is left out could change it.
 const MOST: usize = 131072;
@@ -44,30 +43,24 @@ fn board(stream: &[u8], form: Before) -> Settings {
 }
 
 // Whether the numbers before the trace could be read.
-fn answered(stream: &[u8], form: Before) -> bool {
+fn answered(rt: &impl Print, stream: &[u8], form: Before) -> bool {
     let board = board(stream, form);
-    entries::replay_rest(stream, board.after, board.asked)
+    entries::replay_rest(rt, stream, board.after, board.asked)
 }
 
-pub(crate) fn replay(form: Before) {
+pub(crate) fn replay(rt: &HostRuntime, form: Before) {
     let mut space = space();
-    let got = input::read_on(STDIN_FILENO, &mut space);
-    if got < 0 {
-        os::fail(b"standard input");
-        return;
-    }
-    if input::more(STDIN_FILENO) {
-        io::write_all(
-            STDERR_FILENO,
-            b"palikudyom: a trace with its plan's numbers is over 131,072 bytes\n",
-        );
-        return;
-    }
-    let length = io::count(got, &space);
-    if !answered(&space[..length], form) {
-        io::write_all(
-            STDERR_FILENO,
-            b"palikudyom: the numbers before the trace are damaged\n",
-        );
+    let mut stdin = rt.stdin();
+    match input::read_on(&mut stdin, &mut space) {
+        Ok(length) => {
+            if input::more(&mut stdin) {
+                let _ = eprintln!(rt;
+                    "palikudyom: a trace with its plan's numbers is over 131,072 bytes"
+                );
+            } else if !answered(rt, &space[..length], form) {
+                let _ = eprintln!(rt; "palikudyom: the numbers before the trace are damaged");
+            }
+        }
+        Err(error) => failure::tell(rt, b"standard input", error),
     }
 }
