@@ -1,5 +1,5 @@
 -- The rule of the machine, earliest deadline first, and the code's choice by it. Both enter here: the relation and its laws are over any rule, what a tick
--- does names the choice, and that the choice follows the rule is one law, `chosen-follows` (proofs/Pick).
+-- does names the choice, and that the choice follows the rule is one law, `chosen_follows` (proofs/Pick).
 use Rattle.std.specs.Prelude.{Bool, List, ℕ}
 use Rattle.scope.specs.Limits.{most_tasks}
 use Rattle.scope.specs.Tasks.{Task}

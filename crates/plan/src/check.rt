@@ -22,7 +22,7 @@ pub const LONGEST: usize = Number::MOST_GROUPS * (SETTINGS + 1 + 2 * Window::MOS
     + 2;
 
 // What a plan file is read to. It has one byte more than the longest plan, so that a longer file answers as what is read of it (theory/Plan,
-// `first-answer`).
+// `first_answer`).
 pub fn buffer() -> [u8; LONGEST + 1]
     ensures { result ≡ replicate (most_plan_bytes most_settings + 1) 0 }
 {

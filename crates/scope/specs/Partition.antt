@@ -37,6 +37,6 @@ outage_from σ s zero = 0
 outage_from σ s (suc n) = cond (σ s) 0 (outage_from σ (s + 1) n + 1)
 
 -- the longest run of unsupplied ticks over endless frames, 0 if every tick is supplied: a run starts at some tick of a frame and goes on over its
--- end. Where σ repeats with P and supplies a tick, P ticks show the end of any run: `outage-there` and `outage-longest` (theory/Outage) are that law
+-- end. Where σ repeats with P and supplies a tick, P ticks show the end of any run: `outage_there` and `outage_longest` (theory/Outage) are that law
 unfoldable pub outage : (ℕ → Bool) → ℕ → ℕ
 outage σ P = greatest (λ s. outage_from σ s P) P

@@ -306,7 +306,7 @@ fn gather(board: Board, windows: &[u32], out: &mut [u32]) -> usize
 }
 
 // What is left of the asked owner's windows, in pairs, at the front of out: how many numbers it has. Whoever goes on with these pairs in the board's frame
-// need not know of owner or loss (theory/Lent, `asked-taken`). Refusals: a table's, then 8.
+// need not know of owner or loss (theory/Lent, `asked_taken`). Refusals: a table's, then 8.
 pub fn own_windows(owners: u32, board: Board, windows: &[u32], out: &mut [u32]) -> Amount
     ensures answer { told_amount result ≡ own_answer owners (board_of board) windows.now (length out.old) }
     ensures buffer { out.new ≡ own_out owners (board_of board) windows.now out.old }

@@ -13,7 +13,7 @@ use Rattle.scope.specs.Shared.{left_of, lost_fault}
 use Rattle.theory.specs.Lists.{none_listed}
 use Rattle.theory.specs.Answers.{fault_not_fine}
 
--- the four causes. What is left is nothing where every window is no longer than the lost ticks (Left, `left-supplied`: then no tick is supplied)
+-- the four causes. What is left is nothing where every window is no longer than the lost ticks (Left, `left_supplied`: then no tick is supplied)
 pub data Cause (b : Board) (mine : List ℕ) : Type 0 where
   no_such_rule : b.rule ≢ 1 → b.rule ≢ 2 → Cause b mine
   too_many_lost : most_lost < b.lost → Cause b mine
