@@ -7,6 +7,7 @@ ghost use Rattle.tables.specs.Told.{fault_of};
 use crate::answer::{Checked, Refusal};
 
 // Whether the numbers are not in pieces of k, or are over `most` pieces. No list but an empty one is in pieces of 0.
+#[tactic(auto, using(theory::specs::Lists::whole_count, theory::specs::Lists::left_over_count, theory::specs::Lists::none_count))]
 pub fn bad_count(list: &[u32], k: usize, most: usize) -> bool
     ensures { result ≡ bad_count k most list.now }
 {
