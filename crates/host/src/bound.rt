@@ -19,13 +19,7 @@ fn bound_answer(b: Bound) -> Answer
 }
 
 // Refusals: a table's, then 4 5 7.
-#[unsafe(no_mangle)]
-pub extern "C" fn palikudyom_bound(
-    board: Board,
-    windows: &[u32],
-    tasks: &[u32],
-    index: u32,
-) -> Answer
+pub fn palikudyom_bound(board: Board, windows: &[u32], tasks: &[u32], index: u32) -> Answer
     ensures { result ≡ c_bound (bound_for (board_of board) windows.now tasks.now index) }
 {
     bound_answer(bound(board, windows, tasks, index))

@@ -29,21 +29,14 @@ fn margin_answer(m: Margin) -> Answer
 }
 
 // Refusals 4 5 7.
-#[unsafe(no_mangle)]
-pub extern "C" fn palikudyom_demand(tasks: &[u32], length: u32) -> Answer
+pub fn palikudyom_demand(tasks: &[u32], length: u32) -> Answer
     ensures { result ≡ c_amount (demand_answer tasks.now length) }
 {
     amount_answer(demand(tasks, length))
 }
 
 // Refusals: a table's, then 4 5 7.
-#[unsafe(no_mangle)]
-pub extern "C" fn palikudyom_margin(
-    board: Board,
-    windows: &[u32],
-    tasks: &[u32],
-    length: u32,
-) -> Answer
+pub fn palikudyom_margin(board: Board, windows: &[u32], tasks: &[u32], length: u32) -> Answer
     ensures { result ≡ c_margin (margin_for (board_of board) windows.now tasks.now length) }
 {
     margin_answer(margin(board, windows, tasks, length))

@@ -21,8 +21,7 @@ fn edited_answer(e: Edited) -> Answer
 
 // The window at `index` gets a new start and end, and keeps its owner. Refusals: 1 where `windows` has fewer windows than `count`, a table's, then 14 7, those
 // of the new table, 8 for the windows, 8 for the summary. What follows the list and the summary is kept.
-#[unsafe(no_mangle)]
-pub extern "C" fn palikudyom_move_window(
+pub fn palikudyom_move_window(
     board: Board,
     count: u32,
     windows: &mut [u32],
@@ -45,8 +44,7 @@ pub extern "C" fn palikudyom_move_window(
 }
 
 // A window comes before the one at `index`, or after the last. The same refusals.
-#[unsafe(no_mangle)]
-pub extern "C" fn palikudyom_add_window(
+pub fn palikudyom_add_window(
     board: Board,
     count: u32,
     windows: &mut [u32],
@@ -75,8 +73,7 @@ pub extern "C" fn palikudyom_add_window(
 }
 
 // The window at `index` goes. The same refusals.
-#[unsafe(no_mangle)]
-pub extern "C" fn palikudyom_remove_window(
+pub fn palikudyom_remove_window(
     board: Board,
     count: u32,
     windows: &mut [u32],

@@ -13,24 +13,21 @@ use print::write::{write_plan, write_plan_with_rule, write_plan_with_shortest};
 use tables::answer::Verdict;
 
 // The verdict of a plan file. Refusal 9, and 1 and 4 as soon as a count is read; then 2 3 5 6.
-#[unsafe(no_mangle)]
-pub extern "C" fn palikudyom_plan(bytes: &[u8]) -> Answer
+pub fn palikudyom_plan(bytes: &[u8]) -> Answer
     ensures { result ≡ c_verdict (plan_answer 0 bytes.now) }
 {
     verdict_answer(check_plan(bytes))
 }
 
 // Of a plan file with the shortest allowed window first; 12 comes after 3.
-#[unsafe(no_mangle)]
-pub extern "C" fn palikudyom_plan_with_shortest(bytes: &[u8]) -> Answer
+pub fn palikudyom_plan_with_shortest(bytes: &[u8]) -> Answer
     ensures { result ≡ c_verdict (plan_answer 1 bytes.now) }
 {
     verdict_answer(check_plan_with_shortest(bytes))
 }
 
 // Of a plan file with the shortest allowed window, the rule and the lost ticks first; 13 comes after 12.
-#[unsafe(no_mangle)]
-pub extern "C" fn palikudyom_plan_with_rule(bytes: &[u8]) -> Answer
+pub fn palikudyom_plan_with_rule(bytes: &[u8]) -> Answer
     ensures { result ≡ c_verdict (plan_answer 3 bytes.now) }
 {
     verdict_answer(check_plan_with_rule(bytes))
@@ -45,8 +42,7 @@ fn line_of(verdict: Verdict, out: &mut [u8]) -> Answer
 }
 
 // The line of a plan file: a refused plan has one too.
-#[unsafe(no_mangle)]
-pub extern "C" fn palikudyom_line(bytes: &[u8], out: &mut [u8]) -> Answer
+pub fn palikudyom_line(bytes: &[u8], out: &mut [u8]) -> Answer
     ensures answer { result ≡ c_amount (line_answer (plan_answer 0 bytes.now) (length out.old)) }
     ensures buffer { out.new ≡ line_out (plan_answer 0 bytes.now) out.old }
 {
@@ -54,8 +50,7 @@ pub extern "C" fn palikudyom_line(bytes: &[u8], out: &mut [u8]) -> Answer
 }
 
 // Of a plan file with the shortest allowed window first.
-#[unsafe(no_mangle)]
-pub extern "C" fn palikudyom_line_with_shortest(bytes: &[u8], out: &mut [u8]) -> Answer
+pub fn palikudyom_line_with_shortest(bytes: &[u8], out: &mut [u8]) -> Answer
     ensures answer { result ≡ c_amount (line_answer (plan_answer 1 bytes.now) (length out.old)) }
     ensures buffer { out.new ≡ line_out (plan_answer 1 bytes.now) out.old }
 {
@@ -63,8 +58,7 @@ pub extern "C" fn palikudyom_line_with_shortest(bytes: &[u8], out: &mut [u8]) ->
 }
 
 // Of a plan file with the shortest allowed window, the rule and the lost ticks first.
-#[unsafe(no_mangle)]
-pub extern "C" fn palikudyom_line_with_rule(bytes: &[u8], out: &mut [u8]) -> Answer
+pub fn palikudyom_line_with_rule(bytes: &[u8], out: &mut [u8]) -> Answer
     ensures answer { result ≡ c_amount (line_answer (plan_answer 3 bytes.now) (length out.old)) }
     ensures buffer { out.new ≡ line_out (plan_answer 3 bytes.now) out.old }
 {
@@ -72,13 +66,7 @@ pub extern "C" fn palikudyom_line_with_rule(bytes: &[u8], out: &mut [u8]) -> Ans
 }
 
 // How many bytes the plan file has; they go into `out`. Refusals 1 4 8.
-#[unsafe(no_mangle)]
-pub extern "C" fn palikudyom_write_plan(
-    frame: u32,
-    windows: &[u32],
-    tasks: &[u32],
-    out: &mut [u8],
-) -> Answer
+pub fn palikudyom_write_plan(frame: u32, windows: &[u32], tasks: &[u32], out: &mut [u8]) -> Answer
     ensures answer { result ≡ c_amount (write_answer (record { settings = []; frame = frame; windows = windows.now; tasks = tasks.now })
         (length out.old)) }
     ensures buffer { out.new ≡ write_out (record { settings = []; frame = frame; windows = windows.now; tasks = tasks.now })
@@ -88,8 +76,7 @@ pub extern "C" fn palikudyom_write_plan(
 }
 
 // With the shortest allowed window first.
-#[unsafe(no_mangle)]
-pub extern "C" fn palikudyom_write_plan_with_shortest(
+pub fn palikudyom_write_plan_with_shortest(
     shortest: u32,
     frame: u32,
     windows: &[u32],
@@ -105,8 +92,7 @@ pub extern "C" fn palikudyom_write_plan_with_shortest(
 }
 
 // With the shortest allowed window, the rule and the lost ticks first.
-#[unsafe(no_mangle)]
-pub extern "C" fn palikudyom_write_plan_with_rule(
+pub fn palikudyom_write_plan_with_rule(
     shortest: u32,
     rule: u32,
     lost: u32,

@@ -8,8 +8,7 @@ use supply::supply::least_supply;
 use tables::board::Board;
 
 // Refusals: a table's, then 7.
-#[unsafe(no_mangle)]
-pub extern "C" fn palikudyom_least_supply(board: Board, windows: &[u32], length: u32) -> Answer
+pub fn palikudyom_least_supply(board: Board, windows: &[u32], length: u32) -> Answer
     ensures { result ≡ c_amount (least_supply_for (board_of board) windows.now length) }
 {
     amount_answer(least_supply(board, windows, length))

@@ -1,4 +1,4 @@
-// Every entry for a host that has only numbers, such as a C program: palikudyom.h declares these functions.
+// Every entry for a host that has only numbers, such as a C program: palikudyom.h declares these functions, and `host_c` exports them.
 // specs/Told.antt gives each answer's code and numbers.
 #![tactic(auto)]
 

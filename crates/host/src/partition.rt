@@ -19,8 +19,7 @@ fn delay_answer(d: Delay) -> Answer
 }
 
 // How many critical windows, two numbers each in `out`. Refusals: a table's, then 8.
-#[unsafe(no_mangle)]
-pub extern "C" fn palikudyom_critical(board: Board, windows: &[u32], out: &mut [u32]) -> Answer
+pub fn palikudyom_critical(board: Board, windows: &[u32], out: &mut [u32]) -> Answer
     ensures answer { result ≡ c_amount (critical_for (board_of board) windows.now (length out.old)) }
     ensures buffer { out.new ≡ critical_out_for (board_of board) windows.now out.old }
 {
@@ -28,16 +27,14 @@ pub extern "C" fn palikudyom_critical(board: Board, windows: &[u32], out: &mut [
 }
 
 // Refusals: a table's.
-#[unsafe(no_mangle)]
-pub extern "C" fn palikudyom_delay(board: Board, windows: &[u32]) -> Answer
+pub fn palikudyom_delay(board: Board, windows: &[u32]) -> Answer
     ensures { result ≡ c_delay (delay_for (board_of board) windows.now) }
 {
     delay_answer(delay(board, windows))
 }
 
 // Refusals: a table's.
-#[unsafe(no_mangle)]
-pub extern "C" fn palikudyom_outage(board: Board, windows: &[u32]) -> Answer
+pub fn palikudyom_outage(board: Board, windows: &[u32]) -> Answer
     ensures { result ≡ c_amount (outage_for (board_of board) windows.now) }
 {
     amount_answer(outage(board, windows))

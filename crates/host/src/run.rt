@@ -29,8 +29,7 @@ fn ran_answer(r: Ran) -> Answer
 }
 
 // Each job's count goes into `counts`. Refusals: a table's, then 4 5 10 11 8.
-#[unsafe(no_mangle)]
-pub extern "C" fn palikudyom_run(
+pub fn palikudyom_run(
     board: Board,
     windows: &[u32],
     tasks: &[u32],

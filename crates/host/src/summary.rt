@@ -10,8 +10,7 @@ use summaries::summary::{least_supply, make_summary};
 use tables::board::Board;
 
 // How many numbers the summary of the asked owner's windows has; they go into `out`. Refusals: a table's, then 8.
-#[unsafe(no_mangle)]
-pub extern "C" fn palikudyom_make_summary(board: Board, windows: &[u32], out: &mut [u32]) -> Answer
+pub fn palikudyom_make_summary(board: Board, windows: &[u32], out: &mut [u32]) -> Answer
     ensures answer { result ≡ c_amount (make_for (board_of board) windows.now (length out.old)) }
     ensures buffer { out.new ≡ make_out_for (board_of board) windows.now out.old }
 {
@@ -19,8 +18,7 @@ pub extern "C" fn palikudyom_make_summary(board: Board, windows: &[u32], out: &m
 }
 
 // The least supply of a length, from the summary. Refusals: a table's, then 14 7.
-#[unsafe(no_mangle)]
-pub extern "C" fn palikudyom_least_supply_from(
+pub fn palikudyom_least_supply_from(
     board: Board,
     windows: &[u32],
     summary: &[u32],
@@ -32,8 +30,7 @@ pub extern "C" fn palikudyom_least_supply_from(
 }
 
 // How many margins, the one of each length in `out`. Refusals: a table's, then 4 5 14 7 8.
-#[unsafe(no_mangle)]
-pub extern "C" fn palikudyom_margins(
+pub fn palikudyom_margins(
     board: Board,
     windows: &[u32],
     summary: &[u32],

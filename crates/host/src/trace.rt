@@ -53,13 +53,7 @@ fn replay_answer(r: Replayed) -> Answer
 }
 
 // A board's trace against the tick machine. Refusals: 9, a table's, then 4 5 10 11; 9 and 11 are about the trace.
-#[unsafe(no_mangle)]
-pub extern "C" fn palikudyom_replay(
-    board: Board,
-    windows: &[u32],
-    tasks: &[u32],
-    trace: &[u8],
-) -> Answer
+pub fn palikudyom_replay(board: Board, windows: &[u32], tasks: &[u32], trace: &[u8]) -> Answer
     ensures { result ≡ c_replay (replay_for (board_of board) windows.now tasks.now trace.now) }
 {
     replay_answer(replay(board, windows, tasks, trace))

@@ -30,8 +30,7 @@ pub(crate) fn verdict_answer(v: Verdict) -> Answer
 }
 
 // Refusals: a table's, then 4 5 6.
-#[unsafe(no_mangle)]
-pub extern "C" fn palikudyom_verdict(board: Board, windows: &[u32], tasks: &[u32]) -> Answer
+pub fn palikudyom_verdict(board: Board, windows: &[u32], tasks: &[u32]) -> Answer
     ensures { result ≡ c_verdict (verdict_for (board_of board) windows.now tasks.now) }
 {
     verdict_answer(verdict(board, windows, tasks))

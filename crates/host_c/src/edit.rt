@@ -1,0 +1,62 @@
+ghost use Rattle.std.specs.Prelude.{◌≡◌};
+ghost use Rattle.scope.specs.Limits.{teams};
+ghost use Rattle.scope.specs.Summary.{Edit.move, Edit.add, Edit.remove, edit_answer, edit_windows, edit_summary};
+ghost use Rattle.tables.specs.Told.{board_of};
+ghost use Rattle.host.specs.Told.{c_edited};
+
+use host::answer::Answer;
+use tables::board::Board;
+
+// The window at `index` gets a new start and end, and keeps its owner. Refusals: 1 where `windows` has fewer windows than `count`, a table's, then 14 7, those
+// of the new table, 8 for the windows, 8 for the summary. What follows the list and the summary is kept.
+#[unsafe(no_mangle)]
+pub extern "C" fn palikudyom_move_window(
+    board: Board,
+    count: u32,
+    windows: &mut [u32],
+    summary: &mut [u32],
+    index: u32,
+    start: u32,
+    end: u32,
+) -> Answer
+    ensures answer { result ≡ c_edited (edit_answer teams (board_of board) count windows.old summary.old (move index start end)) }
+    ensures list { windows.new ≡ edit_windows teams (board_of board) count windows.old summary.old (move index start end) }
+    ensures held { summary.new ≡ edit_summary teams (board_of board) count windows.old summary.old (move index start end) }
+{
+    host::edit::palikudyom_move_window(board, count, windows, summary, index, start, end)
+}
+
+// A window comes before the one at `index`, or after the last. The same refusals.
+#[unsafe(no_mangle)]
+pub extern "C" fn palikudyom_add_window(
+    board: Board,
+    count: u32,
+    windows: &mut [u32],
+    summary: &mut [u32],
+    index: u32,
+    start: u32,
+    end: u32,
+    owner: u32,
+) -> Answer
+    ensures answer { result ≡ c_edited (edit_answer teams (board_of board) count windows.old summary.old (add index start end owner)) }
+    ensures list { windows.new ≡ edit_windows teams (board_of board) count windows.old summary.old (add index start end owner) }
+    ensures held { summary.new ≡ edit_summary teams (board_of board) count windows.old summary.old (add index start end owner) }
+{
+    host::edit::palikudyom_add_window(board, count, windows, summary, index, start, end, owner)
+}
+
+// The window at `index` goes. The same refusals.
+#[unsafe(no_mangle)]
+pub extern "C" fn palikudyom_remove_window(
+    board: Board,
+    count: u32,
+    windows: &mut [u32],
+    summary: &mut [u32],
+    index: u32,
+) -> Answer
+    ensures answer { result ≡ c_edited (edit_answer teams (board_of board) count windows.old summary.old (remove index)) }
+    ensures list { windows.new ≡ edit_windows teams (board_of board) count windows.old summary.old (remove index) }
+    ensures held { summary.new ≡ edit_summary teams (board_of board) count windows.old summary.old (remove index) }
+{
+    host::edit::palikudyom_remove_window(board, count, windows, summary, index)
+}
