@@ -1,5 +1,5 @@
 // Reading a file or a pipe.
-ghost use Rattle.std.specs.Prelude.{IfOk};
+ghost use Rattle.std.specs.Prelude.{◌≡◌, IfOk, length};
 ghost use Rattle.palikudyom.specs.Prefix.{IsPrefixLen};
 
 use std::io;
@@ -9,7 +9,8 @@ use std::io::Read;
 // An error leaves in the buffer what was read before it. A byte at a time: the inputs are short, and a pipe that delivers in pieces is no
 // case of its own.
 pub(crate) fn read_on(input: &mut impl Read, buffer: &mut [u8]) -> io::Result<usize>
-    ensures { IfOk result (λ n. IsPrefixLen n buffer.new) }
+    ensures read { IfOk result (λ n. IsPrefixLen n buffer.new) }
+    ensures size { length buffer.new ≡ length buffer.old }
 {
     let mut filled: usize = 0;
     while filled < buffer.len() {

@@ -25,9 +25,8 @@ loop-j-init c = (omega arith, ap (λ (x : Task). x.C) c.task_at-task.ensures ∙
 -- the task just read keeps its rule
 rule : (c : After-task_at2) → TaskRule (task_of c.task_at-above.result)
 rule c =
-    let a = c in
-    read_rule a.args.tasks.now c.loop-j.j _ a.requires.0
-    (omega (arith, pieces_length _ 3 task a.args.tasks.now)) c.task_at-above.ensures
+    read_rule c.args.tasks.now c.loop-j.j _ c.requires.0
+    (omega (arith, pieces_length _ 3 task c.args.tasks.now)) c.task_at-above.ensures
 
 -- what it asks for, that this is small, and that it is what the sum grows by
 term : (c : After-struct_known2) →
@@ -36,22 +35,21 @@ term : (c : After-struct_known2) →
     × (l.sum ≤ most_tasks * ((most_length + most_of_task) * most_of_task) + most_of_task)
     × (asked_to (tasks_of a.tasks.now) a.index a.length (l.j + 1) ≡ l.sum + c.rounded_up-jobs.result * c.task_at-above.result.work)
 term c =
-    let a = c in
     let l = c.loop-j in
     let r = c.task_at-above in
-    let ts = a.args.tasks.now in
-    let t = a.args.length in
+    let ts = c.args.tasks.now in
+    let t = c.args.length in
     let e : c.rounded_up-jobs.result * r.result.work ≡ asked_by t (task_of r.result) =
     ap (λ (n : ℕ). n * r.result.work) c.rounded_up-jobs.ensures in
     let f : asked_by t (task_of r.result) ≡ asked_by t (task_at (tasks_of ts) l.j) = ap (asked_by t) r.ensures in (
-      omega (arith, e, asked_most (task_of r.result) t (rule c.before.before) a.requires.2),
+      omega (arith, e, asked_most (task_of r.result) t (rule c.before.before) c.requires.2),
       omega (
         arith,
         l.invariant.1,
-        asked_to_most ts a.args.index t l.j a.requires.0 a.requires.2
+        asked_to_most ts c.args.index t l.j c.requires.0 c.requires.2
             (omega (arith, pieces_length _ 3 task ts)) (omega (arith, pieces_length _ 3 task ts)),
       ),
-      omega (arith, l.invariant.1, asked_to_next (tasks_of ts) a.args.index t l.j, e, f),
+      omega (arith, l.invariant.1, asked_to_next (tasks_of ts) c.args.index t l.j, e, f),
     )
 
 pub rounded_up-jobs-requires : goal.rounded_up-jobs-requires

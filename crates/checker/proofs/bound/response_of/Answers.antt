@@ -20,12 +20,11 @@ After-task_at = lts.After-task_at tie.the-claims reads.Pre reads.Post goal.the-i
 -- the deadline is the task's, and small
 due : (c : After-task_at) → let a = c.args in
     (c.task_at-task.result.deadline ≡ (task_at (tasks_of a.tasks.now) a.index).D) × (c.task_at-task.result.deadline ≤ most_of_task)
-due c =
-    let a = c in (
-      ap (λ (x : Task). x.D) c.task_at-task.ensures,
-      (read_rule a.args.tasks.now a.args.index _ a.requires.1
-          (omega (arith, pieces_length _ 3 task a.args.tasks.now)) c.task_at-task.ensures).due_most,
-    )
+due c = (
+  ap (λ (x : Task). x.D) c.task_at-task.ensures,
+  (read_rule c.args.tasks.now c.args.index _ c.requires.1
+      (omega (arith, pieces_length _ 3 task c.args.tasks.now)) c.task_at-task.ensures).due_most,
+)
 
 pub loop-length-init : goal.loop-length-init
 loop-length-init c = (omega arith, short_first _ _ _ _)
@@ -51,18 +50,16 @@ returns-then-asked-least c =
 
 pub overflow_add-length : goal.overflow_add-length
 overflow_add-length c =
-    let e = c in
     let l = c.loop-length in
     let short : l.length ≤ most_length = omega (arith, due c.before.before.before.before.before.before.before) in
-    let there = pieces_length _ 3 task e.args.tasks.now in
-    omega (arith, c.asked_of-asked.ensures, asked_at_most e.args.tasks.now e.args.index l.length e.requires.1 short (omega arith))
+    let there = pieces_length _ 3 task c.args.tasks.now in
+    omega (arith, c.asked_of-asked.ensures, asked_at_most c.args.tasks.now c.args.index l.length c.requires.1 short (omega arith))
 
 pub loop-length-preserved : goal.loop-length-preserved
 loop-length-preserved c =
-    let l = c.loop-length in
-    let e = c in (
+    let l = c.loop-length in (
       omega arith,
-      short_next _ _ _ _ (table_row _ _ (pairs_legal _ _ e.requires.0)).repeats l.length _ _
+      short_next _ _ _ _ (table_row _ _ (pairs_legal _ _ c.requires.0)).repeats l.length _ _
           c.least_of-least.ensures c.asked_of-asked.ensures c.if-asked-least.false l.invariant.1,
     )
 

@@ -25,8 +25,7 @@ loop-i-init c = (omega arith, refl, omega arith, refl)
 -- the period that is read
 period : (c : After-task_at) → (1 ≤ c.task_at-task.result.period) × (c.task_at-task.result.period ≤ most_of_task)
 period c =
-    let b = c in
-    let r = read_rule _ _ _ b.requires.2 (omega arith) c.task_at-task.ensures in (r.period, r.period_most)
+    let r = read_rule _ _ _ c.requires.2 (omega arith) c.task_at-task.ensures in (r.period, r.period_most)
 
 pub nonzero_div-h : goal.nonzero_div-h
 nonzero_div-h c = rw c.gcd.ensures (gcd_pos _ _ (period c.before.before.before).0)
@@ -47,8 +46,7 @@ turn c =
 
 pub returns-then-h-gt-LONGEST : goal.returns-then-h-gt-LONGEST
 returns-then-h-gt-LONGEST c =
-    let b = c in
-    cycle_over _ _ _ _ b.requires.0 b.requires.2.rules (turn c.before.before) c.if-h-gt-LONGEST.true
+    cycle_over _ _ _ _ c.requires.0 c.requires.2.rules (turn c.before.before) c.if-h-gt-LONGEST.true
 
 pub loop-i-preserved : goal.loop-i-preserved
 loop-i-preserved c = (omega arith, refl, c.if-h-gt-LONGEST.false, turn c.before.before)

@@ -30,17 +30,15 @@ more c =
 
 pub overflow_add-sum : goal.overflow_add-sum
 overflow_add-sum c =
-    let b = c in
     let l = c.loop-i in
-    omega (arith, more c.before, demand_to_most b.args.tasks.now b.args.length (l.i + 1) b.requires.0 b.requires.1 (omega arith))
+    omega (arith, more c.before, demand_to_most c.args.tasks.now c.args.length (l.i + 1) c.requires.0 c.requires.1 (omega arith))
 
 pub loop-i-preserved : goal.loop-i-preserved
 loop-i-preserved c = (omega arith, refl, more c.before)
 
 pub returns : goal.returns
 returns c =
-    let b = c in
     let l = c.loop-i in (
       l.invariant.2 ∙ demand_to_whole _ _ _ (omega arith),
-      omega (arith, l.invariant.2, demand_to_most b.args.tasks.now b.args.length l.i b.requires.0 b.requires.1 (omega arith)),
+      omega (arith, l.invariant.2, demand_to_most c.args.tasks.now c.args.length l.i c.requires.0 c.requires.1 (omega arith)),
     )

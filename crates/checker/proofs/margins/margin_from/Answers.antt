@@ -25,23 +25,20 @@ demand_of-demand-requires c = let p = c.requires in (p.1, p.2)
 supplied : (c : Past-After-known_told) → let a = c.args in
     c.in-Of.supply ≡ least_from a.frame a.summary.now a.length
 supplied c =
-    let e = c in
-    least_told _ _ _ e.requires.0 e.requires.2 _ (sym (ap told_amount c.in-Of.is) ∙ c.least_from.ensures)
+    least_told _ _ _ c.requires.0 c.requires.2 _ (sym (ap told_amount c.in-Of.is) ∙ c.least_from.ensures)
 
 pub difference-requires : goal.difference-requires
 difference-requires c =
-    let e = c in
     let told = c.shared_slice_known-1.given in
-    let a = e.args in
+    let a = c.args in
     let w = told 0 in
     let n = told 2 in
-    let small = least_small (framed a.frame) a.summary.now a.length e.requires.0 e.requires.2 (omega arith) (omega arith) in
+    let small = least_small (framed a.frame) a.summary.now a.length c.requires.0 c.requires.2 (omega arith) (omega arith) in
     (omega (arith, small, supplied c.before.before), omega (arith, c.demand_of-demand.ensures.1))
 
 pub returns-in-Refused : goal.returns-in-Refused
 returns-in-Refused c =
-    let e = c in
-    absurd (never_refused _ _ _ e.requires.0 e.requires.2 (sym (ap told_amount c.in-Refused.is) ∙ c.least_from.ensures))
+    absurd (never_refused _ _ _ c.requires.0 c.requires.2 (sym (ap told_amount c.in-Refused.is) ∙ c.least_from.ensures))
 
 -- a margin is a supply minus a demand
 subtracted : (c : After-difference) → let a = c.args in
@@ -51,9 +48,8 @@ subtracted c = c.difference.ensures ∙ ap₂ (λ (x y : ℕ). pos x -ℤ pos y)
 
 pub returns-in-Of : goal.returns-in-Of
 returns-in-Of c =
-    let e = c in
     let told = c.shared_slice_known-1.given in
-    let a = e.args in
+    let a = c.args in
     let w = told 0 in
     let n = told 2 in
-    margin_kept (framed a.frame) a.summary.now a.length e.requires.0 e.requires.2 a.tasks.now e.requires.1 (omega arith) (omega arith) _ (subtracted c.before)
+    margin_kept (framed a.frame) a.summary.now a.length c.requires.0 c.requires.2 a.tasks.now c.requires.1 (omega arith) (omega arith) _ (subtracted c.before)

@@ -35,16 +35,14 @@ margins_on-requires c = (own_at c.before.before.before).fine_front
 pub returns-in-Refused : goal.returns-in-Refused
 unfolding margins_for margins_out_for
 returns-in-Refused c =
-    let y = c in
-    let r = y.own_windows in
-    let e = sym r.ensures.answer ∙ ap told_amount y.in-Refused.is in
-    let a = y.args in
+    let r = c.own_windows in
+    let e = sym r.ensures.answer ∙ ap told_amount c.in-Refused.is in
+    let a = c.args in
     let x = c.refuse_signed.ensures in record { answer = x.answer ∙ asked_not _ _ _ (margins_entry _ _ _ _) _ _ _ (omega arith) e; buffer = x.buffer ∙ asked_not _ _ _ (margins_out_entry _ _ _ _) _ _ _ (omega arith) e }
 
 pub returns-in-Of : goal.returns-in-Of
 unfolding margins_for margins_out_for
 returns-in-Of c =
-    let y = c in
     let t = own_at c.before.before.before.before.before in
-    let a = y.args in
+    let a = c.args in
     let x = c.margins_on.ensures in record { answer = x.answer ∙ asked_taken _ _ _ (margins_entry _ _ _ _) t; buffer = x.buffer ∙ asked_taken _ _ _ (margins_out_entry _ _ _ _) t }

@@ -7,8 +7,7 @@ use Rattle.checker.proofs.margins.margins_on.Goals as goal
 
 pub write_margins-requires : goal.write_margins-requires
 write_margins-requires c =
-    let x = c in
-    let p = all_passed _ _ _ _ _ _ x.requires (sym x.check_margins.ensures ∙ ap fault_of c.in-Fine.is) in
+    let p = all_passed _ _ _ _ _ _ c.requires (sym c.check_margins.ensures ∙ ap fault_of c.in-Fine.is) in
     (p.framed, p.group, p.asked, p.roomy)
 
 pub returns-in-Bad : goal.returns-in-Bad

@@ -9,9 +9,8 @@ use Rattle.checker.proofs.margins.write_margins.Goals as goal
 
 pub loop-i-init : goal.loop-i-init
 loop-i-init c =
-    let e = c in
-    let a = e.args in
-    (omega arith, refl, e.requires.3, margins_none (margin_from a.frame a.summary.now (tasks_of a.tasks.now)) a.lengths.now a.out.now)
+    let a = c.args in
+    (omega arith, refl, c.requires.3, margins_none (margin_from a.frame a.summary.now (tasks_of a.tasks.now)) a.lengths.now a.out.now)
 
 pub margin_from-requires : goal.margin_from-requires
 margin_from-requires c =
@@ -26,17 +25,16 @@ bounds-out-i c = let l = c.loop-i.invariant in let t = c.loop-i-test.true in ome
 
 pub loop-i-preserved : goal.loop-i-preserved
 loop-i-preserved c =
-    let e = c in
     let told = c.shared_slice_known-1.given in
-    let a = e.args in
+    let a = c.args in
     let i = c.loop-i.i in
     let l = c.loop-i.invariant in
     let t = c.loop-i-test.true in
     let w = told 0 in
     let n = told 2 in
-    let asked = each_asked a.lengths.now i e.requires.2 t in
+    let asked = each_asked a.lengths.now i c.requires.2 t in
     let stored =
-    margin_kept (framed a.frame) a.summary.now (get_or a.lengths.now i 0) e.requires.0 asked a.tasks.now e.requires.1
+    margin_kept (framed a.frame) a.summary.now (get_or a.lengths.now i 0) c.requires.0 asked a.tasks.now c.requires.1
     (omega arith) (omega arith) _ c.margin_from.ensures
     in (
       omega arith,

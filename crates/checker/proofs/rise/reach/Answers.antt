@@ -19,7 +19,7 @@ offset_bounds-due-i c = let p = c.requires in omega (arith, p.0.few)
 
 pub bounds-due-i : goal.bounds-due-i
 bounds-due-i c =
-    let e = c in room e.args.i e.args.tasks.now e.args.due.now e.requires.0 e.requires.1 e.requires.2
+    room c.args.i c.args.tasks.now c.args.due.now c.requires.0 c.requires.1 c.requires.2
 
 pub returns-then-due-i : goal.returns-then-due-i
 returns-then-due-i c =
@@ -29,16 +29,15 @@ returns-then-due-i c =
 
 pub overflow_add-due : goal.overflow_add-due
 overflow_add-due c =
-    let e = c in
-    let rule = read_rule e.args.tasks.now e.args.i _ e.requires.0 e.requires.1 c.task_at-task.ensures in
-    omega (arith, rule.period_most, e.requires.3)
+    let rule = read_rule c.args.tasks.now c.args.i _ c.requires.0 c.requires.1 c.task_at-task.ensures in
+    omega (arith, rule.period_most, c.requires.3)
 
 pub offset_bounds-due-i-2 : goal.offset_bounds-due-i-2
 offset_bounds-due-i-2 c = let p = c.requires in omega (arith, p.0.few)
 
 pub bounds-due-i-2 : goal.bounds-due-i-2
 bounds-due-i-2 c =
-    let e = c in room e.args.i e.args.tasks.now e.args.due.now e.requires.0 e.requires.1 e.requires.2
+    room c.args.i c.args.tasks.now c.args.due.now c.requires.0 c.requires.1 c.requires.2
 
 pub returns : goal.returns
 returns c =

@@ -42,13 +42,12 @@ bounds-due-i c = (room c.before.before.before.before).0
 
 pub loop-i-preserved : goal.loop-i-preserved
 loop-i-preserved c =
-    let r = c in
-    let l = r.loop-i in (
+    let l = c.loop-i in (
       omega arith,
       l.invariant.1,
       (room c.before.before.before.before.before).1 ∙ sym l.invariant.4.size ∙ l.invariant.2,
       l.invariant.3,
-      moving_more _ l.invariant.3 _ l.i _ _ _ l.invariant.4 (omega arith) _ _ _ r.reach-by.ensures.deadline r.reach-by.ensures.answer c.lesser-next.ensures,
+      moving_more _ l.invariant.3 _ l.i _ _ _ l.invariant.4 (omega arith) _ _ _ c.reach-by.ensures.deadline c.reach-by.ensures.answer c.lesser-next.ensures,
     )
 
 pub returns : goal.returns

@@ -35,28 +35,21 @@ rise_at-length-requires c = (c.requires.1, omega arith, c.first_due.ensures)
 
 pub search-init : goal.search-init
 search-init c =
-    let e = c in
-    (refl, reached_first _ _ (table_row _ _ (pairs_legal _ _ e.requires.0)).repeats _ e.requires.1.rules _ _ c.rise_at-length.ensures)
+    (refl, reached_first _ _ (table_row _ _ (pairs_legal _ _ c.requires.0)).repeats _ c.requires.1.rules _ _ c.rise_at-length.ensures)
 
 pub rise_at-risen-requires : goal.rise_at-risen-requires
 rise_at-risen-requires c =
-    let s = c in
-    let e = s in
-    (e.requires.1, omega (arith, e.requires.2), s.search.invariant.1.dues)
+    (c.requires.1, omega (arith, c.requires.2), c.search.invariant.1.dues)
 
 -- the demand of the length, which is small
 pub overflow_add-demand : goal.overflow_add-demand
 overflow_add-demand c =
-    let s = c in
-    let e = s in
-    let small = demand_most e.args.tasks.now s.search.length e.requires.1 (omega (arith, e.requires.2)) in
-    omega (arith, s.search.invariant.1.demanded, c.rise_at-risen.ensures.by, small)
+    let small = demand_most c.args.tasks.now c.search.length c.requires.1 (omega (arith, c.requires.2)) in
+    omega (arith, c.search.invariant.1.demanded, c.rise_at-risen.ensures.by, small)
 
 pub known_or_least-supply-requires : goal.known_or_least-supply-requires
 known_or_least-supply-requires c =
-    let s = c in
-    let e = s in
-    (e.requires.0, omega (arith, e.requires.2))
+    (c.requires.0, omega (arith, c.requires.2))
 
 abbrev σ : After-known_or_least → ℕ → Bool
 σ c = supplied_by (framed c.args.frame) c.args.windows.now
@@ -109,7 +102,6 @@ loop-start-init c = (
 
 pub slid-stretch-requires : goal.slid-stretch-requires
 slid-stretch-requires c =
-    let d = c in
     spans_slides _ _ (legal_at c.before.before.before.before.before.before.before.before) _ _ _ c.loop-start.invariant.2 (omega (arith, rest_less c.before.before.before.before.before.before.before.before))
 
 pub overflow_add-start : goal.overflow_add-start
@@ -120,7 +112,6 @@ loop-start-smaller c = omega (arith, c.loop-start-test.true)
 
 pub loop-start-preserved : goal.loop-start-preserved
 loop-start-preserved c =
-    let d = c in
     let l = c.loop-start in (
       omega (arith, c.loop-start-test.true),
       l.invariant.1,
@@ -131,7 +122,7 @@ loop-start-preserved c =
 
 -- some start holds the least supply, so the loop over starts does not run out
 found_one : (c : After-loop) → ⊥
-found_one c = let d = c in not_all_above _ _ (per_at c.before.before.before.before.before) (ts c.before.before.before.before.before) _ _ c.loop-start-test.false c.loop-start.invariant.3
+found_one c = not_all_above _ _ (per_at c.before.before.before.before.before) (ts c.before.before.before.before.before) _ _ c.loop-start-test.false c.loop-start.invariant.3
 
 pub search-smaller-after-loop-start : goal.search-smaller-after-loop-start
 search-smaller-after-loop-start c = absurd (found_one c.before)
@@ -141,26 +132,22 @@ search-preserved-after-loop-start c = absurd (found_one c.before)
 
 pub search-smaller : goal.search-smaller
 search-smaller c =
-    let d = c in
-    omega (arith, later_at c.before.before, d.search-test.true)
+    omega (arith, later_at c.before.before, c.search-test.true)
 
 pub search-preserved : goal.search-preserved
 search-preserved c =
-    let d = c in
-    let short : d.search.length < most_number = omega (arith, d.search-test.true, d.requires.2) in
-    (d.search.invariant.0, reached_next _ _ (per_at c.before.before) _ d.requires.1.rules _ _ _ _ _ short (judged_at c.before.before) c.if-supply-demand.false)
+    let short : c.search.length < most_number = omega (arith, c.search-test.true, c.requires.2) in
+    (c.search.invariant.0, reached_next _ _ (per_at c.before.before) _ c.requires.1.rules _ _ _ _ _ short (judged_at c.before.before) c.if-supply-demand.false)
 
 pub returns-after-search : goal.returns-after-search
 returns-after-search c =
-    let e = c in
     let l = c.search in
-    let per = (table_row _ _ (pairs_legal _ _ e.requires.0)).repeats in
+    let per = (table_row _ _ (pairs_legal _ _ c.requires.0)).repeats in
     ap told_verdict l.invariant.0 ∙ ap given (search_meets _ _ per _ _ l.length c.search-test.false l.invariant.1.past)
 
 pub returns-then-stretch-least : goal.returns-then-stretch-least
 returns-then-stretch-least c =
-    let d = c in
     let l = c.loop-start in
     ap given
-    (search_misses _ _ (per_at c.before.before.before.before.before.before.before.before) _ _ _ _ _ _ _ _ _ _ d.search-test.true (judged_at c.before.before.before.before.before.before.before.before) c.if-supply-demand.true
+    (search_misses _ _ (per_at c.before.before.before.before.before.before.before.before) _ _ _ _ _ _ _ _ _ _ c.search-test.true (judged_at c.before.before.before.before.before.before.before.before) c.if-supply-demand.true
     c.least_of-least.ensures l.invariant.2.held (omega (arith, c.if-stretch-least.true)) l.invariant.3)

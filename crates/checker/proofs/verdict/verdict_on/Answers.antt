@@ -54,9 +54,8 @@ returns-in-Over c =
 
 pub returns-in-Of : goal.returns-in-Of
 returns-in-Of c =
-    let d = c in
     let h = cycle_fine c.before.before in
-    let a = d.args in
+    let a = c.args in
     c.search.ensures
     ∙ ap (λ (n : ℕ). given (verdict (supplied_by (framed a.frame) a.windows.now) a.frame (tasks_of a.tasks.now) n)) (sym h.0)
     ∙ verdict_given _ _ _ (group_fine c.before.before.before.before) h.1

@@ -8,40 +8,37 @@ use Rattle.edits.proofs.EditLaws.{kind_index, kind_list, kind_length}
 use Rattle.edits.proofs.edit.edited_into.Goals as goal
 
 pub bounds-list-i : goal.bounds-list-i
-bounds-list-i c = let e = c in omega (arith, kind_index _ _ c.in-Move.is _ e.requires.0, e.requires.1)
+bounds-list-i c = omega (arith, kind_index _ _ c.in-Move.is _ c.requires.0, c.requires.1)
 
 pub splice-requires : goal.splice-requires
-splice-requires c = let e = c in omega (arith, kind_index _ _ c.in-Move.is _ e.requires.0, e.requires.1, e.requires.2)
+splice-requires c = omega (arith, kind_index _ _ c.in-Move.is _ c.requires.0, c.requires.1, c.requires.2)
 
 pub splice-requires-in-Add : goal.splice-requires-in-Add
-splice-requires-in-Add c = let e = c in omega (arith, kind_index _ _ c.in-Add.is _ e.requires.0, e.requires.1, e.requires.2)
+splice-requires-in-Add c = omega (arith, kind_index _ _ c.in-Add.is _ c.requires.0, c.requires.1, c.requires.2)
 
 pub splice-requires-in-Remove : goal.splice-requires-in-Remove
-splice-requires-in-Remove c = let e = c in omega (arith, kind_index _ _ c.in-Remove.is _ e.requires.0, e.requires.1, e.requires.2)
+splice-requires-in-Remove c = omega (arith, kind_index _ _ c.in-Remove.is _ c.requires.0, c.requires.1, c.requires.2)
 
 pub overflow_sub-result : goal.overflow_sub-result
-overflow_sub-result c = let e = c in omega (arith, kind_index _ _ c.in-Remove.is _ e.requires.0, e.requires.1)
+overflow_sub-result c = omega (arith, kind_index _ _ c.in-Remove.is _ c.requires.0, c.requires.1)
 
 pub returns-in-Move : goal.returns-in-Move
 unfolding edited
 returns-in-Move c =
-    let e = c in
-    let list = e.args.list.now in
+    let list = c.args.list.now in
     let is = c.in-Move.is in
-    let l = kind_list _ _ is list in record { numbers = omega (arith, kind_length _ _ is list e.requires.1 e.requires.0); buffer = c.splice.ensures ∙ ap (λ (x : List ℕ). written x e.args.out.now) (sym l) }
+    let l = kind_list _ _ is list in record { numbers = omega (arith, kind_length _ _ is list c.requires.1 c.requires.0); buffer = c.splice.ensures ∙ ap (λ (x : List ℕ). written x c.args.out.now) (sym l) }
 
 pub returns-in-Add : goal.returns-in-Add
 unfolding edited
 returns-in-Add c =
-    let e = c in
-    let list = e.args.list.now in
+    let list = c.args.list.now in
     let is = c.in-Add.is in
-    let l = kind_list _ _ is list in record { numbers = omega (arith, kind_length _ _ is list e.requires.1 e.requires.0); buffer = c.splice-in-Add.ensures ∙ ap (λ (x : List ℕ). written x e.args.out.now) (sym l) }
+    let l = kind_list _ _ is list in record { numbers = omega (arith, kind_length _ _ is list c.requires.1 c.requires.0); buffer = c.splice-in-Add.ensures ∙ ap (λ (x : List ℕ). written x c.args.out.now) (sym l) }
 
 pub returns-in-Remove : goal.returns-in-Remove
 unfolding edited
 returns-in-Remove c =
-    let e = c in
-    let list = e.args.list.now in
+    let list = c.args.list.now in
     let is = c.in-Remove.is in
-    let l = kind_list _ _ is list in record { numbers = omega (arith, kind_length _ _ is list e.requires.1 e.requires.0); buffer = c.splice-in-Remove.ensures ∙ ap (λ (x : List ℕ). written x e.args.out.now) (sym l) }
+    let l = kind_list _ _ is list in record { numbers = omega (arith, kind_length _ _ is list c.requires.1 c.requires.0); buffer = c.splice-in-Remove.ensures ∙ ap (λ (x : List ℕ). written x c.args.out.now) (sym l) }

@@ -58,8 +58,7 @@ returns-in-Refused c =
 pub returns-in-Refused-make_in : goal.returns-in-Refused-make_in
 unfolding store_answer store_windows make_answer
 returns-in-Refused-make_in c =
-    let e = c in
-    let a = e.args in
+    let a = c.args in
     let m = c.make_in in
     let t = own_at c.before.before.before.before.before.before.before.before in
     let same = store_make teams (board_of a.board) a.new.now (length a.windows.now) (length a.summary.now) t.shared c.if-windows-needed.false in
@@ -69,8 +68,7 @@ returns-in-Refused-make_in c =
 pub returns-in-Of-make_in : goal.returns-in-Of-make_in
 unfolding store_answer store_windows make_answer
 returns-in-Of-make_in c =
-    let e = c in
-    let a = e.args in
+    let a = c.args in
     let m = c.make_in in
     let t = own_at c.before.before.before.before.before.before.before.before.before.before.before.before in
     let same = store_make teams (board_of a.board) a.new.now (length a.windows.now) (length a.summary.now) t.shared c.if-windows-needed.false in

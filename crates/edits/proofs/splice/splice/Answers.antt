@@ -11,17 +11,14 @@ slice_bounds-copy-end c = sym (length-take-le _ _ (omega arith))
 
 pub copy-requires : goal.copy-requires
 copy-requires c =
-    let e = c in
-    omega (arith, e.requires, length-take-le (3 * e.args.index) e.args.list.now (omega (arith, e.requires)))
+    omega (arith, c.requires, length-take-le (3 * c.args.index) c.args.list.now (omega (arith, c.requires)))
 
 pub copy-requires-2 : goal.copy-requires-2
 copy-requires-2 c =
-    let e = c in
     let one = c.copy.ensures in
-    omega (arith, e.requires, ap length one, after_length 0 e.args.out.now (take (3 * e.args.index) e.args.list.now) (omega (arith, e.requires, length-take-le (3 * e.args.index) e.args.list.now (omega (arith, e.requires)))))
+    omega (arith, c.requires, ap length one, after_length 0 c.args.out.now (take (3 * c.args.index) c.args.list.now) (omega (arith, c.requires, length-take-le (3 * c.args.index) c.args.list.now (omega (arith, c.requires)))))
 
 pub returns : goal.returns
 returns c =
-    let e = c in
-    let a = e.args in
-    spliced_copies a.list.now a.come.now a.index a.gone e.requires.0 _ _ _ _ c.copy.ensures c.copy-2.ensures c.copy-3.ensures
+    let a = c.args in
+    spliced_copies a.list.now a.come.now a.index a.gone c.requires.0 _ _ _ _ c.copy.ensures c.copy-2.ensures c.copy-3.ensures

@@ -26,10 +26,9 @@ turn : (c : After-struct_known) →
     (l.end ≤ w.start)
     × Passed (framed a.frame) (windows_of a.windows.now) first.start (l.i + 1) w.end (max l.most (w.start - l.end))
 turn c =
-    let s = c in
     let w = c.window_at-window in
-    passed_next _ _ s.requires.whole s.requires.windows _ _ _ _ c.loop-i.invariant (window_of w.result)
-    (omega (arith, pieces_length Window 2 window s.args.windows.now)) w.ensures
+    passed_next _ _ c.requires.whole c.requires.windows _ _ _ _ c.loop-i.invariant (window_of w.result)
+    (omega (arith, pieces_length Window 2 window c.args.windows.now)) w.ensures
 
 -- after the loop: the gap to the first window of the next frame
 round : (c : After-loop) →
@@ -39,16 +38,14 @@ round : (c : After-loop) →
     (l.end ≤ a.frame) × (first.start ≤ a.frame)
     × (max l.most (a.frame - l.end + first.start) ≡ outage (supplied_by (framed a.frame) a.windows.now) a.frame)
 round c =
-    let s = c in
     let l = c.loop-i in
-    passed_last _ _ s.requires.whole s.requires.windows _ _ _ _ l.invariant (omega (arith, l.invariant.few, pieces_length Window 2 window s.args.windows.now))
+    passed_last _ _ c.requires.whole c.requires.windows _ _ _ _ l.invariant (omega (arith, l.invariant.few, pieces_length Window 2 window c.args.windows.now))
     (ap (λ (w : Window). w.start) c.window_at-first.ensures)
 
 pub loop-i-init : goal.loop-i-init
 loop-i-init c =
-    let s = c in
-    passed_first _ _ s.requires.whole s.requires.windows (window_of c.window_at-first.result)
-    (omega (arith, s.requires.even, s.requires.some, pieces_length Window 2 window s.args.windows.now)) c.window_at-first.ensures
+    passed_first _ _ c.requires.whole c.requires.windows (window_of c.window_at-first.result)
+    (omega (arith, c.requires.even, c.requires.some, pieces_length Window 2 window c.args.windows.now)) c.window_at-first.ensures
 
 pub overflow_sub-gap : goal.overflow_sub-gap
 overflow_sub-gap c = (turn c.before).0

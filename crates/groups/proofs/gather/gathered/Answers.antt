@@ -9,21 +9,19 @@ use Rattle.groups.proofs.gather.gathered.Goals as goal
 
 pub loop-i-preserved : goal.loop-i-preserved
 loop-i-preserved c =
-    let start = c in
-    let l = start.loop-i in
-    let n : start.made-n.result ≡ made_records start.args.numbers.now = start.made-n.ensures in
+    let l = c.loop-i in
+    let n : c.made-n.result ≡ made_records c.args.numbers.now = c.made-n.ensures in
     let less = c.loop-i-test.true in (
       omega arith,
       search rules,
-      record_more start.args.numbers.now l.tasks
+      record_more c.args.numbers.now l.tasks
           l.i c.task_at.result (omega arith) (omega (arith, l.invariant.1)) c.task_at.ensures l.invariant.2,
     )
 
 pub returns : goal.returns
 returns c =
-    let start = c in
-    let ns = start.args.numbers.now in
-    let n : start.made-n.result ≡ made_records ns = start.made-n.ensures in
+    let ns = c.args.numbers.now in
+    let n : c.made-n.result ≡ made_records ns = c.made-n.ensures in
     let over = c.loop-i-test.false in
-    let i : start.loop-i.i ≡ made_records ns = omega (arith, start.loop-i.invariant.0) in
-    (start.loop-i.invariant.1, ap (λ (k : ℕ). take k start.loop-i.tasks) (sym i) ∙ start.loop-i.invariant.2 ∙ ap (λ (k : ℕ). take k (records_of ns)) i)
+    let i : c.loop-i.i ≡ made_records ns = omega (arith, c.loop-i.invariant.0) in
+    (c.loop-i.invariant.1, ap (λ (k : ℕ). take k c.loop-i.tasks) (sym i) ∙ c.loop-i.invariant.2 ∙ ap (λ (k : ℕ). take k (records_of ns)) i)

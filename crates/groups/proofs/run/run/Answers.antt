@@ -8,6 +8,5 @@ run_of-requires c = lent_within _ _ c.count.ensures
 
 pub returns : goal.returns
 returns c =
-    let ran = c in
-    let lent = lent_alike _ _ _ ran.gathered.ensures ran.count.ensures in
-    record { answer = ran.run_of.ensures.answer ∙ alike_run _ _ lent _ _ _ _ _; buffer = ran.run_of.ensures.buffer ∙ alike_out _ _ lent _ _ _ _ _ }
+    let lent = lent_alike _ _ _ c.gathered.ensures c.count.ensures in
+    record { answer = c.run_of.ensures.answer ∙ alike_run _ _ lent _ _ _ _ _; buffer = c.run_of.ensures.buffer ∙ alike_out _ _ lent _ _ _ _ _ }

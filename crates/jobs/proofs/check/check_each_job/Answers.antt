@@ -2,7 +2,6 @@ use mathlib.Core.Bool.{true}
 use mathlib.Core.Path.{◌≡◌, sym, ap, ◌∙◌}
 use Prim.Native.Nat.{ℕ}
 use native.Mathlib.Omega.{arith}
-use borrow.Author.Tests.{not-true, not-false}
 use Rattle.scope.specs.Jobs.{Job, job, jobs_of}
 use Rattle.scope.specs.Tasks.{Task, tasks_of, task_at}
 use Rattle.theory.specs.Jobs.{JobRule, job_rule}
@@ -25,15 +24,14 @@ job_legal-requires c = (c.requires.0.few, c.loop-j.invariant.1)
 
 pub returns-then-not-job_legal : goal.returns-then-not-job_legal
 returns-then-not-job_legal c =
-    let a = c in
     let l = c.loop-j in
-    let e = sym c.job_legal.ensures ∙ not-true _ c.if-not-job_legal.true-raw in
-    job_bad _ _ _ l.j (omega (arith, pieces_length _ 3 job a.args.jobs.now)) l.invariant.2 e
+    let e = sym c.job_legal.ensures ∙ c.if-not-job_legal.true in
+    job_bad _ _ _ l.j (omega (arith, pieces_length _ 3 job c.args.jobs.now)) l.invariant.2 e
 
 -- the test says that job j keeps its rule
 good : (c : Else1) → let a = c.args in
     kept a.tasks.now a.n a.jobs.now c.loop-j.j ≡ true
-good c = sym c.job_legal.ensures ∙ not-false _ c.if-not-job_legal.false-raw
+good c = sym c.job_legal.ensures ∙ c.if-not-job_legal.false
 
 rule : (c : Else1) → let a = c.args in
     JobRule (tasks_of a.tasks.now) a.n (jobs_of a.jobs.now) c.loop-j.j
@@ -41,12 +39,11 @@ rule c = job_rule _ _ _ _ (good c)
 
 pub overflow_add-free : goal.overflow_add-free
 overflow_add-free c =
-    let a = c in
     let g = rule c.before.before.before.before.before.before in
-    let x = a.requires.0.rules _ g.known in
+    let x = c.requires.0.rules _ g.known in
     let j = c.job_at-job.ensures in
-    let e = ap (λ (y : ℕ). (task_at (tasks_of a.args.tasks.now) y).T) (ap (λ (y : Job). y.task) j) in
-    omega (arith, g.inside, a.requires.2, x.period_most, ap (λ (y : Job). y.release) j, ap (λ (y : Task). y.T) c.task_at.ensures, e)
+    let e = ap (λ (y : ℕ). (task_at (tasks_of c.args.tasks.now) y).T) (ap (λ (y : Job). y.task) j) in
+    omega (arith, g.inside, c.requires.2, x.period_most, ap (λ (y : Job). y.release) j, ap (λ (y : Task). y.T) c.task_at.ensures, e)
 
 pub bounds-free-i : goal.bounds-free-i
 bounds-free-i c =
@@ -62,17 +59,14 @@ loop-j-smaller c = omega (arith, pieces_length _ 3 job c.args.jobs.now)
 
 pub loop-j-preserved : goal.loop-j-preserved
 loop-j-preserved c =
-    let a = c in
     let l = c.loop-j in
-    let g = c in
     let j = c.job_at-job.ensures in (
-      omega (arith, pieces_length _ 3 job a.args.jobs.now),
-      free_next _ _ _ _ (rule c.before.before.before.before.before.before) _ l.invariant.1 a.requires.0.few _ _ _ (ap (λ (y : Job). y.task) j) (ap (λ (y : Job). y.release) j)
+      omega (arith, pieces_length _ 3 job c.args.jobs.now),
+      free_next _ _ _ _ (rule c.before.before.before.before.before.before) _ l.invariant.1 c.requires.0.few _ _ _ (ap (λ (y : Job). y.task) j) (ap (λ (y : Job). y.release) j)
           (ap (λ (y : Task). y.T) c.task_at.ensures),
       λ k h. below_suc (λ k. kept _ _ _ k ≡ true) l.j l.invariant.2 (good c.before.before.before.before.before.before) k (omega arith),
     )
 
 pub returns : goal.returns
 returns c =
-    let a = c in
-    jobs_fine _ _ _ (λ k h. c.loop-j.invariant.2 k (omega (arith, pieces_length _ 3 job a.args.jobs.now)))
+    jobs_fine _ _ _ (λ k h. c.loop-j.invariant.2 k (omega (arith, pieces_length _ 3 job c.args.jobs.now)))

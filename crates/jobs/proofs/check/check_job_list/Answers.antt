@@ -11,13 +11,11 @@ returns-then-bad_count c = bad_list _ _ (sym c.bad_count.ensures ∙ c.if-bad_co
 pub returns-in-Is : goal.returns-in-Is
 unfolding run_ticks_answer
 returns-in-Is c =
-    let x = c in
-    none_of _ _ _ (sym (ap told_run c.in-Is.is) ∙ x.new.ensures)
-    ∙ good_list _ _ (sym x.bad_count.ensures ∙ x.if-bad_count.false)
+    none_of _ _ _ (sym (ap told_run c.in-Is.is) ∙ c.new.ensures)
+    ∙ good_list _ _ (sym c.bad_count.ensures ∙ c.if-bad_count.false)
 
 pub returns-in-Refused : goal.returns-in-Refused
 unfolding run_ticks_answer
 returns-in-Refused c =
-    let x = c in
-    fault_of_lem _ _ (sym (ap told_run c.in-Refused.is) ∙ x.new.ensures)
-    ∙ good_list _ _ (sym x.bad_count.ensures ∙ x.if-bad_count.false)
+    fault_of_lem _ _ (sym (ap told_run c.in-Refused.is) ∙ c.new.ensures)
+    ∙ good_list _ _ (sym c.bad_count.ensures ∙ c.if-bad_count.false)

@@ -7,20 +7,17 @@ returns-then-j-eq0 c = order_first (jobs_of c.args.jobs.now) _ c.if-j-eq0.true
 
 pub returns-then-previous-job : goal.returns-then-previous-job
 returns-then-previous-job c =
-    let x = c in
-    order_later (jobs_of x.args.jobs.now) _
-    x.if-j-eq0.false _ _ x.job_at-previous.ensures c.job_at-job.ensures
+    order_later (jobs_of c.args.jobs.now) _
+    c.if-j-eq0.false _ _ c.job_at-previous.ensures c.job_at-job.ensures
     c.if-previous-job.true
 
 pub returns-then-previous-job-2 : goal.returns-then-previous-job-2
 returns-then-previous-job-2 c =
-    let x = c in
-    order_back (jobs_of x.args.jobs.now) _ x.if-j-eq0.false _ _ x.job_at-previous.ensures
+    order_back (jobs_of c.args.jobs.now) _ c.if-j-eq0.false _ _ c.job_at-previous.ensures
     c.job_at-job.ensures c.if-previous-job.false c.if-previous-job-2.true
 
 pub returns : goal.returns
 returns c =
-    let x = c in
-    order_task (jobs_of x.args.jobs.now) _ x.if-j-eq0.false _ _ x.job_at-previous.ensures
+    order_task (jobs_of c.args.jobs.now) _ c.if-j-eq0.false _ _ c.job_at-previous.ensures
     c.job_at-job.ensures
     c.if-previous-job.false c.if-previous-job-2.false

@@ -3,7 +3,6 @@ use mathlib.Core.Path.{◌≡◌, sym, ap, ◌∙◌}
 use Prim.Native.Nat.{◌≤◌, ◌<◌}
 use native.Mathlib.Omega.{arith}
 use lib.ListN.{length}
-use borrow.Author.Tests.{not-true, not-false}
 use Rattle.scope.specs.Jobs.{jobs_of, in_order}
 use Rattle.scope.specs.Limits.{most_tasks}
 use Rattle.scope.specs.Tasks.{Task, task, tasks_of, task_at}
@@ -25,14 +24,14 @@ Else4 = lts.Else4 tie.the-claims reads.Pre reads.Post
 
 -- what the code has tested so far, place by place
 ordered : (c : Else1) → let a = c.args in true ≡ in_order (jobs_of a.jobs.now) a.j
-ordered c = sym (not-false _ c.if-not-in_order.false-raw) ∙ c.in_order.ensures
+ordered c = sym (c.if-not-in_order.false) ∙ c.in_order.ensures
 
 known : (c : Else2) →
     c.job_at-job.result.task < length (tasks_of c.args.tasks.now)
 known c = omega (arith, pieces_length _ 3 task c.args.tasks.now, c.if-tasks-i.false)
 
-most : (c : Else4) → let x = c in
-    x.job_at-job.result.work ≤ (task_at (tasks_of x.args.tasks.now) x.job_at-job.result.task).C
+most : (c : Else4) →
+    c.job_at-job.result.work ≤ (task_at (tasks_of c.args.tasks.now) c.job_at-job.result.task).C
 most c = omega (arith, ap (λ (y : Task). y.C) c.task_at.ensures, c.if-task_at-job.false)
 
 low : (c : Else4) → c.job_at-job.result.task < most_tasks
@@ -43,7 +42,7 @@ low c = omega (
 )
 
 pub returns-then-not-in_order : goal.returns-then-not-in_order
-returns-then-not-in_order c = bad_order _ _ _ _ (sym (not-true _ c.if-not-in_order.true-raw) ∙ c.in_order.ensures)
+returns-then-not-in_order c = bad_order _ _ _ _ (sym (c.if-not-in_order.true) ∙ c.in_order.ensures)
 
 pub returns-then-tasks-i : goal.returns-then-tasks-i
 returns-then-tasks-i c =
@@ -56,23 +55,20 @@ returns-then-job-eq0 c = bad_none _ _ _ _ _ c.job_at-job.ensures
 
 pub returns-then-task_at-job : goal.returns-then-task_at-job
 returns-then-task_at-job c =
-    let x = c in
-    bad_most _ _ _ _ _ x.job_at-job.ensures
-    (ordered c.before.before.before.before.before.before.before.before.before) (known c.before.before.before.before.before.before.before) x.if-job-eq0.false
+    bad_most _ _ _ _ _ c.job_at-job.ensures
+    (ordered c.before.before.before.before.before.before.before.before.before) (known c.before.before.before.before.before.before.before) c.if-job-eq0.false
     (omega (arith, ap (λ (y : Task). y.C) c.task_at.ensures, c.if-task_at-job.true))
 
 pub returns-then-n-job : goal.returns-then-n-job
 returns-then-n-job c =
-    let x = c in
-    bad_late _ _ _ _ _ x.job_at-job.ensures
-    (ordered c.before.before.before.before.before.before.before.before.before.before.before) (known c.before.before.before.before.before.before.before.before.before) x.if-job-eq0.false (most c.before.before.before) c.if-n-job.true
+    bad_late _ _ _ _ _ c.job_at-job.ensures
+    (ordered c.before.before.before.before.before.before.before.before.before.before.before) (known c.before.before.before.before.before.before.before.before.before) c.if-job-eq0.false (most c.before.before.before) c.if-n-job.true
 
 pub bounds-free-i : goal.bounds-free-i
 bounds-free-i c = low c.before.before.before
 
 pub returns : goal.returns
 returns c =
-    let x = c in
-    by_free _ _ _ _ _ x.job_at-job.ensures
-    (ordered c.before.before.before.before.before.before.before.before.before.before.before.before) (known c.before.before.before.before.before.before.before.before.before.before) x.if-job-eq0.false (most c.before.before.before.before) c.if-n-job.false _
-    (x.requires.1.is _ (low c.before.before.before.before))
+    by_free _ _ _ _ _ c.job_at-job.ensures
+    (ordered c.before.before.before.before.before.before.before.before.before.before.before.before) (known c.before.before.before.before.before.before.before.before.before.before) c.if-job-eq0.false (most c.before.before.before.before) c.if-n-job.false _
+    (c.requires.1.is _ (low c.before.before.before.before))

@@ -20,8 +20,7 @@ Past-After-enum_told = lts.Past-After-enum_told tie.the-claims reads.Pre reads.P
 checked : (c : After-check_run) → let a = c.args in
     run_fault (framed a.frame) a.windows.now a.tasks.now a.n a.jobs.now (length a.counts.now) ≡ fault_of c.check_run.result
 checked c =
-    let s = c in
-    after_table _ _ _ _ (framed s.args.frame) _ s.requires _ c.check_run.ensures
+    after_table _ _ _ _ (framed c.args.frame) _ c.requires _ c.check_run.ensures
 
 -- all of them have passed
 run_fine : (c : Past-After-enum_told) → let a = c.args in

@@ -22,12 +22,11 @@ returns-then-job-t c =
 
 pub next_job-t-requires : goal.next_job-t-requires
 next_job-t-requires c =
-    let l = c.loop-t in
-    let a = c in (
+    let l = c.loop-t in (
       l.invariant.0,
-      can_arrive (tasks_of a.args.tasks.now) (jobs_of a.args.jobs.now)
-          a.requires.1 a.requires.2 _ l.t c.job_at-job.ensures
-          (omega (arith, pieces_length _ 3 job a.args.jobs.now, c.loop-t-test.true)),
+      can_arrive (tasks_of c.args.tasks.now) (jobs_of c.args.jobs.now)
+          c.requires.1 c.requires.2 _ l.t c.job_at-job.ensures
+          (omega (arith, pieces_length _ 3 job c.args.jobs.now, c.loop-t-test.true)),
     )
 
 pub loop-t-smaller : goal.loop-t-smaller

@@ -17,13 +17,11 @@ After-serve = lts.After-serve tie.the-claims reads.Pre reads.Post tie.handed_cla
 
 pub goes_to-i-requires : goal.goes_to-i-requires
 goes_to-i-requires c =
-    let r = c in
-    (still_all _ _ _ _ _ _ _ r.requires.1 _ _ r.release-fed.ensures).0
+    (still_all _ _ _ _ _ _ _ c.requires.1 _ _ c.release-fed.ensures).0
 
 pub serve-done-requires : goal.serve-done-requires
 serve-done-requires c =
-    let r = c in
-    (still_all _ _ _ _ _ _ _ r.requires.1 _ _ r.release-fed.ensures).0
+    (still_all _ _ _ _ _ _ _ c.requires.1 _ _ c.release-fed.ensures).0
 
 -- what is known once the tick is given out
 abbrev given_out : (c : After-serve) →
@@ -31,14 +29,8 @@ abbrev given_out : (c : After-serve) →
     GivenOut (supplied_by (framed a.frame) a.windows.now) (after (framed a.frame) a.windows.now)
     (rule (tasks_of a.tasks.now) (jobs_of a.jobs.now)) (tasks_of a.tasks.now) (jobs_of a.jobs.now) a.s a.places.now a.counts.now
 given_out c =
-    let g = c in
-    let n = g in
-    let o = n in
-    let k = o in
-    let r = k in
-    let s = r in
     record {
-      ready = s.requires.1;
+      ready = c.requires.1;
       fed = _;
       fed_places = _;
       counted = _;
@@ -47,11 +39,11 @@ given_out c =
       task = _;
       done = _;
       places = _;
-      released = r.release-fed.ensures;
-      backlog = k.counted-counted.ensures;
-      supplied = o.is_on-on.ensures ∙ on_at_lem _ _ s.requires.0.table _ _ s.requires.0.cursor;
-      moves = n.next-next.ensures;
-      goes = g.goes_to-i.ensures;
+      released = c.release-fed.ensures;
+      backlog = c.counted-counted.ensures;
+      supplied = c.is_on-on.ensures ∙ on_at_lem _ _ c.requires.0.table _ _ c.requires.0.cursor;
+      moves = c.next-next.ensures;
+      goes = c.goes_to-i.ensures;
       ended = c.serve-done.ensures.answer;
       served = c.serve-done.ensures.places;
     }

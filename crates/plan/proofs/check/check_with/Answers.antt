@@ -14,24 +14,22 @@ slice_bounds-board_of-end c = sym (length-take-le _ _ (search rules))
 
 pub slice_bounds-windows-end : goal.slice_bounds-windows-end
 slice_bounds-windows-end c =
-    let d = c in
-    let h = rw d.in-Is.is at d.read_plan.ensures.room in
+    let h = rw c.in-Is.is at c.read_plan.ensures.room in
     omega (arith, h.0)
 
 pub slice_bounds-verdict_of-end : goal.slice_bounds-verdict_of-end
-slice_bounds-verdict_of-end c = sym (length-take-le _ _ (let d = c in
-    let h = rw d.in-Is.is at d.read_plan.ensures.room in
+slice_bounds-verdict_of-end c = sym (length-take-le _ _ (
+    let h = rw c.in-Is.is at c.read_plan.ensures.room in
     omega (arith, h.0)))
 
 pub slice_bounds-tasks-end : goal.slice_bounds-tasks-end
 slice_bounds-tasks-end c =
-    let d = c in
-    let h = rw d.in-Is.is at d.read_plan.ensures.room in
+    let h = rw c.in-Is.is at c.read_plan.ensures.room in
     omega (arith, h.1)
 
 pub slice_bounds-verdict_of-end-in-Is : goal.slice_bounds-verdict_of-end-in-Is
-slice_bounds-verdict_of-end-in-Is c = sym (length-take-le _ _ (let d = c in
-    let h = rw d.in-Is.is at d.read_plan.ensures.room in
+slice_bounds-verdict_of-end-in-Is c = sym (length-take-le _ _ (
+    let h = rw c.in-Is.is at c.read_plan.ensures.room in
     omega (arith, h.1)))
 
 pub verdict_of-requires : goal.verdict_of-requires
@@ -41,21 +39,18 @@ verdict_of-requires c =
 
 pub returns-in-Refused : goal.returns-in-Refused
 returns-in-Refused c =
-    let p = c in
-    let r = p.read_plan in
-    let s = take p.args.k r.new.settings in
+    let r = c.read_plan in
+    let s = take c.args.k r.new.settings in
     let e = ap (λ z. told_plan z s r.new.windows r.new.tasks) c.in-Refused.is in
     plan_refused _ _ c.in-Refused.refusal (sym r.ensures.answer ∙ e)
 
 pub returns-in-Is : goal.returns-in-Is
 returns-in-Is c =
-    let d = c in
-    let p = d in
-    let r = p.read_plan in
-    let s = take p.args.k r.new.settings in
-    let e = ap (λ z. told_plan z s r.new.windows r.new.tasks) d.in-Is.is in
-    let windows = take d.in-Is.w r.new.windows in
-    let tasks = take d.in-Is.t r.new.tasks in
+    let r = c.read_plan in
+    let s = take c.args.k r.new.settings in
+    let e = ap (λ z. told_plan z s r.new.windows r.new.tasks) c.in-Is.is in
+    let windows = take c.in-Is.w r.new.windows in
+    let tasks = take c.in-Is.t r.new.tasks in
     c.verdict_of.ensures
     ∙ ap (λ (b : Board). verdict_for b (as_owned 0 windows) tasks) c.board_of-board.ensures
     ∙ plan_judged _ _ _ (sym r.ensures.answer ∙ e)

@@ -3,7 +3,6 @@ use mathlib.Core.Path.{◌≡◌, sym, ap, ◌∙◌}
 use Prim.Native.Nat.{◌*◌, ◌≤◌, ◌<◌}
 use native.Mathlib.Nat.{le_trans, mul-le-mul_left}
 use lib.ListN.{length}
-use borrow.Author.Tests.{ltb-false}
 use Rattle.scope.specs.Plan.{Read.read, read_number, counted_from}
 use Rattle.plan.specs.Told.{told_number}
 use Rattle.plan.proofs.ReadLaws.{bad_nine, count_refused, count_taken}
@@ -28,7 +27,7 @@ count_at c = sym c.read_number.ensures ∙ ap told_number c.in-Is.is
 
 -- the count passes, so its numbers fit the buffer
 few : (c : Else2) → c.in-Is.value ≤ c.args.most
-few c = ltb-false _ _ c.if-most-count.false-raw
+few c = c.if-most-count.false
 
 fits : (c : Else2) →
     let a = c.args in
@@ -37,9 +36,8 @@ fits c = le_trans (mul-le-mul_left _ (few c)) c.requires.1
 
 pub returns-then-count-least : goal.returns-then-count-least
 returns-then-count-least c =
-    let d = c in
     let n = c.in-Is.value in record {
-      answer = count_refused _ _ _ _ _ d.args.refusal _ _ (count_at c.before.before) d.requires.0
+      answer = count_refused _ _ _ _ _ c.args.refusal _ _ (count_at c.before.before) c.requires.0
           (λ h. ⊎_elim (λ w. omega (arith, w, h.0)) (λ w. omega (arith, w.1, h.1)) c.then-count-least.either);
       room = search rules;
     }
@@ -60,8 +58,7 @@ returns-in-Bad c =
 
 pub returns-else-most-count : goal.returns-else-most-count
 returns-else-most-count c =
-    let d = c in
-    let a = d.args in
+    let a = c.args in
     let r = c.read_numbers.ensures in
     let e = count_at c.before.before.before.before.before.before.before in
     record { answer = r.answer ∙ count_taken _ _ _ _ _ a.refusal _ _ e c.if-count-least.false (few c.before.before.before.before.before); room = r.room }

@@ -11,7 +11,6 @@ returns-in-Bad c =
 
 pub returns-in-Is : goal.returns-in-Is
 returns-in-Is c =
-    let d = c in
-    let e = sym d.read_number.ensures ∙ ap told_number d.in-Is.is in
+    let e = sym c.read_number.ensures ∙ ap told_number c.in-Is.is in
     let r = c.read_lists.ensures in
     record { answer = λ s. r.answer s ∙ frame_read _ s _ _ _ e; room = r.room }

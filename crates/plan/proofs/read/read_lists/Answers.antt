@@ -7,10 +7,8 @@ use Rattle.plan.proofs.read.read_lists.Goals as goal
 
 pub returns-then-end-bytes : goal.returns-then-end-bytes
 returns-then-end-bytes c =
-    let d = c in
-    let e = d in
-    let w = told_at told_listed _ e.read_counted.ensures.answer e.in-Is.is in
-    let t = told_at told_listed _ d.read_counted-in-Is.ensures.answer c.in-Is-read_counted.is in
+    let w = told_at told_listed _ c.read_counted.ensures.answer c.in-Is.is in
+    let t = told_at told_listed _ c.read_counted-in-Is.ensures.answer c.in-Is-read_counted.is in
     record { answer = λ s. ap no c.nine.ensures ∙ bytes_left _ s _ _ _ _ w _ _ t c.if-end-bytes.true; room = (search rules, search rules) }
 
 pub returns-in-Refused : goal.returns-in-Refused
@@ -20,16 +18,11 @@ returns-in-Refused c =
 
 pub returns-in-Refused-read_counted : goal.returns-in-Refused-read_counted
 returns-in-Refused-read_counted c =
-    let d = c in
-    let e = d in
-    let w = told_at told_listed _ e.read_counted.ensures.answer e.in-Is.is in
-    let t = told_at told_listed _ d.read_counted-in-Is.ensures.answer c.in-Refused-read_counted.is in
+    let w = told_at told_listed _ c.read_counted.ensures.answer c.in-Is.is in
+    let t = told_at told_listed _ c.read_counted-in-Is.ensures.answer c.in-Refused-read_counted.is in
     record { answer = λ s. tasks_refused _ s _ _ _ _ w c.in-Refused-read_counted.refusal t; room = (search rules, search rules) }
 
 pub returns-else-end-bytes : goal.returns-else-end-bytes
 returns-else-end-bytes c =
-    let d = c in
-    let e = d in
-    let f = e in
-    let w = told_at told_listed _ f.read_counted.ensures.answer e.in-Is.is in
-    let t = told_at told_listed _ d.read_counted-in-Is.ensures.answer c.in-Is-read_counted.is in record { answer = λ s. all_read _ s _ _ _ _ w _ _ t c.if-end-bytes.false; room = (rw e.in-Is.is at f.read_counted.ensures.room, rw c.in-Is-read_counted.is at d.read_counted-in-Is.ensures.room) }
+    let w = told_at told_listed _ c.read_counted.ensures.answer c.in-Is.is in
+    let t = told_at told_listed _ c.read_counted-in-Is.ensures.answer c.in-Is-read_counted.is in record { answer = λ s. all_read _ s _ _ _ _ w _ _ t c.if-end-bytes.false; room = (rw c.in-Is.is at c.read_counted.ensures.room, rw c.in-Is-read_counted.is at c.read_counted-in-Is.ensures.room) }

@@ -11,10 +11,9 @@ returns-in-Refused c =
 
 pub returns-in-Is : goal.returns-in-Is
 returns-in-Is c =
-    let d = c in
-    let n = d.read_numbers in
+    let n = c.read_numbers in
     let r = c.read_from.ensures in
-    let e = told_at told_listed _ n.ensures.answer d.in-Is.is in
-    let room = rw d.in-Is.is at n.ensures.room in
+    let e = told_at told_listed _ n.ensures.answer c.in-Is.is in
+    let room = rw c.in-Is.is at n.ensures.room in
     let fits = rw (sym n.auto.out) at room in
     record { answer = r.answer _ ∙ settings_read _ _ _ _ _ fits e; room = r.room }

@@ -39,15 +39,13 @@ slice_bounds-deliver-end c = let p = c.put_plan-end.ensures in sym (length-take-
 pub returns-in-Bad : goal.returns-in-Bad
 unfolding write_answer write_out
 returns-in-Bad c =
-    let d = c in
-    let room = length d.args.out.now in
+    let room = length c.args.out.now in
     let e = lists_bad (plan_at c.before.before) room (sym (checked c.before.before) ∙ ap fault_of c.in-Bad.is) in
     record { answer = refused_by _ _ e; buffer = kept_by _ _ _ e }
 
 pub returns-in-Fine : goal.returns-in-Fine
 unfolding write_answer write_out
 returns-in-Fine c =
-    let d = c in
     let p = c.put_plan-end.ensures in
-    let room = length d.args.out.now in
+    let room = length c.args.out.now in
     rw (lists_fine (plan_at c.before.before.before.before.before.before.before.before.before.before) room (fine_at c.before.before.before.before.before.before.before.before.before), sym (front (omega (arith, p.most)) p.text)) c.deliver.ensures

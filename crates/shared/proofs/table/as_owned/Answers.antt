@@ -21,17 +21,15 @@ write_owned-requires c =
 pub returns-then-out-numbers : goal.returns-then-out-numbers
 unfolding as_owned_answer as_owned_out
 returns-then-out-numbers c =
-    let x = c in
-    let a = x.args in
+    let a = c.args in
     let n = counted a.owner a.windows.now in
-    let f = then_short fine (length (as_owned a.owner a.windows.now)) (length a.out.now) refl (omega (arith, n, x.if-out-numbers.true)) in
-    record { answer = x.refuse.ensures.answer ∙ ap (refused 8) n ∙ refused_by _ _ f; buffer = x.refuse.ensures.buffer ∙ kept_by _ _ _ f }
+    let f = then_short fine (length (as_owned a.owner a.windows.now)) (length a.out.now) refl (omega (arith, n, c.if-out-numbers.true)) in
+    record { answer = c.refuse.ensures.answer ∙ ap (refused 8) n ∙ refused_by _ _ f; buffer = c.refuse.ensures.buffer ∙ kept_by _ _ _ f }
 
 pub returns-else-out-numbers : goal.returns-else-out-numbers
 unfolding as_owned_answer as_owned_out
 returns-else-out-numbers c =
-    let x = c in
-    let a = x.args in
+    let a = c.args in
     let n = counted a.owner a.windows.now in
-    let f = then_roomy fine (length (as_owned a.owner a.windows.now)) (length a.out.now) refl (omega (arith, n, x.if-out-numbers.false)) in
-    record { answer = ap given n ∙ given_by _ _ f; buffer = x.write_owned.ensures ∙ written_by _ _ _ f }
+    let f = then_roomy fine (length (as_owned a.owner a.windows.now)) (length a.out.now) refl (omega (arith, n, c.if-out-numbers.false)) in
+    record { answer = ap given n ∙ given_by _ _ f; buffer = c.write_owned.ensures ∙ written_by _ _ _ f }

@@ -46,8 +46,7 @@ returns-in-Bad c =
 pub returns-in-Fine : goal.returns-in-Fine
 unfolding shared_fault
 returns-in-Fine c =
-    let x = c in
-    let a = x.args in
+    let a = c.args in
     let ws = a.windows.now in
     let board = board_of a.board in
     let last = sliver_fault board ws or_else lost_fault board (own board ws) in

@@ -1,6 +1,5 @@
 use mathlib.Core.Path.{refl, sym, ◌∙◌}
 use borrow.Author.Count.{below_none, below_more}
-use borrow.Author.Tests.{not-true, not-false}
 use Rattle.scope.specs.Shared.{owned, owned_of, owned_legal, bad_owned, owned_fault}
 use Rattle.theory.specs.Lists.{pieces_length}
 use Rattle.tables.specs.Told.{board_of}
@@ -21,11 +20,11 @@ returns-then-not-owned_legal c =
     let l = c.loop-i in
     breaks_at_lem 3 (owned_legal a.owners (board_of a.board) (owned_of a.windows.now)) _ l.i
     (omega (arith, pieces_length _ 3 owned a.windows.now)) l.invariant.2
-    (sym c.owned_legal.ensures ∙ not-true _ c.if-not-owned_legal.true-raw)
+    (sym c.owned_legal.ensures ∙ c.if-not-owned_legal.true)
 
 pub loop-i-preserved : goal.loop-i-preserved
 loop-i-preserved c =
-    (omega arith, omega arith, below_more _ _ c.loop-i.invariant.2 (sym c.owned_legal.ensures ∙ not-false _ c.if-not-owned_legal.false-raw))
+    (omega arith, omega arith, below_more _ _ c.loop-i.invariant.2 (sym c.owned_legal.ensures ∙ c.if-not-owned_legal.false))
 
 pub returns : goal.returns
 unfolding owned_fault bad_owned

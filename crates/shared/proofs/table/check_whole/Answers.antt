@@ -6,7 +6,6 @@ use Rattle.shared.proofs.table.check_whole.Goals as goal
 pub returns : goal.returns
 unfolding whole_fault owned_list_fault frame_fault
 returns c =
-    let d = c in
     c.or_else-2.ensures
-    ∙ ap₂ ◌or_else◌ d.check_list-list.ensures
-    (c.or_else.ensures ∙ ap₂ ◌or_else◌ d.check_frame-framed.ensures d.check_owned-each.ensures)
+    ∙ ap₂ ◌or_else◌ c.check_list-list.ensures
+    (c.or_else.ensures ∙ ap₂ ◌or_else◌ c.check_frame-framed.ensures c.check_owned-each.ensures)

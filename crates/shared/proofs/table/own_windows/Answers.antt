@@ -42,25 +42,21 @@ gather-left-requires c = roomy c.before.before
 pub returns-in-Bad : goal.returns-in-Bad
 unfolding own_answer own_out own_fault
 returns-in-Bad c =
-    let x = c in
     let f = or_fault (shared_fault _ _ _) _ (sym c.check_counted.ensures ∙ ap fault_of c.in-Bad.is) in
-    record { answer = x.refuse.ensures.answer ∙ refused_by _ _ f; buffer = x.refuse.ensures.buffer ∙ kept_by _ _ _ f }
+    record { answer = c.refuse.ensures.answer ∙ refused_by _ _ f; buffer = c.refuse.ensures.buffer ∙ kept_by _ _ _ f }
 
 pub returns-then-out-needed : goal.returns-then-out-needed
 unfolding own_answer own_out own_fault
 returns-then-out-needed c =
-    let x = c in
-    let y = c in
-    let a = y.args in
+    let a = c.args in
     let left : ℕ = length (own_left (board_of a.board) a.windows.now) in
-    let n : y.if-numbers-out.needed ≡ left = elim (y.if-numbers-out.branch) [ then-numbers-out t ↦ absurd (omega (arith, t.needed-is, y.if-out-needed.true)) | else-numbers-out f ↦ f.needed-is ∙ f.count_left-needed.ensures ] in
-    let f = then_short _ left (length a.out.now) (fine_at c.before.before.before.before.before.before.before) (omega (arith, n, y.if-out-needed.true)) in
-    record { answer = x.refuse-then-out-needed.ensures.answer ∙ ap (refused 8) n ∙ refused_by _ _ f; buffer = x.refuse-then-out-needed.ensures.buffer ∙ kept_by _ _ _ f }
+    let n : c.if-numbers-out.needed ≡ left = elim (c.if-numbers-out.branch) [ then-numbers-out t ↦ absurd (omega (arith, t.needed-is, c.if-out-needed.true)) | else-numbers-out f ↦ f.needed-is ∙ f.count_left-needed.ensures ] in
+    let f = then_short _ left (length a.out.now) (fine_at c.before.before.before.before.before.before.before) (omega (arith, n, c.if-out-needed.true)) in
+    record { answer = c.refuse-then-out-needed.ensures.answer ∙ ap (refused 8) n ∙ refused_by _ _ f; buffer = c.refuse-then-out-needed.ensures.buffer ∙ kept_by _ _ _ f }
 
 pub returns-else-out-needed : goal.returns-else-out-needed
 unfolding own_answer own_out own_fault
 returns-else-out-needed c =
-    let y = c in
-    let a = y.args in
+    let a = c.args in
     let f = then_roomy _ (length (own_left (board_of a.board) a.windows.now)) (length a.out.now) (fine_at c.before.before.before.before.before.before.before) (roomy c.before.before.before.before.before) in
     record { answer = ap given c.gather-left.ensures.answer ∙ given_by _ _ f; buffer = c.gather-left.ensures.buffer ∙ written_by _ _ _ f }

@@ -24,20 +24,17 @@ fits c v e =
 
 pub returns-then-i-eq0 : goal.returns-then-i-eq0
 returns-then-i-eq0 c =
-    let x = c in
-    first_owned _ _ _ _ (fits c.before.before.before _ (sym (ap told_owned c.in-Is.is) ∙ x.new.ensures)) c.if-i-eq0.true
+    first_owned _ _ _ _ (fits c.before.before.before _ (sym (ap told_owned c.in-Is.is) ∙ c.new.ensures)) c.if-i-eq0.true
 
 pub returns-in-Refused : goal.returns-in-Refused
 returns-in-Refused c =
-    let x = c in
-    let a = x.args in
-    broken a.owners (board_of a.board) _ _ (sym (ap (alone a.owners (board_of a.board)) x.owned_at-here.ensures)
-    ∙ broken_alone a.owners (board_of a.board) _ _ _ (sym (ap told_owned c.in-Refused.is) ∙ x.new.ensures))
+    let a = c.args in
+    broken a.owners (board_of a.board) _ _ (sym (ap (alone a.owners (board_of a.board)) c.owned_at-here.ensures)
+    ∙ broken_alone a.owners (board_of a.board) _ _ _ (sym (ap told_owned c.in-Refused.is) ∙ c.new.ensures))
 
 pub returns-else-i-eq0 : goal.returns-else-i-eq0
 returns-else-i-eq0 c =
-    let x = c in
-    let a = x.args in
-    let f = fits c.before.before.before.before.before _ (sym (ap told_owned c.in-Is.is) ∙ x.new.ensures) in
-    c.follows.ensures ∙ ap₂ follows c.owned_at.ensures x.owned_at-here.ensures
+    let a = c.args in
+    let f = fits c.before.before.before.before.before _ (sym (ap told_owned c.in-Is.is) ∙ c.new.ensures) in
+    c.follows.ensures ∙ ap₂ follows c.owned_at.ensures c.owned_at-here.ensures
     ∙ next_owned a.owners (board_of a.board) _ _ f c.if-i-eq0.false

@@ -32,14 +32,12 @@ slice_bounds-make_in-end c = sym (length-take-le _ _ (let t = own_at c.before.be
 pub returns-in-Refused : goal.returns-in-Refused
 unfolding make_for make_out_for
 returns-in-Refused c =
-    let x = c in
-    let r = x.own_windows in
-    let e = sym r.ensures.answer ∙ ap told_amount x.in-Refused.is in
-    let a = x.args in record { answer = x.refuse.ensures.answer ∙ asked_not _ _ _ (make_entry _) _ _ _ (omega arith) e; buffer = x.refuse.ensures.buffer ∙ asked_not _ _ _ (make_out_entry _) _ _ _ (omega arith) e }
+    let r = c.own_windows in
+    let e = sym r.ensures.answer ∙ ap told_amount c.in-Refused.is in
+    let a = c.args in record { answer = c.refuse.ensures.answer ∙ asked_not _ _ _ (make_entry _) _ _ _ (omega arith) e; buffer = c.refuse.ensures.buffer ∙ asked_not _ _ _ (make_out_entry _) _ _ _ (omega arith) e }
 
 pub returns-in-Of : goal.returns-in-Of
 unfolding make_for make_out_for
 returns-in-Of c =
-    let x = c in
     let t = own_at c.before.before.before.before.before.before in
-    let a = x.args in record { answer = x.make_in.ensures.answer ∙ asked_taken _ _ _ (make_entry _) t; buffer = x.make_in.ensures.buffer ∙ asked_taken _ _ _ (make_out_entry _) t }
+    let a = c.args in record { answer = c.make_in.ensures.answer ∙ asked_taken _ _ _ (make_entry _) t; buffer = c.make_in.ensures.buffer ∙ asked_taken _ _ _ (make_out_entry _) t }

@@ -35,14 +35,12 @@ critical_on-requires c = (own_at c.before.before.before).fine_front
 pub returns-in-Refused : goal.returns-in-Refused
 unfolding critical_for critical_out_for
 returns-in-Refused c =
-    let x = c in
-    let r = x.own_windows in
-    let e = sym r.ensures.answer ∙ ap told_amount x.in-Refused.is in
-    let a = x.args in record { answer = x.refuse.ensures.answer ∙ asked_not _ _ _ (critical_entry _) _ _ _ (omega arith) e; buffer = x.refuse.ensures.buffer ∙ asked_not _ _ _ (critical_out_entry _) _ _ _ (omega arith) e }
+    let r = c.own_windows in
+    let e = sym r.ensures.answer ∙ ap told_amount c.in-Refused.is in
+    let a = c.args in record { answer = c.refuse.ensures.answer ∙ asked_not _ _ _ (critical_entry _) _ _ _ (omega arith) e; buffer = c.refuse.ensures.buffer ∙ asked_not _ _ _ (critical_out_entry _) _ _ _ (omega arith) e }
 
 pub returns-in-Of : goal.returns-in-Of
 unfolding critical_for critical_out_for
 returns-in-Of c =
-    let x = c in
     let t = own_at c.before.before.before.before.before.before in
-    let a = x.args in record { answer = x.critical_on.ensures.answer ∙ asked_taken _ _ _ (critical_entry _) t; buffer = x.critical_on.ensures.buffer ∙ asked_taken _ _ _ (critical_out_entry _) t }
+    let a = c.args in record { answer = c.critical_on.ensures.answer ∙ asked_taken _ _ _ (critical_entry _) t; buffer = c.critical_on.ensures.buffer ∙ asked_taken _ _ _ (critical_out_entry _) t }

@@ -17,26 +17,23 @@ measured-measure-requires c = (pairs_legal _ _ c.requires, omega arith, c.least_
 
 pub write_edges-requires : goal.write_edges-requires
 write_edges-requires c =
-    let e = c in
-    (pairs_legal _ _ e.requires, omega (arith, c.measured-measure.ensures.numbers, c.if-out-numbers.false))
+    (pairs_legal _ _ c.requires, omega (arith, c.measured-measure.ensures.numbers, c.if-out-numbers.false))
 
 pub returns-then-out-numbers : goal.returns-then-out-numbers
 unfolding critical_answer critical_out
 returns-then-out-numbers c =
-    let e = c in
-    let a = e.args in
+    let a = c.args in
     let m = c.measured-measure.ensures.numbers in
     let h : length a.out.now < length (critical_of (framed a.frame) a.windows.now) = omega (arith, m, c.if-out-numbers.true) in
-    let f = critical_short (framed a.frame) a.windows.now (length a.out.now) e.requires h in
+    let f = critical_short (framed a.frame) a.windows.now (length a.out.now) c.requires h in
     let x = c.refuse.ensures in
     record { answer = x.answer ∙ ap (refused 8) m ∙ refused_by _ _ f; buffer = x.buffer ∙ kept_by _ _ _ f }
 
 pub returns-else-out-numbers : goal.returns-else-out-numbers
 unfolding critical_answer critical_out
 returns-else-out-numbers c =
-    let e = c in
-    let a = e.args in
+    let a = c.args in
     let m = c.measured-measure.ensures.numbers in
     let h : length (critical_of (framed a.frame) a.windows.now) ≤ length a.out.now = omega (arith, m, c.if-out-numbers.false) in
-    let f = critical_fine (framed a.frame) a.windows.now (length a.out.now) e.requires h in
+    let f = critical_fine (framed a.frame) a.windows.now (length a.out.now) c.requires h in
     record { answer = ap (λ (n : ℕ). given (n / 2)) m ∙ given_by _ _ f; buffer = c.write_edges.ensures ∙ written_by _ _ _ f }

@@ -32,22 +32,19 @@ piece_from-piece-requires c = (c.requires.0, c.loop-t-test.true, c.loop-t.invari
 
 pub edge_met-met-requires : goal.edge_met-met-requires
 edge_met-met-requires c =
-    let e = c in
     let l = c.loop-t in
-    (e.requires.1, omega (arith, l.invariant.0, l.invariant.3.count, edges_few (framed e.args.frame) e.args.windows.now l.t, e.requires.0.frame_most))
+    (c.requires.1, omega (arith, l.invariant.0, l.invariant.3.count, edges_few (framed c.args.frame) c.args.windows.now l.t, c.requires.0.frame_most))
 
 pub lag_with-here-requires : goal.lag_with-here-requires
 lag_with-here-requires c =
-    let e = c in
-    lag_order _ _ (table_row _ _ e.requires.0).repeats _ _ _ c.piece_from-piece.ensures.piece.ends e.requires.2
+    lag_order _ _ (table_row _ _ c.requires.0).repeats _ _ _ c.piece_from-piece.ensures.piece.ends c.requires.2
 
 pub loop-t-smaller : goal.loop-t-smaller
 loop-t-smaller c = let p = c.piece_from-piece.ensures in omega (arith, p.most, p.piece.after)
 
 pub loop-t-preserved : goal.loop-t-preserved
 loop-t-preserved c =
-    let e = c in
-    let a = e.args in
+    let a = c.args in
     let l = c.loop-t in
     let r = c.piece_from-piece.result in
     let p = c.piece_from-piece.ensures in
@@ -55,7 +52,7 @@ loop-t-preserved c =
     let ws = a.windows.now in
     let σ = supplied_by b ws in
     let P = a.frame in
-    let per = (table_row b ws e.requires.0).repeats in (
+    let per = (table_row b ws c.requires.0).repeats in (
       p.most,
       next_rose b ws l.t r p l.before l.invariant.1,
       p.piece.ends,
@@ -66,7 +63,7 @@ loop-t-preserved c =
         arith,
         c.greater-delay.ensures,
         c.lag_with-here.ensures,
-        lag_is σ P per r.end r.least a.whole p.piece.ends e.requires.2,
+        lag_is σ P per r.end r.least a.whole p.piece.ends c.requires.2,
         l.invariant.4,
         piece_lag σ P per l.t r.end r.least r.rising p.piece,
       ),
@@ -80,29 +77,25 @@ ended c = omega (arith, c.loop-t.invariant.0, c.loop-t-test.false)
 delay_is : (c : After-loop) → let a = c.args in
     c.loop-t.delay ≡ delay_of (supplied_by (framed a.frame) a.windows.now) a.frame
 delay_is c =
-    let e = c in
-    let σ = supplied_by (framed e.args.frame) e.args.windows.now in
-    let P = e.args.frame in
-    c.loop-t.invariant.4 ∙ ap (λ (k : ℕ). greatest (lag σ P) (k + 1)) (ended c) ∙ lag_all σ P (table_row _ _ e.requires.0).repeats
+    let σ = supplied_by (framed c.args.frame) c.args.windows.now in
+    let P = c.args.frame in
+    c.loop-t.invariant.4 ∙ ap (λ (k : ℕ). greatest (lag σ P) (k + 1)) (ended c) ∙ lag_all σ P (table_row _ _ c.requires.0).repeats
 
 pub edge_met-all-requires : goal.edge_met-all-requires
 edge_met-all-requires c =
-    let e = c in
     let l = c.loop-t in
-    (e.requires.1, omega (arith, l.invariant.0, l.invariant.3.count, edges_few (framed e.args.frame) e.args.windows.now l.t, e.requires.0.frame_most))
+    (c.requires.1, omega (arith, l.invariant.0, l.invariant.3.count, edges_few (framed c.args.frame) c.args.windows.now l.t, c.requires.0.frame_most))
 
 pub overflow_cast-result : goal.overflow_cast-result
 overflow_cast-result c =
-    let e = c in
-    omega (arith, delay_is c.before.before, delay_fits _ _ (table_row (framed e.args.frame) e.args.windows.now e.requires.0).repeats e.requires.0.frame_most)
+    omega (arith, delay_is c.before.before, delay_fits _ _ (table_row (framed c.args.frame) c.args.windows.now c.requires.0).repeats c.requires.0.frame_most)
 
 pub returns : goal.returns
 returns c =
-    let e = c in
     let l = c.loop-t in
-    let b = framed e.args.frame in
-    let ws = e.args.windows.now in
-    let P = e.args.frame in
+    let b = framed c.args.frame in
+    let ws = c.args.windows.now in
+    let P = c.args.frame in
     let z = ended c.before.before in
     let is = l.invariant.1 ∙ ap (rose b ws) z in
     let all = counted_next _ _ (edges b ws l.t) P l.met l.invariant.3 l.before (critical_of b ws)

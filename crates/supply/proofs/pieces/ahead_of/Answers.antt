@@ -47,10 +47,9 @@ overflow_add-end c = omega (arith, c.start_after-start.ensures, known_at c.befor
 
 pub moved-position-requires : goal.moved-position-requires
 moved-position-requires c =
-    let w = c in
-    let l = w.loop-i in
+    let l = c.loop-i in
     let start = c.start_after-start.ensures in (
-      still_behind _ _ l.invariant.0 _ l.i _ _ l.invariant.1 (omega arith) _ w.window_at-window.ensures _ (omega (arith, start, known_at c.before.before.before)),
+      still_behind _ _ l.invariant.0 _ l.i _ _ l.invariant.1 (omega arith) _ c.window_at-window.ensures _ (omega (arith, start, known_at c.before.before.before)),
       omega (arith, start, known_at c.before.before.before),
     )
 
@@ -64,29 +63,25 @@ upto-requires c =
 
 -- the supply of the stretch from the end of the window on, and the ticks after it
 record Held (c : After-upto) : Type 0 where
-  pub behind : let w = c in
-      let a = w.args in
-      Behind (framed a.frame) a.windows.now c.moved-position.result (w.window_at-window.result.end + a.t)
-  pub after : let w = c in
-      let a = w.args in
-      After (framed a.frame) a.windows.now (end_of a.windows.now w.loop-i.i + a.t) c.ticks_after-ticks.result
+  pub behind : let a = c.args in
+      Behind (framed a.frame) a.windows.now c.moved-position.result (c.window_at-window.result.end + a.t)
+  pub after : let a = c.args in
+      After (framed a.frame) a.windows.now (end_of a.windows.now c.loop-i.i + a.t) c.ticks_after-ticks.result
   pub fits : c.start_after-start.result.before ≤ c.upto.result
-  pub is : let w = c in
-      let a = w.args in
-      c.upto.result - c.start_after-start.result.before ≡ supply (supplied_by (framed a.frame) a.windows.now) (end_of a.windows.now w.loop-i.i) a.t
+  pub is : let a = c.args in
+      c.upto.result - c.start_after-start.result.before ≡ supply (supplied_by (framed a.frame) a.windows.now) (end_of a.windows.now c.loop-i.i) a.t
 
 held : (c : After-upto) → Held c
 held c =
-    let w = c in
-    let l = w.loop-i in
-    let a = w.args in
+    let l = c.loop-i in
+    let a = c.args in
     let b = framed a.frame in
     let ws = a.windows.now in
     let m = c.moved-position in
     let start = c.start_after-start.ensures in
-    let read = w.window_at-window.ensures in
+    let read = c.window_at-window.ensures in
     let last = ends b ws l.invariant.0 a.t l.i l.earlier l.position l.invariant.1 (omega arith) _ read in
-    let all : c.upto.result ≡ supply (supplied_by b ws) 0 (w.window_at-window.result.end + a.t) =
+    let all : c.upto.result ≡ supply (supplied_by b ws) 0 (c.window_at-window.result.end + a.t) =
     c.upto.ensures ∙ upto_is _ _ m.result _ m.ensures.0 m.ensures.1 ∙ ap (λ (k : ℕ). supply (supplied_by b ws) 0 (k + a.t)) start.0 in
     let now = here b ws l.invariant.0 a.t l.i l.earlier l.position l.invariant.1 (omega arith) _ read _ all in
     record {
@@ -101,40 +96,33 @@ overflow_sub-supply c = (held c.before.before).fits
 
 pub overflow_sub-supply-in-loop-i : goal.overflow_sub-supply-in-loop-i
 overflow_sub-supply-in-loop-i c =
-    let w = c in
-    let l = w.loop-i in
-    let e = w in
-    (within_length (framed e.args.frame) e.args.windows.now l.invariant.0 e.args.t l.i _ e.args.least e.requires.2 (held c.before.before).is).0
+    let l = c.loop-i in
+    (within_length (framed c.args.frame) c.args.windows.now l.invariant.0 c.args.t l.i _ c.args.least c.requires.2 (held c.before.before).is).0
 
 pub joined-ahead-requires : goal.joined-ahead-requires
 joined-ahead-requires c =
     let m = c.moved-position in
-    let w = c in
-    let l = w.loop-i in
-    let e = w in
-    let ws = e.args.windows.now in
+    let l = c.loop-i in
+    let ws = c.args.windows.now in
     let k = c.ticks_after-ticks in
-    let near : k.result.far ≤ opens ws m.result + closes ws m.result = rw k.ensures (ticks_near (framed e.args.frame) ws m.result _) in
+    let near : k.result.far ≤ opens ws m.result + closes ws m.result = rw k.ensures (ticks_near (framed c.args.frame) ws m.result _) in
     let far : k.result.far ≤ 8 * most_frame = omega (arith, near, small _ _ m.result m.ensures.0.stands) in
-    let f = within_length (framed e.args.frame) ws l.invariant.0 e.args.t l.i _ e.args.least e.requires.2 (held c.before.before).is in
-    omega (arith, far, f.1, e.requires.1, l.invariant.0.frame_most)
+    let f = within_length (framed c.args.frame) ws l.invariant.0 c.args.t l.i _ c.args.least c.requires.2 (held c.before.before).is in
+    omega (arith, far, f.1, c.requires.1, l.invariant.0.frame_most)
 
 pub loop-i-preserved : goal.loop-i-preserved
 loop-i-preserved c =
-    let u = c in
-    let w = u in
-    let l = w.loop-i in
-    let e = w in
-    let a = e.args in
+    let l = c.loop-i in
+    let a = c.args in
     let b = framed a.frame in
     let ws = a.windows.now in
     let h = held c.before.before.before in
-    let k = u.ticks_after-ticks.result in
-    let f = u.upto.result - u.start_after-start.result.before in
-    let j = joins b ws l.invariant.0 a.t l.i f a.least l.ahead e.requires.2 h.is l.invariant.4 l.invariant.2 k h.after in (
+    let k = c.ticks_after-ticks.result in
+    let f = c.upto.result - c.start_after-start.result.before in
+    let j = joins b ws l.invariant.0 a.t l.i f a.least l.ahead c.requires.2 h.is l.invariant.4 l.invariant.2 k h.after in (
       l.invariant.0,
-      rw u.start_after-start.ensures.1
-          (passed_next b ws l.invariant.0 a.t l.i l.earlier l.position l.invariant.1 (omega arith) _ w.window_at-window.ensures _ h.behind),
+      rw c.start_after-start.ensures.1
+          (passed_next b ws l.invariant.0 a.t l.i l.earlier l.position l.invariant.1 (omega arith) _ c.window_at-window.ensures _ h.behind),
       rw c.joined-ahead.ensures j.rises,
       rw c.joined-ahead.ensures (omega (arith, j.most, l.invariant.3)),
       rw c.joined-ahead.ensures j.ahead,

@@ -1,7 +1,6 @@
 use mathlib.Core.Path.{sym, ap, ◌∙◌}
 use Prim.Native.Nat.{ℕ, ◌/◌}
 use native.Mathlib.Omega.{arith}
-use borrow.Author.Tests.{not-true, not-false}
 use Rattle.scope.specs.Windows.{framed}
 use Rattle.supply.proofs.SummaryLaws.{Head, not_first, not_second, not_third, all_three}
 use Rattle.supply.proofs.summary.belongs.Lts as lts
@@ -29,18 +28,17 @@ expected c = record {
 }
 
 pub returns-then-not-has_at : goal.returns-then-not-has_at
-returns-then-not-has_at c = sym (not_first (expected c.before.before.before.before) _ (sym c.has_at.ensures ∙ not-true _ c.if-not-has_at.true-raw))
+returns-then-not-has_at c = sym (not_first (expected c.before.before.before.before) _ (sym c.has_at.ensures ∙ c.if-not-has_at.true))
 
 pub returns-then-not-has_at-2 : goal.returns-then-not-has_at-2
-returns-then-not-has_at-2 c = sym (not_second (expected c.before.before.before.before.before.before) _ (sym c.has_at-2.ensures ∙ not-true _ c.if-not-has_at-2.true-raw))
+returns-then-not-has_at-2 c = sym (not_second (expected c.before.before.before.before.before.before) _ (sym c.has_at-2.ensures ∙ c.if-not-has_at-2.true))
 
 pub returns-then-not-has_at-3 : goal.returns-then-not-has_at-3
-returns-then-not-has_at-3 c = sym (not_third (expected c.before.before.before.before.before.before.before.before) _ (sym c.has_at-3.ensures ∙ not-true _ c.if-not-has_at-3.true-raw))
+returns-then-not-has_at-3 c = sym (not_third (expected c.before.before.before.before.before.before.before.before) _ (sym c.has_at-3.ensures ∙ c.if-not-has_at-3.true))
 
 pub returns : goal.returns
 returns c =
-    let m = c in
-    m.measured-measure.ensures.same
-    ∙ sym (all_three (expected c.before.before.before.before.before.before.before.before) _ (sym c.has_at.ensures ∙ not-false _ c.if-not-has_at.false-raw)
-    (sym c.has_at-2.ensures ∙ not-false _ c.if-not-has_at-2.false-raw)
-    (sym c.has_at-3.ensures ∙ not-false _ c.if-not-has_at-3.false-raw))
+    c.measured-measure.ensures.same
+    ∙ sym (all_three (expected c.before.before.before.before.before.before.before.before) _ (sym c.has_at.ensures ∙ c.if-not-has_at.false)
+    (sym c.has_at-2.ensures ∙ c.if-not-has_at-2.false)
+    (sym c.has_at-3.ensures ∙ c.if-not-has_at-3.false))

@@ -11,6 +11,5 @@ make_on-requires c = sym c.check_table.ensures ∙ ap fault_of c.in-Fine.is
 pub returns-in-Bad : goal.returns-in-Bad
 unfolding make_answer make_out make_fault
 returns-in-Bad c =
-    let x = c in
-    let e = or_fault (table_fault _ _) _ (sym x.check_table.ensures ∙ ap fault_of x.in-Bad.is) in
-    record { answer = x.refuse.ensures.answer ∙ refused_by _ _ e; buffer = x.refuse.ensures.buffer ∙ kept_by _ _ _ e }
+    let e = or_fault (table_fault _ _) _ (sym c.check_table.ensures ∙ ap fault_of c.in-Bad.is) in
+    record { answer = c.refuse.ensures.answer ∙ refused_by _ _ e; buffer = c.refuse.ensures.buffer ∙ kept_by _ _ _ e }

@@ -34,10 +34,9 @@ overflow_add-end c = omega (arith, c.start_after-start.ensures, known_at c.befor
 
 pub moved-position-requires : goal.moved-position-requires
 moved-position-requires c =
-    let w = c in
-    let l = w.loop-i in
+    let l = c.loop-i in
     let start = c.start_after-start.ensures in (
-      still_behind _ _ l.invariant.0 _ l.i _ _ l.invariant.1.passed (omega arith) _ w.window_at-window.ensures _ (omega (arith, start, known_at c.before.before.before)),
+      still_behind _ _ l.invariant.0 _ l.i _ _ l.invariant.1.passed (omega arith) _ c.window_at-window.ensures _ (omega (arith, start, known_at c.before.before.before)),
       omega (arith, start, known_at c.before.before.before),
     )
 
@@ -57,11 +56,9 @@ all_is c =
 
 pub overflow_sub-upto : goal.overflow_sub-upto
 overflow_sub-upto c =
-    let u = c in
-    let w = u in
-    let l = w.loop-i in
-    let passed = (here _ _ l.invariant.0 _ l.i _ _ l.invariant.1.passed (omega arith) _ w.window_at-window.ensures _ (all_is c.before.before)).0 in
-    omega (arith, passed, u.start_after-start.ensures.1)
+    let l = c.loop-i in
+    let passed = (here _ _ l.invariant.0 _ l.i _ _ l.invariant.1.passed (omega arith) _ c.window_at-window.ensures _ (all_is c.before.before)).0 in
+    omega (arith, passed, c.start_after-start.ensures.1)
 
 pub overflow_sub-earlier : goal.overflow_sub-earlier
 overflow_sub-earlier c = (known_at c.before.before.before.before.before.before.before.before).order
@@ -71,17 +68,14 @@ overflow_add-earlier c = omega (arith, known_at c.before.before.before.before.be
 
 pub loop-i-preserved : goal.loop-i-preserved
 loop-i-preserved c =
-    let u = c in
-    let s = u in
-    let w = s in
-    let l = w.loop-i in
-    let read = w.window_at-window.ensures in
-    let a = w.args in
-    let behind : Behind (framed a.frame) a.windows.now u.moved-position.result (w.window_at-window.result.end + a.length) =
-    rw (← s.start_after-start.ensures.0) u.moved-position.ensures.0 in
+    let l = c.loop-i in
+    let read = c.window_at-window.ensures in
+    let a = c.args in
+    let behind : Behind (framed a.frame) a.windows.now c.moved-position.result (c.window_at-window.result.end + a.length) =
+    rw (← c.start_after-start.ensures.0) c.moved-position.ensures.0 in
     let next = passed_next _ _ l.invariant.0 _ l.i _ _ l.invariant.1.passed (omega arith) _ read _ behind in (
       l.invariant.0,
-      rw (c.lesser-least.ensures, s.start_after-start.ensures.1)
+      rw (c.lesser-least.ensures, c.start_after-start.ensures.1)
           (tried_next _ _ l.invariant.0 _ l.i _ _ _ l.invariant.1 _ _ next _
           (here _ _ l.invariant.0 _ l.i _ _ l.invariant.1.passed (omega arith) _ read _ (all_is c.before.before.before.before)).1),
     )

@@ -3,7 +3,7 @@ use Rattle.theory.specs.Numbers.{below_suc}
 use Rattle.tables.proofs.TaskLaws.{kept, task_bad, tasks_fine}
 use native.Mathlib.Omega.{arith}
 use mathlib.Core.Path.{◌≡◌, refl, sym, ap, ◌∙◌}
-use mathlib.Core.Bool.{true, not, not-not}
+use mathlib.Core.Bool.{true}
 use Rattle.tables.proofs.task.check_each_task.Lts as lts
 use Rattle.tables.proofs.task.check_each_task.Tie as tie
 use Rattle.tables.proofs.task.check_each_task.Reads as reads
@@ -20,16 +20,16 @@ task_at-task-requires c = omega arith
 
 -- the code's test of task i
 tested : (c : After-is_task) →
-    kept c.args.tasks.now c.loop-i.i ≡ not (not c.is_task.result)
-tested c = ap task_legal (sym c.task_at-task.ensures) ∙ sym c.is_task.ensures ∙ sym (not-not c.is_task.result)
+    kept c.args.tasks.now c.loop-i.i ≡ c.is_task.result
+tested c = ap task_legal (sym c.task_at-task.ensures) ∙ sym c.is_task.ensures
 
 pub returns-then-not-is_task : goal.returns-then-not-is_task
 returns-then-not-is_task c = let l = c.loop-i in
-    task_bad _ l.i (omega arith) l.invariant.2 (tested c.before.before ∙ ap not c.if-not-is_task.true-raw)
+    task_bad _ l.i (omega arith) l.invariant.2 (tested c.before.before ∙ c.if-not-is_task.true)
 
 pub loop-i-preserved : goal.loop-i-preserved
 loop-i-preserved c = let l = c.loop-i in
-    (omega arith, refl, λ k h. below_suc (λ k. kept _ k ≡ true) l.i l.invariant.2 (tested c.before.before ∙ ap not c.if-not-is_task.false-raw) k (omega arith))
+    (omega arith, refl, λ k h. below_suc (λ k. kept _ k ≡ true) l.i l.invariant.2 (tested c.before.before ∙ c.if-not-is_task.false) k (omega arith))
 
 pub returns : goal.returns
 returns c = tasks_fine _ (λ k h. c.loop-i.invariant.2 k (omega arith))

@@ -5,7 +5,6 @@ use Rattle.tables.proofs.window.check_table.Goals as goal
 pub returns : goal.returns
 unfolding table_fault
 returns c =
-    let d = c in
     c.or_else-2.ensures
-    ∙ ap₂ ◌or_else◌ d.check_window_list-list.ensures
-    (c.or_else.ensures ∙ ap₂ ◌or_else◌ d.check_frame-framed.ensures d.check_windows-each.ensures)
+    ∙ ap₂ ◌or_else◌ c.check_window_list-list.ensures
+    (c.or_else.ensures ∙ ap₂ ◌or_else◌ c.check_frame-framed.ensures c.check_windows-each.ensures)

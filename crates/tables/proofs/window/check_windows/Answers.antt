@@ -3,7 +3,6 @@ use Rattle.theory.specs.Lists.{pieces_length}
 use Rattle.scope.specs.Answers.{window_fault}
 use Rattle.scope.specs.Windows.{framed, window, windows_of, window_legal, bad_window}
 use borrow.Author.Count.{below_none, below_more}
-use borrow.Author.Tests.{not-true, not-false}
 use mathlib.Core.Path.{refl, sym, ◌∙◌}
 use native.Mathlib.Omega.{arith}
 use Rattle.tables.proofs.window.check_windows.Goals as goal
@@ -21,11 +20,11 @@ returns-then-not-window_legal c =
     let l = c.loop-i in
     breaks_at_lem 3 (window_legal (framed a.frame) (windows_of a.windows.now)) _ l.i
     (omega (arith, pieces_length _ 2 window a.windows.now)) l.invariant.2
-    (sym c.window_legal.ensures ∙ not-true _ c.if-not-window_legal.true-raw)
+    (sym c.window_legal.ensures ∙ c.if-not-window_legal.true)
 
 pub loop-i-preserved : goal.loop-i-preserved
 loop-i-preserved c =
-    (omega arith, omega arith, below_more _ _ c.loop-i.invariant.2 (sym c.window_legal.ensures ∙ not-false _ c.if-not-window_legal.false-raw))
+    (omega arith, omega arith, below_more _ _ c.loop-i.invariant.2 (sym c.window_legal.ensures ∙ c.if-not-window_legal.false))
 
 pub returns : goal.returns
 unfolding window_fault bad_window

@@ -24,17 +24,14 @@ fits c v e =
 
 pub returns-then-i-eq0 : goal.returns-then-i-eq0
 returns-then-i-eq0 c =
-    let x = c in
-    first_window _ _ _ (fits c.before.before.before _ (sym (ap told_window c.in-Is.is) ∙ x.new.ensures)).0 c.if-i-eq0.true
+    first_window _ _ _ (fits c.before.before.before _ (sym (ap told_window c.in-Is.is) ∙ c.new.ensures)).0 c.if-i-eq0.true
 
 pub returns-in-Refused : goal.returns-in-Refused
 returns-in-Refused c =
-    let x = c in
-    misfit _ _ _ (sym (ap (window_fits (framed x.args.frame)) x.window_at-window.ensures) ∙ unfitting (framed x.args.frame) _ _ _ (sym (ap told_window c.in-Refused.is) ∙ x.new.ensures))
+    misfit _ _ _ (sym (ap (window_fits (framed c.args.frame)) c.window_at-window.ensures) ∙ unfitting (framed c.args.frame) _ _ _ (sym (ap told_window c.in-Refused.is) ∙ c.new.ensures))
 
 pub returns-else-i-eq0 : goal.returns-else-i-eq0
 returns-else-i-eq0 c =
-    let x = c in
-    let f = fits c.before.before.before.before.before.before _ (sym (ap told_window c.in-Is.is) ∙ x.new.ensures) in
+    let f = fits c.before.before.before.before.before.before _ (sym (ap told_window c.in-Is.is) ∙ c.new.ensures) in
     ap₂ (λ (p w : Window). ltb p.end w.start) c.window_at-previous.ensures f.1
     ∙ next_window _ _ _ f.0 c.if-i-eq0.false

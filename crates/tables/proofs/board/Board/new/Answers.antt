@@ -17,9 +17,8 @@ faulted : (c : After-or_else2) → let a = c.args in
     fault_of c.or_else-2.result ≡ (frame_fault b or_else shortest_fault b or_else rule_fault b)
 unfolding frame_fault
 faulted c =
-    let d = c in
     c.or_else-2.ensures
-    ∙ ap₂ ◌or_else◌ d.check_frame-framed.ensures (c.or_else.ensures ∙ ap₂ ◌or_else◌ d.check_shortest-ranged.ensures d.check_rule-ruled.ensures)
+    ∙ ap₂ ◌or_else◌ c.check_frame-framed.ensures (c.or_else.ensures ∙ ap₂ ◌or_else◌ c.check_shortest-ranged.ensures c.check_rule-ruled.ensures)
 
 pub returns-in-Fine : goal.returns-in-Fine
 unfolding board_answer
