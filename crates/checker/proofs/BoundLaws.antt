@@ -1,31 +1,40 @@
 -- The response bound as its loops find it: what is asked, task by task, and the first length that suffices
-use mathlib.Core.Path.{◌≡◌, refl, sym, ap}
+use mathlib.Core.Path.{◌≡◌, refl, sym, ap, ◌∙◌}
 use mathlib.Core.Bool.{Bool, false}
 use mathlib.Core.List.{List}
-use Prim.Native.Nat.{ℕ, suc, ◌+◌, ◌-◌, ◌*◌, ◌/◌, ◌≤◌, ◌<◌}
+use Prim.Native.Nat.{ℕ, suc, ◌+◌, ◌-◌, ◌*◌, ◌/◌, ◌%◌, ◌≤◌, ◌<◌, min}
 use native.Mathlib.Omega.{arith}
-use native.Mathlib.Nat.{div-le_self, mul-le-mul}
+use native.Mathlib.Nat.{div-le_self, mul-le-mul, le-div_iff_mul-le, div-lt_iff_lt-mul, add-mul}
+use Rattle.std.proofs.lemmas.Grind.{div_ceil_times}
 use native.Mathlib.Numerals.{add-one}
 use native.Mathlib.Decide.{dec_lt}
 use lib.ListN.{length}
 use borrow.Author.Tests.{le-leb, lt-leb}
+use Rattle.std.specs.Int.{div_ceil}
 use Rattle.scope.specs.Limits.{most_tasks, most_of_task, most_length}
 use Rattle.scope.specs.Numbers.{sum}
 use Rattle.scope.specs.Ticks.{Periodic, least_supply}
-use Rattle.scope.specs.Windows.{Board, supplied_by}
 use Rattle.scope.specs.Tasks.{Task, task, tasks_of, task_at}
 use Rattle.scope.specs.Bound.{Bound.bound, Bound.no_bound, ceil, asked, suffices, or_no_bound, response}
-use Rattle.scope.specs.Answers.{Fault.fine, Fault.fault, Answer.given, Answer.refused, ◌or_else◌, table_fault, group_fault, absent_fault, bound_answer}
+use Rattle.scope.specs.Answers.{Fault.fine, Fault.fault, absent_fault}
 use Rattle.theory.specs.Numbers.{sum_le, sum_same, none_first, some_first}
 use Rattle.theory.specs.Lists.{pieces_length}
 use Rattle.theory.specs.Answers.{LegalGroup}
 use Rattle.theory.specs.Tasks.{TaskRule}
 use Rattle.theory.specs.Bound.{asked_up, test_enough, test_no}
 use Rattle.theory.specs.Ticks.{least_up_by}
-use Rattle.tables.proofs.FaultLaws.{if_true, if_false, refused_first, refused_then, given_then}
 use Rattle.tables.proofs.TaskLaws.{read_rule}
 
 -- ---- what is asked
+
+-- as the code rounds up
+pub rounded : (t T : ℕ) → 1 ≤ T → div_ceil t T ≡ ceil t T
+rounded t T h =
+    let b = div_ceil_times t T h in
+    let r : ℕ = t / T + min 1 (t % T) in
+    let low : r ≤ ceil t T = (le-div_iff_mul-le h).1 (omega (arith, b.1)) in
+    let high : ceil t T < r + 1 = (div-lt_iff_lt-mul h).1 (omega (arith, b.0, add-mul r 1 T)) in
+    omega (arith, low, high)
 
 -- ceil(t/T)·C of a task
 abbrev pub asked_by : ℕ → Task → ℕ
@@ -66,9 +75,18 @@ asked_to_most ts i t j ok h l m =
       sum_le (λ k. asked_by t (x k)) (λ k. (most_length + most_of_task) * most_of_task) j (λ k u. asked_most (x k) t (read_rule ts k (x k) ok (omega arith) refl) h),
     )
 
-pub asked_at_most : (ts : List ℕ) (i t : ℕ) → LegalGroup ts → t ≤ most_length → i < length ts / 3 →
+pub asked_at_most : (ts : List ℕ) (i t : ℕ) → LegalGroup ts → t ≤ most_length → i < length (tasks_of ts) →
     asked (tasks_of ts) i t ≤ most_tasks * ((most_length + most_of_task) * most_of_task) + most_of_task
-asked_at_most ts i t ok h l = omega (arith, asked_to_whole (tasks_of ts) i t, asked_to_most ts i t i ok h l (omega arith))
+asked_at_most ts i t ok h l =
+    let n = pieces_length _ 3 task ts in
+    omega (arith, asked_to_whole (tasks_of ts) i t, asked_to_most ts i t i ok h (omega (arith, n)) (omega (arith, n)))
+
+-- the deadline of a task as it is read is the task's, and small
+pub read_due : (ts : List ℕ) (i : ℕ) (x : Task) (d : ℕ) → LegalGroup ts → i < length (tasks_of ts) → x ≡ task_at (tasks_of ts) i → d ≡ x.D →
+    (d ≡ (task_at (tasks_of ts) i).D) × (d ≤ most_of_task)
+read_due ts i x d ok l e is =
+    let rule = read_rule ts i x ok (omega (arith, pieces_length _ 3 task ts)) e in
+    (is ∙ ap (λ (y : Task). y.D) e, omega (arith, rule.due_most))
 
 -- ---- the first length that suffices
 
@@ -102,22 +120,20 @@ module _ (σ : ℕ → Bool) (P : ℕ) (ts : List Task) (i : ℕ) where
   unfolding response
   no_bound_found t d h ed low = sym (ap or_no_bound (none_first (suffices σ P ts i) (suc (task_at ts i).D) (λ u l. low u (omega arith))))
 
--- ---- the answers of `bound`: the table and the group are checked together, then whether the task is there
+-- ---- whether the task is there
 
-module _ (b : Board) (ws ts : List ℕ) (i : ℕ) where
-  pub bound_refused : {n p : ℕ} → (table_fault b ws or_else group_fault ts) ≡ fault n p → refused n p ≡ bound_answer b ws ts i
-  unfolding bound_answer
-  bound_refused e = refused_first (table_fault b ws) (group_fault ts) (absent_fault (tasks_of ts) i) _ e
+pub tasks_count : (ts : List ℕ) → length (tasks_of ts) ≡ length ts / 3
+tasks_count ts = pieces_length _ 3 task ts
 
-  module _ (e : (table_fault b ws or_else group_fault ts) ≡ fine) where
-    pub bound_absent : length ts / 3 ≤ i → refused 7 0 ≡ bound_answer b ws ts i
-    unfolding bound_answer absent_fault
-    bound_absent h =
-        refused_then (table_fault b ws) (group_fault ts) (absent_fault (tasks_of ts) i) _ e
-        (sym (if_true _ 7 0 (le-leb (length (tasks_of ts)) i (omega (arith, pieces_length _ 3 task ts)))))
+module _ (ts : List ℕ) (i : ℕ) where
+  pub absent : length ts / 3 ≤ i → fault 7 0 ≡ absent_fault (tasks_of ts) i
+  unfolding absent_fault
+  absent h = rw (le-leb (length (tasks_of ts)) i (omega (arith, pieces_length _ 3 task ts)))
 
-    pub bound_given : i < length ts / 3 → given (response (supplied_by b ws) b.frame (tasks_of ts) i) ≡ bound_answer b ws ts i
-    unfolding bound_answer absent_fault
-    bound_given h =
-        given_then (table_fault b ws) (group_fault ts) (absent_fault (tasks_of ts) i) _ e
-        (sym (if_false _ 7 0 (lt-leb (length (tasks_of ts)) i (omega (arith, pieces_length _ 3 task ts)))))
+  pub present : i < length ts / 3 → fine ≡ absent_fault (tasks_of ts) i
+  unfolding absent_fault
+  present h = rw (lt-leb (length (tasks_of ts)) i (omega (arith, pieces_length _ 3 task ts)))
+
+pub ruleset asking = (rounded, asked_to_none, asked_to_next, asked_to_whole, asked_most, asked_to_most, read_rule, tasks_count)
+
+pub ruleset responding = (read_due, short_first, asked_at_most)

@@ -1,6 +1,6 @@
+pub mod GroupLaws
 pub mod CycleLaws
 pub mod DemandLaws
-pub mod LeastLaws
 pub mod MarginLaws
 pub mod RiseLaws
 pub mod StretchLaws

@@ -144,3 +144,5 @@ module _ (ts : List ℕ) (ok : LegalGroup ts) where
     by = omega (arith, so.risen, demand_to_whole ts t i e, demand_to_whole ts (t - 1) i e);
     next = so.soon ∙ ap (soonest (tasks_of ts) t) (e ∙ sym count);
   }
+
+pub ruleset reaching = (reach_not, reach_now, read_rule)

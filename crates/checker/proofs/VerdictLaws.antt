@@ -1,36 +1,27 @@
--- The search for a miss, as its loops go: over lengths, and at the first violating one over starts
+-- The search for a miss, as its loop goes over the lengths
 use mathlib.Core.Path.{◌≡◌, sym, ap, ◌∙◌}
 use mathlib.Core.Bool.{Bool, false, cond}
 use mathlib.Core.List.{List}
-use Prim.Native.Nat.{ℕ, suc, ◌+◌, ◌-◌, ◌%◌, ◌≤◌, ◌<◌}
+use Prim.Native.Nat.{ℕ, suc, ◌+◌, ◌-◌, ◌≤◌, ◌<◌}
 use native.Mathlib.Omega.{arith}
 use native.Mathlib.Decide.{dec_lt, dec_le}
-use borrow.Author.Count.{below_more}
 use borrow.Author.Tests.{lt-ltb, le-ltb, le-leb, lt-leb}
 use lib.Dec.{leb}
 use lib.ListN.{length}
-use Rattle.scope.specs.Ticks.{Periodic, supply, least_supply, least_start}
-use Rattle.scope.specs.Windows.{Board, supplied_by}
-use Rattle.scope.specs.Tasks.{Task, tasks_of, task_at, demand}
-use Rattle.scope.specs.Limits.{most_cycle, most_number}
-use Rattle.scope.specs.Cycle.{cycle}
+use Rattle.scope.specs.Ticks.{Periodic, least_supply, least_start}
+use Rattle.scope.specs.Tasks.{Task, task_at, demand}
+use Rattle.scope.specs.Limits.{most_number}
 use Rattle.scope.specs.Verdict.{Verdict.meets, Verdict.miss, violates, shown, verdict}
-use Rattle.scope.specs.Answers.{Fault.fine, Fault.fault, Answer.given, Answer.refused, ◌or_else◌, table_fault, group_fault, cycle_fault, verdict_answer}
 use Rattle.theory.specs.Numbers.{none_first, some_first}
-use Rattle.theory.specs.Ticks.{least_is_met, least_over_all_starts, least_up, least_start_unique, least_start_rest}
+use Rattle.theory.specs.Ticks.{least_up}
 use Rattle.theory.specs.Tasks.{TaskRules, demand_none}
 use Rattle.theory.specs.Dues.{due_after, due_same, demand_same, soonest_low, soonest_later, met_until}
 use Rattle.checker.specs.declared.rise.Rise.{Rise}
 use Rattle.checker.specs.Rises.{Due, Risen}
-use Rattle.tables.proofs.FaultLaws.{if_true, if_false, refused_first, refused_then, given_then}
 
 -- no length below t violates
 abbrev pub NoneBelow : (ℕ → Bool) → ℕ → List Task → ℕ → Type 0
 NoneBelow σ P ts t = (u : ℕ) → u < t → violates σ P ts u ≡ false
-
--- no start below s holds the least supply of t
-abbrev pub Above : (ℕ → Bool) → ℕ → ℕ → ℕ → Type 0
-Above σ P t s = (r : ℕ) → r < s → least_supply σ P t < supply σ r t
 
 -- the search has come to length t: no shorter one violates, d is the demand of the length before it, `due` has the next deadlines after that, and
 -- what is known is no more than the least supply of t
@@ -112,40 +103,12 @@ module _ (σ : ℕ → Bool) (P : ℕ) (per : Periodic σ P) (ts : List Task) wh
   unfolding verdict
   search_meets H t h low = sym (ap (shown σ P ts H) (none_first (violates σ P ts) (suc H) (λ u l. low u (omega arith))))
 
-  pub above_next : (t s p n : ℕ) → p ≡ least_supply σ P t → n ≡ supply σ s t → (n ≡ p → ⊥) → Above σ P t s → Above σ P t (s + 1)
-  above_next t s p n e f u low =
-      below_more (λ (r : ℕ). least_supply σ P t < supply σ r t) s low (omega (arith, u, least_over_all_starts σ P per s t))
-
-  -- the starts cannot run out: the least supply is met
-  pub not_all_above : (t s : ℕ) → P ≤ s → Above σ P t s → ⊥
-  not_all_above t s h low = let m = least_is_met σ P per t in omega (arith, m.2, low m.0 (omega (arith, m.1)))
-
-  -- the search stops: the starts were compared on the rest of the length
-  pub search_misses : (H t s d r l n : ℕ) (due : List ℕ) (up : Rise) → t ≤ H → Judged σ P ts t d r due up → r < d →
-      l ≡ least_supply σ P (t % P) → n ≡ supply σ s (t % P) → n ≡ l → Above σ P (t % P) s → miss t s d r ≡ verdict σ P ts H
+  -- the search stops
+  pub search_misses : (H t s d r : ℕ) (due : List ℕ) (up : Rise) → t ≤ H → Judged σ P ts t d r due up → r < d → s ≡ least_start σ P t →
+      miss t s d r ≡ verdict σ P ts H
   unfolding verdict violates
-  search_misses H t s d r l n due up h at over el en e above =
+  search_misses H t s d r due up h at over q =
       let ed = at.demanded in
       let er = at.least over in
       let f = some_first (violates σ P ts) (suc H) t (omega arith) (rw (← ed, ← er) (lt-ltb r d over)) at.past in
-      let q : s ≡ least_start σ P t = least_start_unique σ P per (t % P) s (sym en ∙ e ∙ el) above ∙ least_start_rest σ P per t in
       sym (ap (shown σ P ts H) f ∙ rw (← q, ← ed, ← er))
-
--- ---- the answers of `verdict`: the table and the group are checked together, then the cycle
-
-module _ (b : Board) (ws ts : List ℕ) where
-  pub verdict_refused : {n p : ℕ} → (table_fault b ws or_else group_fault ts) ≡ fault n p → refused n p ≡ verdict_answer b ws ts
-  unfolding verdict_answer
-  verdict_refused e = refused_first (table_fault b ws) (group_fault ts) (cycle_fault b (tasks_of ts)) _ e
-
-  module _ (e : (table_fault b ws or_else group_fault ts) ≡ fine) where
-    abbrev H : ℕ
-    H = cycle b.frame (tasks_of ts)
-
-    pub verdict_over : most_cycle < H → refused 6 0 ≡ verdict_answer b ws ts
-    unfolding verdict_answer cycle_fault
-    verdict_over l = refused_then (table_fault b ws) (group_fault ts) (cycle_fault b (tasks_of ts)) _ e (sym (if_true _ 6 0 (lt-ltb most_cycle H l)))
-
-    pub verdict_given : H ≤ most_cycle → given (verdict (supplied_by b ws) b.frame (tasks_of ts) H) ≡ verdict_answer b ws ts
-    unfolding verdict_answer cycle_fault
-    verdict_given l = given_then (table_fault b ws) (group_fault ts) (cycle_fault b (tasks_of ts)) _ e (sym (if_false _ 6 0 (le-ltb most_cycle H l)))

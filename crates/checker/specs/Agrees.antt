@@ -8,18 +8,17 @@ use Rattle.scope.specs.Examples.{XShared, XSummary}
 use Rattle.scope.specs.Computing.{everything}
 use Rattle.theory.specs.Summaries.{margins_each}
 use Rattle.tables.specs.declared.board.Board.{Board}
-use Rattle.tables.specs.declared.answer.Amount.{Amount}
-use Rattle.tables.specs.declared.answer.Amount.TheVariants.{Of}
-use Rattle.tables.specs.declared.answer.Margin.{Margin}
-use Rattle.tables.specs.declared.answer.Margin.TheVariants as margin
+use Rattle.std.specs.declared.result.Result.{Result}
+use Rattle.std.specs.declared.result.Result.TheVariants.{Ok}
+use Rattle.tables.specs.declared.answer.Refusal.{Refusal}
 use Rattle.tables.specs.Told.{board_of, told_amount, told_margin}
 use Rattle.tables.specs.Determined.{margin_determined}
 
-pub margins_same : (b : Board) (ws summary ts lengths : List ℕ) (out left : List ℤ) (r : Amount) (n : ℕ) →
-    told_amount r ≡ margins_for (board_of b) ws summary ts lengths (length out) → left ≡ margins_out_for (board_of b) ws summary ts lengths out → r ≡ Of n →
-    (j : ℕ) → j < length lengths → (m : Margin) → told_margin m ≡ margin_for (board_of b) ws ts (get_or lengths j 0) → m ≡ margin.Of (get_or left j (pos 0))
+pub margins_same : (b : Board) (ws summary ts lengths : List ℕ) (out left : List ℤ) (r : Result ℕ Refusal) (n : ℕ) →
+    told_amount r ≡ margins_for (board_of b) ws summary ts lengths (length out) → left ≡ margins_out_for (board_of b) ws summary ts lengths out → r ≡ Ok n →
+    (j : ℕ) → j < length lengths → (m : Result ℤ Refusal) → told_margin m ≡ margin_for (board_of b) ws ts (get_or lengths j 0) → m ≡ Ok (get_or left j (pos 0))
 margins_same b ws summary ts lengths out left r n promised wrote is j h m told =
-    margin_determined m (margin.Of (get_or left j (pos 0)))
+    margin_determined m (Ok (get_or left j (pos 0)))
     (told ∙ margins_each (board_of b) ws summary ts lengths out n (sym promised ∙ ap told_amount is) j h
     ∙ ap (λ (l : List ℤ). given (get_or l j (pos 0))) (sym wrote))
 
@@ -28,7 +27,7 @@ abbrev x_board : Board
 x_board = record { frame = 8; owner = 0; shortest = 1; rule = 1; lost = 0 }
 
 w6_same : (left : List ℤ) → left ≡ margins_out_for (board_of x_board) XShared XSummary (1 ∷ 4 ∷ 4 ∷ 2 ∷ 8 ∷ 6 ∷ []) (6 ∷ []) (pos 9 ∷ []) →
-    (m : Margin) → told_margin m ≡ margin_for (board_of x_board) XShared (1 ∷ 4 ∷ 4 ∷ 2 ∷ 8 ∷ 6 ∷ []) 6 → m ≡ margin.Of (get_or left 0 (pos 0))
+    (m : Result ℤ Refusal) → told_margin m ≡ margin_for (board_of x_board) XShared (1 ∷ 4 ∷ 4 ∷ 2 ∷ 8 ∷ 6 ∷ []) 6 → m ≡ Ok (get_or left 0 (pos 0))
 unfolding everything
 w6_same left wrote m told =
-    margins_same x_board XShared XSummary (1 ∷ 4 ∷ 4 ∷ 2 ∷ 8 ∷ 6 ∷ []) (6 ∷ []) (pos 9 ∷ []) left (Of 1) 1 refl wrote refl 0 (omega arith) m told
+    margins_same x_board XShared XSummary (1 ∷ 4 ∷ 4 ∷ 2 ∷ 8 ∷ 6 ∷ []) (6 ∷ []) (pos 9 ∷ []) left (Ok 1) 1 refl wrote refl 0 (omega arith) m told

@@ -1,5 +1,5 @@
-pub mod Found
 pub mod Rises
 pub mod Stretches
 pub mod Refused
 pub mod Agrees
+pub mod Told

@@ -1,91 +1,80 @@
-ghost use Rattle.std.specs.Prelude.{◌≡◌, ◌≤◌, ◌<◌, ◌/◌, length as length_of};
-ghost use Rattle.scope.specs.Limits.{most_of_task, most_length};
+ghost use Rattle.std.specs.Prelude.{◌≡◌, ◌≤◌, ◌<◌, length as length_of};
+ghost use Rattle.scope.specs.Limits.{most_length};
 ghost use Rattle.scope.specs.Windows.{framed, supplied_by};
 ghost use Rattle.scope.specs.Tasks.{tasks_of};
-ghost use Rattle.scope.specs.Bound.{ceil, asked, response};
-ghost use Rattle.scope.specs.Answers.{bound_answer, table_fault, Fault.fine, Answer.given};
+ghost use Rattle.scope.specs.Bound.{asked, response};
+ghost use Rattle.scope.specs.Answers.{bound_answer};
 ghost use Rattle.scope.specs.Shared.{bound_for};
-ghost use Rattle.theory.specs.Answers.{LegalGroup};
-ghost use Rattle.tables.specs.Told.{board_of, told_bound};
+ghost use Rattle.tables.specs.Told.{board_of, bound_of, told_bound};
 
-use crate::least::least_of;
-use shared::table::{Owned, own_windows};
-use tables::answer::{Amount, Bound, Checked, Refusal};
+use shared::table::own_table;
+use supply::supply::least_of;
+use tables::answer::Refusal;
 use tables::board::Board;
-use tables::task::{check_tasks, task_at};
+use tables::group::Group;
+use tables::table::Table;
+use tables::task::task_at;
 use tables::window::Window;
 
-// ceil(length / period).
-fn rounded_up(length: u32, period: u32) -> u32
-    requires { (length ≤ most_length) × (1 ≤ period) × (period ≤ most_of_task) }
-    ensures { result ≡ ceil length period }
-{
-    (length + (period - 1)) / period
-}
-
 // What task `index` and those above it ask for in `length` ticks.
-fn asked_of(tasks: &[u32], index: usize, length: u32) -> u64
-    requires { LegalGroup tasks.now × (index < length_of (tasks_of tasks.now)) × (length ≤ most_length) }
-    ensures { result ≡ asked (tasks_of tasks.now) index length }
+#[tactic(auto, using(crate::proofs::BoundLaws::asking))]
+fn asked_of(group: Group<'_>, index: usize, length: u32) -> u64
+    requires { (index < length_of (tasks_of group.tasks.now)) × (length ≤ most_length) }
+    ensures { result ≡ asked (tasks_of group.entry.tasks.now) index length }
 {
-    let task = task_at(tasks, index);
-    let mut sum = task.work as u64;
-    let mut j = 0;
-    while j < index {
-        let above = task_at(tasks, j);
-        let jobs = rounded_up(length, above.period);
-        sum += (jobs as u64) * (above.work as u64);
-        j += 1;
+    let mut sum = u64::from(task_at(group.tasks, index).work);
+    for j in 0..index {
+        let above = task_at(group.tasks, j);
+        sum += u64::from(length.div_ceil(above.period)) * u64::from(above.work);
     }
     sum
 }
 
 // The least length up to the deadline whose least supply is at least what is asked. What is asked never falls, and a tick more supplies at most one
 // more: as many ticks as are missing are needed at least, and the lengths between are passed over.
-fn response_of(frame: u32, windows: &[u32], tasks: &[u32], index: usize) -> Bound
-    requires { (table_fault (framed frame) windows.now ≡ fine) × LegalGroup tasks.now × (index < length_of (tasks_of tasks.now)) }
-    ensures { told_bound result ≡ given (response (supplied_by (framed frame) windows.now) frame (tasks_of tasks.now) index) }
+#[tactic(auto, using(crate::proofs::BoundLaws::responding))]
+fn response_of(table: Table<'_>, group: Group<'_>, index: usize) -> Option<u32>
+    requires { index < length_of (tasks_of group.tasks.now) }
+    ensures { bound_of result ≡ response (supplied_by (framed table.entry.frame) table.entry.windows.now) table.entry.frame
+        (tasks_of group.entry.tasks.now) index }
 {
-    let task = task_at(tasks, index);
-    let deadline = task.deadline as u64;
+    let deadline = u64::from(task_at(group.tasks, index).deadline);
     let mut length: u64 = 1;
     while length <= deadline {
         let ticks = length as u32;
-        let least = least_of(frame, windows, ticks) as u64;
-        let asked = asked_of(tasks, index, ticks);
+        let least = u64::from(least_of(table, ticks));
+        let asked = asked_of(group, index, ticks);
         if asked <= least {
-            return Bound::Of(ticks);
+            return Some(ticks);
         }
         length += asked - least;
     }
-    Bound::NoBound
+    None
 }
 
-// The bound on a legal list of windows. Refusals 4 5 7.
-fn bound_on(frame: u32, windows: &[u32], tasks: &[u32], index: u32) -> Bound
-    requires { table_fault (framed frame) windows.now ≡ fine }
-    ensures { told_bound result ≡ bound_answer (framed frame) windows.now tasks.now index }
+// The bound on a table. Refusals 4 5 7.
+#[tactic(auto, using(supply::proofs::TableLaws::answered, crate::proofs::GroupLaws::grouped, crate::proofs::BoundLaws::absent, crate::proofs::BoundLaws::present, crate::proofs::BoundLaws::tasks_count), unfolding(scope::specs::Answers::bound_answer))]
+fn bound_on(table: Table<'_>, tasks: &[u32], index: u32) -> Result<Option<u32>, Refusal>
+    ensures { told_bound result ≡ bound_answer (framed table.entry.frame) table.entry.windows.now tasks.now index }
 {
-    match check_tasks(tasks) {
-        Checked::Bad(r) => Bound::Refused(r),
-        Checked::Fine => {
-            let i = index as usize;
-            if tasks.len() / 3 <= i {
-                Bound::Refused(Refusal::Asked)
-            } else {
-                response_of(frame, windows, tasks, i)
-            }
-        }
+    let group = Group::new(tasks)?;
+    let i = index as usize;
+    if group.tasks.len() / 3 <= i {
+        return Err(Refusal::Asked);
     }
+    Ok(response_of(table, group, i))
 }
 
 // The response bound of task `index` under fixed priority, lower index first, on the asked owner's windows. Refusals: a table's, then 4 5 7.
-pub fn bound(board: Board, windows: &[u32], tasks: &[u32], index: u32) -> Bound
+pub fn bound(
+    board: Board,
+    windows: &[u32],
+    tasks: &[u32],
+    index: u32,
+) -> Result<Option<u32>, Refusal>
     ensures { told_bound result ≡ bound_for (board_of board) windows.now tasks.now index }
 {
-    let mut own = [0; 2 * Window::MOST];
-    match own_windows(Owned::TEAMS, board, windows, &mut own) {
-        Amount::Refused(r) => Bound::Refused(r),
-        Amount::Of(n) => bound_on(board.frame, &own[..n as usize], tasks, index),
-    }
+    let mut room = [0; 2 * Window::MOST];
+    let table = own_table(board, windows, &mut room)?;
+    bound_on(table, tasks, index)
 }

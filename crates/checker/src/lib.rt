@@ -4,7 +4,6 @@
 pub mod bound;
 pub mod cycle;
 pub mod demand;
-mod least;
 pub mod margins;
 mod rise;
 mod stretch;

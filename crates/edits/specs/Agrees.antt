@@ -10,24 +10,25 @@ use Rattle.scope.specs.Examples.{XShared, XSummary}
 use Rattle.scope.specs.Computing.{everything}
 use Rattle.theory.specs.Summaries.{summary_agrees}
 use Rattle.theory.specs.Edits.{edit_leaves}
+use Rattle.std.specs.declared.result.Result.{Result}
+use Rattle.std.specs.declared.result.Result.TheVariants.{Ok}
 use Rattle.tables.specs.declared.board.Board.{Board}
-use Rattle.tables.specs.declared.answer.Amount.{Amount}
 use Rattle.tables.specs.declared.answer.Edited.{Edited}
-use Rattle.tables.specs.declared.answer.Edited.TheVariants.{Is}
+use Rattle.tables.specs.declared.answer.Refusal.{Refusal}
 use Rattle.tables.specs.Told.{board_of, told_amount, told_edited}
 use Rattle.tables.specs.Determined.{amount_determined}
 use Rattle.edits.specs.declared.edit.Edit.{Edit}
 use Rattle.edits.specs.declared.edit.Edit.TheVariants.{Move}
 use Rattle.edits.specs.Told.{edit_of}
 
-module _ (b : Board) (count : ℕ) (windows summary left held : List ℕ) (edit : Edit) (r : Edited) (w n : ℕ)
+module _ (b : Board) (count : ℕ) (windows summary left held : List ℕ) (edit : Edit) (r : Result Edited Refusal) (w n : ℕ)
     (promised : told_edited r ≡ edit_answer teams (board_of b) count windows summary (edit_of edit))
     (wrote : left ≡ edit_windows teams (board_of b) count windows summary (edit_of edit))
-    (kept : held ≡ edit_summary teams (board_of b) count windows summary (edit_of edit)) (is : r ≡ Is w n) where
+    (kept : held ≡ edit_summary teams (board_of b) count windows summary (edit_of edit)) (is : r ≡ Ok (record { windows = w; numbers = n })) where
   pub left_belongs : summary_fault (board_of b) (own (board_of b) (table_in w left)) held ≡ fine
   left_belongs = rw (wrote, kept) (edit_leaves teams (board_of b) count windows summary (edit_of edit) _ (sym promised ∙ ap told_edited is)).belongs
 
-  pub edited_same : (t : ℕ) (from plain : Amount) → told_amount from ≡ least_from_for (board_of b) (table_in w left) held t →
+  pub edited_same : (t : ℕ) (from plain : Result ℕ Refusal) → told_amount from ≡ least_from_for (board_of b) (table_in w left) held t →
       told_amount plain ≡ least_supply_for (board_of b) (table_in w left) t → from ≡ plain
   edited_same t from plain told plainly =
       amount_determined from plain (told ∙ summary_agrees (board_of b) (table_in w left) held t left_belongs ∙ sym plainly)
@@ -38,7 +39,7 @@ module _ (left held : List ℕ) where
   x_board = record { frame = 8; owner = 0; shortest = 1; rule = 1; lost = 0 }
 
   x_edited_same : left ≡ edit_windows teams (board_of x_board) 4 XShared XSummary (edit_of (Move 0 0 1)) →
-      held ≡ edit_summary teams (board_of x_board) 4 XShared XSummary (edit_of (Move 0 0 1)) → (from plain : Amount) →
+      held ≡ edit_summary teams (board_of x_board) 4 XShared XSummary (edit_of (Move 0 0 1)) → (from plain : Result ℕ Refusal) →
       told_amount from ≡ least_from_for (board_of x_board) (table_in 4 left) held 15 → told_amount plain ≡ least_supply_for (board_of x_board) (table_in 4 left) 15 → from ≡ plain
   unfolding everything
-  x_edited_same wrote kept = edited_same x_board 4 XShared XSummary left held (Move 0 0 1) (Is 4 7) 4 7 refl wrote kept refl 15
+  x_edited_same wrote kept = edited_same x_board 4 XShared XSummary left held (Move 0 0 1) (Ok (record { windows = 4; numbers = 7 })) 4 7 refl wrote kept refl 15

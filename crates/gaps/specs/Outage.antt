@@ -13,12 +13,13 @@ use Rattle.theory.specs.Left.{some_tick}
 use Rattle.theory.specs.Outage.{outage_supply, outage_greatest_length, outage_critical}
 use Rattle.theory.specs.Answers.{unless_given}
 use Rattle.tables.specs.declared.board.Board.{Board}
-use Rattle.tables.specs.declared.answer.Amount.{Amount}
-use Rattle.tables.specs.declared.answer.Amount.TheVariants.{Of}
+use Rattle.std.specs.declared.result.Result.{Result}
+use Rattle.std.specs.declared.result.Result.TheVariants.{Ok}
+use Rattle.tables.specs.declared.answer.Refusal.{Refusal}
 use Rattle.tables.specs.Told.{board_of, told_amount}
 use Rattle.tables.specs.Determined.{amount_determined}
 
-module _ (b : Board) (ws : List ℕ) (n : ℕ) (told : told_amount (Of n) ≡ outage_for (board_of b) ws) where
+module _ (b : Board) (ws : List ℕ) (n : ℕ) (told : told_amount (Ok n) ≡ outage_for (board_of b) ws) where
   abbrev mine : List ℕ
   mine = own (board_of b) ws
 
@@ -36,23 +37,23 @@ module _ (b : Board) (ws : List ℕ) (n : ℕ) (told : told_amount (Of n) ≡ ou
   least_is t = asked_fine teams (board_of b) ws refused (λ l. least_supply_answer (board_of b) l t) asked_is.0
 
   -- what `least_supply` answers at the outage, and at one tick more
-  pub no_supply : (r : Amount) → told_amount r ≡ least_supply_for (board_of b) ws n → r ≡ Of 0
-  no_supply r e = amount_determined r (Of 0) (e ∙ least_is n ∙ (outage_supply (board_of b) mine n asked_is.1 tick.0 tick.1).0)
+  pub no_supply : (r : Result ℕ Refusal) → told_amount r ≡ least_supply_for (board_of b) ws n → r ≡ Ok 0
+  no_supply r e = amount_determined r (Ok 0) (e ∙ least_is n ∙ (outage_supply (board_of b) mine n asked_is.1 tick.0 tick.1).0)
 
-  pub some_supply : (r : Amount) → told_amount r ≡ least_supply_for (board_of b) ws (n + 1) → (p : ℕ) × (r ≡ Of p) × (0 < p)
+  pub some_supply : (r : Result ℕ Refusal) → told_amount r ≡ least_supply_for (board_of b) ws (n + 1) → (p : ℕ) × (r ≡ Ok p) × (0 < p)
   some_supply r e =
       let s = outage_supply (board_of b) mine n asked_is.1 tick.0 tick.1 in
-      (s.1, amount_determined r (Of s.1) (e ∙ least_is (n + 1) ∙ s.2), s.3)
+      (s.1, amount_determined r (Ok s.1) (e ∙ least_is (n + 1) ∙ s.2), s.3)
 
   -- no greater length is answered 0
-  pub no_greater : (t : ℕ) → told_amount (Of 0) ≡ least_supply_for (board_of b) ws t → t ≤ n
+  pub no_greater : (t : ℕ) → told_amount (Ok 0) ≡ least_supply_for (board_of b) ws t → t ≤ n
   unfolding least_supply_answer
   no_greater t e =
       let g = unless_given (table_fault (board_of b) mine or_else length_fault t) (least_supply (supplied_by (board_of b) mine) b.frame t) 0 (sym (e ∙ least_is t)) in
       outage_greatest_length (board_of b) mine n asked_is.1 tick.0 tick.1 t g.1
 
   -- what `critical` leaves in a buffer that is long enough begins with it
-  pub starts_partition : (out left : List ℕ) (k : ℕ) → told_amount (Of k) ≡ critical_for (board_of b) ws (length out) →
+  pub starts_partition : (out left : List ℕ) (k : ℕ) → told_amount (Ok k) ≡ critical_for (board_of b) ws (length out) →
       left ≡ critical_out_for (board_of b) ws out → (rest : List ℕ) × (left ≡ n ∷ rest)
   unfolding critical_for critical_out_for critical_answer critical_out written
   starts_partition out left k e wrote =

@@ -1,12 +1,12 @@
-ghost use Rattle.std.specs.Prelude.{◌≡◌};
-ghost use Rattle.tables.specs.Told.{number, place, told_amount};
-ghost use Rattle.host.specs.Told.{refusal, c_amount};
+ghost use Rattle.std.specs.Prelude.{◌≡◌, MatchResult};
+ghost use Rattle.tables.specs.Told.{number, place};
+ghost use Rattle.host.specs.Told.{amount, refusal};
 
-use tables::answer::{Amount, Refusal};
+use tables::answer::Refusal;
 
 // An answer as a code and numbers, for an enum can't cross to C. Numbers that a code has no use for are 0.
 #[repr(C)]
-#[derive(Clone, Copy)]
+#[derive(Clone, Copy, Debug, PartialEq, Eq)]
 pub struct Answer {
     pub code: u32,
     pub a: u64,
@@ -74,19 +74,31 @@ pub(crate) fn one(code: u32, a: u64) -> Answer
     two(code, a, 0)
 }
 
-pub(crate) fn refused(r: Refusal) -> Answer
-    ensures { result ≡ refusal (number r) (place r) }
-{
-    let number = r.number();
-    let place = r.place();
-    two(Answer::REFUSED, number, place)
+impl From<Refusal> for Answer {
+    ghost from_gives = { λ r answer. answer ≡ refusal (number r) (place r) };
+
+    fn from(refusal: Refusal) -> Answer {
+        two(Answer::REFUSED, refusal.number(), refusal.place())
+    }
 }
 
-pub(crate) fn amount_answer(a: Amount) -> Answer
-    ensures { result ≡ c_amount (told_amount a) }
-{
-    match a {
-        Amount::Of(n) => one(Answer::AMOUNT, n),
-        Amount::Refused(r) => refused(r),
+impl From<u64> for Answer {
+    ghost from_gives = { λ n answer. answer ≡ amount n };
+
+    fn from(amount: u64) -> Answer {
+        one(Answer::AMOUNT, amount)
+    }
+}
+
+// An entry's answer: its value as that is told, or the refusal.
+impl<T: Into<Answer>> From<Result<T, Refusal>> for Answer {
+    ghost from_gives = { λ r answer. MatchResult r (λ value. T.converts value answer)
+        (λ e. answer ≡ refusal (number e) (place e)) };
+
+    fn from(answer: Result<T, Refusal>) -> Answer {
+        match answer {
+            Ok(value) => value.into(),
+            Err(refusal) => refusal.into(),
+        }
     }
 }

@@ -2,20 +2,19 @@
 ghost use Rattle.std.specs.Prelude.{◌≡◌};
 ghost use Rattle.scope.specs.Limits.{teams};
 ghost use Rattle.scope.specs.Summary.{Edit.move, Edit.add, Edit.remove, edit_answer, edit_windows, edit_summary};
-ghost use Rattle.tables.specs.Told.{board_of, told_edited};
-ghost use Rattle.host.specs.Told.{c_edited};
+ghost use Rattle.tables.specs.Told.{board_of, edited_of};
+ghost use Rattle.host.specs.Told.{c_edited, edited};
 
-use crate::answer::{Answer, refused, two};
+use crate::answer::{Answer, two};
 use edits::edit::{Edit, edit_table};
 use tables::answer::Edited;
 use tables::board::Board;
 
-fn edited_answer(e: Edited) -> Answer
-    ensures { result ≡ c_edited (told_edited e) }
-{
-    match e {
-        Edited::Is { windows, numbers } => two(Answer::EDITED, windows, numbers),
-        Edited::Refused(r) => refused(r),
+impl From<Edited> for Answer {
+    ghost from_gives = { λ e answer. answer ≡ edited (edited_of e) };
+
+    fn from(edited: Edited) -> Answer {
+        two(Answer::EDITED, edited.windows, edited.numbers)
     }
 }
 
@@ -34,13 +33,14 @@ pub fn palikudyom_move_window(
     ensures list { windows.new ≡ edit_windows teams (board_of board) count windows.old summary.old (move index start end) }
     ensures held { summary.new ≡ edit_summary teams (board_of board) count windows.old summary.old (move index start end) }
 {
-    edited_answer(edit_table(
+    edit_table(
         board,
         count,
         windows,
         summary,
         Edit::Move { index, start, end },
-    ))
+    )
+    .into()
 }
 
 // A window comes before the one at `index`, or after the last. The same refusals.
@@ -58,18 +58,13 @@ pub fn palikudyom_add_window(
     ensures list { windows.new ≡ edit_windows teams (board_of board) count windows.old summary.old (add index start end owner) }
     ensures held { summary.new ≡ edit_summary teams (board_of board) count windows.old summary.old (add index start end owner) }
 {
-    edited_answer(edit_table(
-        board,
-        count,
-        windows,
-        summary,
-        Edit::Add {
-            index,
-            start,
-            end,
-            owner,
-        },
-    ))
+    let edit = Edit::Add {
+        index,
+        start,
+        end,
+        owner,
+    };
+    edit_table(board, count, windows, summary, edit).into()
 }
 
 // The window at `index` goes. The same refusals.
@@ -84,5 +79,5 @@ pub fn palikudyom_remove_window(
     ensures list { windows.new ≡ edit_windows teams (board_of board) count windows.old summary.old (remove index) }
     ensures held { summary.new ≡ edit_summary teams (board_of board) count windows.old summary.old (remove index) }
 {
-    edited_answer(edit_table(board, count, windows, summary, Edit::Remove { index }))
+    edit_table(board, count, windows, summary, Edit::Remove { index }).into()
 }

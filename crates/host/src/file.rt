@@ -5,40 +5,39 @@ ghost use Rattle.scope.specs.Line.{line_answer, line_out};
 ghost use Rattle.tables.specs.Told.{told_verdict};
 ghost use Rattle.host.specs.Told.{c_amount, c_verdict};
 
-use crate::answer::{Answer, amount_answer};
-use crate::verdict::verdict_answer;
-use plan::check::{check_plan, check_plan_with_rule, check_plan_with_shortest};
+use crate::answer::Answer;
+use plan::check::{Form, check_plan};
 use print::line::line;
-use print::write::{write_plan, write_plan_with_rule, write_plan_with_shortest};
-use tables::answer::Verdict;
+use print::write::{Settings, write_plan};
+use tables::answer::{Refusal, Verdict};
 
 // The verdict of a plan file. Refusal 9, and 1 and 4 as soon as a count is read; then 2 3 5 6.
 pub fn palikudyom_plan(bytes: &[u8]) -> Answer
     ensures { result ≡ c_verdict (plan_answer 0 bytes.now) }
 {
-    verdict_answer(check_plan(bytes))
+    check_plan(bytes, Form::Plain).into()
 }
 
 // Of a plan file with the shortest allowed window first; 12 comes after 3.
 pub fn palikudyom_plan_with_shortest(bytes: &[u8]) -> Answer
     ensures { result ≡ c_verdict (plan_answer 1 bytes.now) }
 {
-    verdict_answer(check_plan_with_shortest(bytes))
+    check_plan(bytes, Form::WithShortest).into()
 }
 
 // Of a plan file with the shortest allowed window, the rule and the lost ticks first; 13 comes after 12.
 pub fn palikudyom_plan_with_rule(bytes: &[u8]) -> Answer
     ensures { result ≡ c_verdict (plan_answer 3 bytes.now) }
 {
-    verdict_answer(check_plan_with_rule(bytes))
+    check_plan(bytes, Form::WithRule).into()
 }
 
 // How many bytes the line of a verdict has; the line goes into `out`. Refusal 8.
-fn line_of(verdict: Verdict, out: &mut [u8]) -> Answer
+fn line_of(verdict: Result<Verdict, Refusal>, out: &mut [u8]) -> Answer
     ensures answer { result ≡ c_amount (line_answer (told_verdict verdict) (length out.old)) }
     ensures buffer { out.new ≡ line_out (told_verdict verdict) out.old }
 {
-    amount_answer(line(verdict, out))
+    line(verdict, out).into()
 }
 
 // The line of a plan file: a refused plan has one too.
@@ -46,7 +45,7 @@ pub fn palikudyom_line(bytes: &[u8], out: &mut [u8]) -> Answer
     ensures answer { result ≡ c_amount (line_answer (plan_answer 0 bytes.now) (length out.old)) }
     ensures buffer { out.new ≡ line_out (plan_answer 0 bytes.now) out.old }
 {
-    line_of(check_plan(bytes), out)
+    line_of(check_plan(bytes, Form::Plain), out)
 }
 
 // Of a plan file with the shortest allowed window first.
@@ -54,7 +53,7 @@ pub fn palikudyom_line_with_shortest(bytes: &[u8], out: &mut [u8]) -> Answer
     ensures answer { result ≡ c_amount (line_answer (plan_answer 1 bytes.now) (length out.old)) }
     ensures buffer { out.new ≡ line_out (plan_answer 1 bytes.now) out.old }
 {
-    line_of(check_plan_with_shortest(bytes), out)
+    line_of(check_plan(bytes, Form::WithShortest), out)
 }
 
 // Of a plan file with the shortest allowed window, the rule and the lost ticks first.
@@ -62,7 +61,7 @@ pub fn palikudyom_line_with_rule(bytes: &[u8], out: &mut [u8]) -> Answer
     ensures answer { result ≡ c_amount (line_answer (plan_answer 3 bytes.now) (length out.old)) }
     ensures buffer { out.new ≡ line_out (plan_answer 3 bytes.now) out.old }
 {
-    line_of(check_plan_with_rule(bytes), out)
+    line_of(check_plan(bytes, Form::WithRule), out)
 }
 
 // How many bytes the plan file has; they go into `out`. Refusals 1 4 8.
@@ -72,7 +71,7 @@ pub fn palikudyom_write_plan(frame: u32, windows: &[u32], tasks: &[u32], out: &m
     ensures buffer { out.new ≡ write_out (record { settings = []; frame = frame; windows = windows.now; tasks = tasks.now })
         out.old }
 {
-    amount_answer(write_plan(frame, windows, tasks, out))
+    write_plan(Settings::Plain, frame, windows, tasks, out).into()
 }
 
 // With the shortest allowed window first.
@@ -88,7 +87,14 @@ pub fn palikudyom_write_plan_with_shortest(
     ensures buffer { out.new ≡ write_out (record { settings = shortest ∷ []; frame = frame; windows = windows.now; tasks = tasks.now })
         out.old }
 {
-    amount_answer(write_plan_with_shortest(shortest, frame, windows, tasks, out))
+    write_plan(
+        Settings::WithShortest { shortest },
+        frame,
+        windows,
+        tasks,
+        out,
+    )
+    .into()
 }
 
 // With the shortest allowed window, the rule and the lost ticks first.
@@ -106,5 +112,10 @@ pub fn palikudyom_write_plan_with_rule(
     ensures buffer { out.new ≡ write_out (record { settings = shortest ∷ rule ∷ lost ∷ []; frame = frame; windows = windows.now; tasks = tasks.now })
         out.old }
 {
-    amount_answer(write_plan_with_rule(shortest, rule, lost, frame, windows, tasks, out))
+    let settings = Settings::WithRule {
+        shortest,
+        rule,
+        lost,
+    };
+    write_plan(settings, frame, windows, tasks, out).into()
 }

@@ -1,30 +1,31 @@
 ghost use Rattle.std.specs.Prelude.{◌≡◌, length};
 ghost use Rattle.scope.specs.Shared.{run_for, run_out_for};
 ghost use Rattle.tables.specs.Told.{board_of};
-ghost use Rattle.machine.specs.Told.{told_ran};
-ghost use Rattle.host.specs.Told.{c_ran};
+ghost use Rattle.machine.specs.Told.{ran_of};
+ghost use Rattle.host.specs.Told.{c_ran, ran};
 
-use crate::answer::{Answer, one, refused};
+use crate::answer::{Answer, one};
 use machine::run::{Ran, run};
 use tables::board::Board;
 
-fn ran_answer(r: Ran) -> Answer
-    ensures { result ≡ c_ran (told_ran r) }
-{
-    match r {
-        Ran::Met { backlog } => one(Answer::MET, backlog as u64),
-        Ran::Missed {
-            instant,
-            job,
-            backlog,
-        } => Answer {
-            code: Answer::MISSED,
-            a: instant as u64,
-            b: job as u64,
-            c: backlog as u64,
-            d: 0,
-        },
-        Ran::Refused(r) => refused(r),
+impl From<Ran> for Answer {
+    ghost from_gives = { λ r answer. answer ≡ ran (ran_of r) };
+
+    fn from(ran: Ran) -> Answer {
+        match ran {
+            Ran::Met { backlog } => one(Answer::MET, u64::from(backlog)),
+            Ran::Missed {
+                instant,
+                job,
+                backlog,
+            } => Answer {
+                code: Answer::MISSED,
+                a: u64::from(instant),
+                b: u64::from(job),
+                c: u64::from(backlog),
+                d: 0,
+            },
+        }
     }
 }
 
@@ -42,5 +43,5 @@ pub fn palikudyom_run(
     ensures buffer { counts.new ≡ run_out_for (board_of board) windows.now tasks.now
         ticks jobs.now counts.old }
 {
-    ran_answer(run(board, windows, tasks, ticks, jobs, counts))
+    run(board, windows, tasks, ticks, jobs, counts).into()
 }

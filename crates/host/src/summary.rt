@@ -4,7 +4,7 @@ ghost use Rattle.scope.specs.Summary.{make_for, make_out_for, least_from_for, ma
 ghost use Rattle.tables.specs.Told.{board_of};
 ghost use Rattle.host.specs.Told.{c_amount};
 
-use crate::answer::{Answer, amount_answer};
+use crate::answer::Answer;
 use checker::margins::margins;
 use summaries::summary::{least_supply, make_summary};
 use tables::board::Board;
@@ -14,7 +14,7 @@ pub fn palikudyom_make_summary(board: Board, windows: &[u32], out: &mut [u32]) -
     ensures answer { result ≡ c_amount (make_for (board_of board) windows.now (length out.old)) }
     ensures buffer { out.new ≡ make_out_for (board_of board) windows.now out.old }
 {
-    amount_answer(make_summary(board, windows, out))
+    make_summary(board, windows, out).into()
 }
 
 // The least supply of a length, from the summary. Refusals: a table's, then 14 7.
@@ -26,7 +26,7 @@ pub fn palikudyom_least_supply_from(
 ) -> Answer
     ensures { result ≡ c_amount (least_from_for (board_of board) windows.now summary.now length) }
 {
-    amount_answer(least_supply(board, windows, summary, length))
+    least_supply(board, windows, summary, length).into()
 }
 
 // How many margins, the one of each length in `out`. Refusals: a table's, then 4 5 14 7 8.
@@ -43,5 +43,5 @@ pub fn palikudyom_margins(
     ensures buffer { out.new ≡ margins_out_for (board_of board) windows.now summary.now tasks.now
         lengths.now out.old }
 {
-    amount_answer(margins(board, windows, summary, tasks, lengths, out))
+    margins(board, windows, summary, tasks, lengths, out).into()
 }

@@ -16,7 +16,7 @@ use Rattle.scope.specs.Numbers.{bad_count}
 use Rattle.scope.specs.Limits.{most_tasks, most_ticks, most_jobs}
 use Rattle.scope.specs.Tasks.{Task, task, tasks_of, task_at}
 use Rattle.scope.specs.Jobs.{Job, jobs_of, job_at, release_of, task_of, work_of, in_order, apart, job_legal, bad_job}
-use Rattle.scope.specs.Answers.{Fault, Fault.fine, Fault.fault, Answer.given, Answer.refused, ◌or_else◌, group_fault, job_list_fault, job_fault, run_ticks_answer}
+use Rattle.scope.specs.Answers.{Fault.fine, Fault.fault, job_list_fault, job_fault}
 use Rattle.theory.specs.Numbers.{bool_cases, all_true, true_all, by_lexically}
 use Rattle.theory.specs.Lists.{pieces_length}
 use Rattle.theory.specs.Jobs.{JobRule, job_rules}
@@ -27,14 +27,6 @@ use Rattle.jobs.specs.Legal.{Tasks, Jobs, free_at, FreeTable}
 -- ---- the job list and the ticks, refusal 10
 
 module _ (n : ℕ) where
-  pub ticks_refused : most_ticks < n → refused 10 0 ≡ run_ticks_answer n
-  unfolding run_ticks_answer job_list_fault bad_count
-  ticks_refused h = rw (lt-ltb most_ticks n h)
-
-  pub ticks_taken : n ≤ most_ticks → given n ≡ run_ticks_answer n
-  unfolding run_ticks_answer job_list_fault bad_count
-  ticks_taken h = rw (le-ltb most_ticks n h)
-
   module _ (js : List ℕ) where
     pub bad_list : bad_count 3 most_jobs js ≡ true → fault 10 0 ≡ job_list_fault n js
     unfolding job_list_fault
@@ -44,38 +36,6 @@ module _ (n : ℕ) where
     pub good_list : bad_count 3 most_jobs js ≡ false → job_list_fault n [] ≡ job_list_fault n js
     unfolding job_list_fault bad_count
     good_list e = sym (rw e)
-
--- ---- the order, by cases
-
-module _ (js : List Job) (j : ℕ) where
-  pub order_first : j ≡ 0 → true ≡ in_order js j
-  order_first e = rw (eq-eqb j 0 e)
-
-  -- x is the job before it, y the job itself
-  module _ (u : j ≢ 0) (x y : Job) (ex : x ≡ job_at js (j - 1)) (ey : y ≡ job_at js j) where
-    before_is : x.release ≡ release_of js (j - 1)
-    before_is = ap (λ (z : Job). z.release) ex
-
-    this_is : y.release ≡ release_of js j
-    this_is = ap (λ (z : Job). z.release) ey
-
-    pub order_later : x.release < y.release → true ≡ in_order js j
-    order_later h = rw (ne_eqb j 0 u, ← before_is, ← this_is, lt-ltb x.release y.release h)
-
-    pub order_back : y.release ≤ x.release → x.release ≢ y.release → false ≡ in_order js j
-    order_back h e = rw (ne_eqb j 0 u, ← before_is, ← this_is, le-ltb x.release y.release h, ne_eqb x.release y.release e)
-
-    pub order_task : y.release ≤ x.release → x.release ≡ y.release → ltb x.task y.task ≡ in_order js j
-    order_task h e =
-        rw (
-          ne_eqb j 0 u,
-          ← before_is,
-          ← this_is,
-          le-ltb x.release y.release h,
-          eq-eqb x.release y.release e,
-          ← ap (λ (z : Job). z.task) ex,
-          ← ap (λ (z : Job). z.task) ey,
-        )
 
 -- ---- the first free tick of a task: the greatest of the earlier jobs' releases, T later each
 
@@ -268,10 +228,3 @@ module _ (ts : List Task) (n : ℕ) (js : List Job) (legal : bad_job ts n js ≡
 
 pub tasks_of_lem : (ts : List ℕ) → LegalGroup ts → Tasks (tasks_of ts)
 tasks_of_lem ts ok = record { few = omega (arith, pieces_length _ 3 task ts, ok.few); rules = ok.rules; within = ok.within }
-
--- ---- the checks in their order
-
--- what the three checks found is what the list's found
-pub in_turn_lem : (ts : List ℕ) (n : ℕ) (js : List ℕ) (x y z : Fault) → x ≡ group_fault ts → y ≡ job_list_fault n js → z ≡ job_fault (tasks_of ts) n (jobs_of js) →
-    (x or_else y or_else z) ≡ (group_fault ts or_else job_list_fault n js or_else job_fault (tasks_of ts) n (jobs_of js))
-in_turn_lem ts n js x y z ex ey ez = rw (ex, ey, ez)

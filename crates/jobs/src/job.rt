@@ -3,7 +3,7 @@ ghost use Rattle.scope.specs.Jobs.{jobs_of, job_at};
 ghost use Rattle.jobs.specs.Told.{job_of};
 
 // A job: the tick at which it is released, the index of its task, and its work.
-#[derive(Clone, Copy)]
+#[derive(Clone, Copy, Debug, PartialEq, Eq)]
 pub struct Job {
     pub release: u32,
     pub task: u32,
@@ -11,6 +11,7 @@ pub struct Job {
 }
 
 // Job j of a list of threes; past the last one the job 0 0 0.
+#[tactic(auto, using(theory::specs::Lists::piece_past, theory::specs::Lists::three_at))]
 pub fn job_at(jobs: &[u32], j: usize) -> Job
     ensures { job_of result ≡ job_at (jobs_of jobs.now) j }
 {

@@ -1,7 +1,7 @@
 -- The counts instant by instant, under any rule of choice, and the lent buffer that has them at its front
 use mathlib.Core.Path.{◌≡◌, refl, sym, ap, ◌∙◌}
 use mathlib.Core.Bool.{Bool, true, false, cond}
-use mathlib.Core.Logic.{inl, inr, ◌≢◌}
+use mathlib.Core.Logic.{◌≢◌}
 use mathlib.Core.Option.{Option, none, some}
 use mathlib.Core.List.{List}
 use Prim.Native.Nat.{ℕ, suc, ◌+◌, ◌-◌, ◌≤◌, ◌<◌}
@@ -9,10 +9,11 @@ use native.Mathlib.Omega.{arith}
 use native.Mathlib.Numerals.{add-one}
 use native.Mathlib.Decide.{ℕ_discrete, dec_lt, le_ind}
 use lib.Dec.{ltb}
-use lib.ListN.{length, get_or, set, drop, length-set, get_or-append}
+use lib.ListN.{length, get_or, drop, length-set, get_or-append}
 use lib.Seq.{get_or-set_same, get_or-set_other, get_or-append-add, get_or-drop, ext_get_or}
-use borrow.Author.Tests.{lt-ltb, le-ltb, eq-eqb, ne_eqb}
-use Rattle.scope.specs.Limits.{most_jobs}
+use borrow.Author.Tests.{le-ltb, eq-eqb, ne_eqb}
+use Rattle.std.specs.declared.option.Option as opt
+use Rattle.std.specs.declared.option.Option.TheVariants.{Some, None}
 use Rattle.scope.specs.Numbers.{sooner, first_by, IsFirst, first, listed, written}
 use Rattle.scope.specs.Jobs.{Job, release_of, work_of}
 use Rattle.scope.specs.Machine.{work_left}
@@ -21,8 +22,13 @@ use Rattle.theory.specs.Numbers.{least_is, none_first, some_first}
 use Rattle.theory.specs.Machine.{work_left_first, work_left_falls}
 use Rattle.theory.specs.Run.{listed_length, listed_at}
 use Rattle.theory.specs.Buffers.{length_written}
-use Rattle.machine.specs.Places.{no_job}
 use Rattle.machine.specs.Relation.{Ends, Kept, noted}
+
+pub none_some : {j : ℕ} → None ≡ Some j → ⊥
+none_some e = cc
+
+pub some_same : {i j : ℕ} → Some i ≡ Some j → i ≡ j
+some_same e = cc
 
 -- ---- the least that passes, one number further
 
@@ -80,36 +86,29 @@ module _ (σ : ℕ → Bool) (before : ℕ → ℕ → Bool) (js : List Job) whe
       (some_first (done_at (work_left σ before js) j) (suc (suc k)) (suc k) (omega arith) (eq-eqb (left (suc k) j) 0 (rw (add-one k) at e))
       (λ x a. ne_eqb (left x j) 0 (λ q. absurd (omega (arith, falls j l x k (omega arith)))))))
 
+  -- the count of a job that does not end in tick k
+  still : (k : ℕ) (e : opt.Option ℕ) → Ends (work_left σ before js k) (work_left σ before js (k + 1)) (length js) e →
+      (j : ℕ) → j < length js → e ≢ Some j → count σ before js (k + 1) j ≡ count σ before js k j
+  still k e en j a u = elim (dec_lt 0 (left k j)) [ yes q ↦ count_goes k j (en.other j a u q) | no q ↦ count_ended k j (omega arith) ]
+
   -- noting the job that ended in tick k makes the counts of instant k those of k + 1
-  pub kept_noted : (k e : ℕ) (d l : List ℕ) → length js ≤ length d → length js ≤ no_job →
+  pub kept_noted : (k : ℕ) (e : opt.Option ℕ) (d l : List ℕ) → length js ≤ length d →
       Ends (work_left σ before js k) (work_left σ before js (k + 1)) (length js) e →
       Kept (count σ before js k) (length js) d l → Kept (count σ before js (k + 1)) (length js) d (noted js (k + 1) e l)
   unfolding noted
-  kept_noted k e d l room few en kp = elim en.this [ inl q ↦ idle q | inr p ↦ ends p ]
-    where
-      c : ℕ
-      c = k + 1 - release_of js e
-
-      -- the count of any other job
-      rest : (j : ℕ) → j < length js → j ≢ e → count σ before js (k + 1) j ≡ count σ before js k j
-      rest j a u = elim (dec_lt 0 (left k j)) [ yes q ↦ count_goes k j (en.other j a u q) | no q ↦ count_ended k j (omega arith) ]
-
-      idle : e ≡ no_job → Kept (count σ before js (k + 1)) (length js) d (cond (ltb e most_jobs) (set l e c) l)
-      idle q =
-          rw (le-ltb e most_jobs (omega arith))
-          (record { same = kp.same; low = λ j a. kp.low j a ∙ sym (rest j a (omega arith)); high = kp.high })
-
-      ends : (e < length js) × (0 < left k e) × (left (k + 1) e ≡ 0) → Kept (count σ before js (k + 1)) (length js) d (cond (ltb e most_jobs) (set l e c) l)
-      ends p =
-          rw (lt-ltb e most_jobs (omega (arith, p.0)))
-          (record {
-            same = length-set l e c ∙ kp.same;
-            low = λ j a. elim (ℕ_discrete j e) [
-              | yes g ↦ rw g (get_or-set_same l e c 0 (omega (arith, p.0, kp.same)) ∙ sym (count_ends k e p.0 p.1 p.2))
-              | no g ↦ get_or-set_other l e j c 0 g ∙ kp.low j a ∙ sym (rest j a g)
-            ];
-            high = λ j a. get_or-set_other l e j c 0 (omega (arith, p.0)) ∙ kp.high j a;
-          })
+  kept_noted k None d l room en kp =
+      record { same = kp.same; low = λ j a. kp.low j a ∙ sym (still k None en j a (λ g. absurd (none_some g))); high = kp.high }
+  kept_noted k (Some e) d l room en kp =
+      let p = en.this e refl in
+      let c : ℕ = k + 1 - release_of js e in
+      record {
+        same = length-set l e c ∙ kp.same;
+        low = λ j a. elim (ℕ_discrete j e) [
+          | yes g ↦ rw g (get_or-set_same l e c 0 (omega (arith, p.0, kp.same)) ∙ sym (count_ends k e p.0 p.1 p.2))
+          | no g ↦ get_or-set_other l e j c 0 g ∙ kp.low j a ∙ sym (still k (Some e) en j a (λ h. g (some_same (sym h))))
+        ];
+        high = λ j a. get_or-set_other l e j c 0 (omega (arith, p.0)) ∙ kp.high j a;
+      }
 
 -- ---- the buffer as a list
 

@@ -9,6 +9,8 @@ use native.Mathlib.Omega.{arith}
 use lib.Arith.{digits_mod}
 use lib.Pow.{pow_pos, pow-lt, pow-add}
 use lib.Bits.{bit_and, bit_or, bit_xor, differ, and_step, or_step, xor_step, and_shr, or_shr, xor_shr}
+use Rattle.std.specs.Int.Bits.{and_self, xor_add_and}
+use Rattle.std.proofs.lemmas.Nat.{and-not, and_assoc, and_comm}
 use Rattle.scope.specs.Limits.{most_tasks}
 use Rattle.machine.specs.Bits.{digit}
 
@@ -79,3 +81,13 @@ digit_pow_other i j ne = elim (dec_lt i j) [ yes l ↦ digit_pow_below i j l | n
 -- the machine's `1 << i` at 32 bits
 pub one_shl : (i : ℕ) → i < most_tasks → (1 * 2 ^ i) % 2 ^ 32 ≡ 2 ^ i
 one_shl i l = ap (λ (y : ℕ). y % 2 ^ 32) (one-mul (2 ^ i)) ∙ mod-eq_of_lt (pow-lt l)
+
+-- the machine's `x & !(1 << i)` at 32 bits
+pub clear_shl : (x i : ℕ) → x < 2 ^ 32 → i < most_tasks → bit_and x (2 ^ 32 - 1 - (1 * 2 ^ i) % 2 ^ 32) ≡ bit_xor x (bit_and x (2 ^ i))
+clear_shl x i f l =
+    let m = 2 ^ i in
+    let without : bit_and (2 ^ 32 - 1 - m) x + bit_and m x ≡ x = and-not 32 m x (pow-lt l) f in
+    let apart : bit_xor x (bit_and x m) + bit_and x (bit_and x m) * 2 ≡ x + bit_and x m = xor_add_and x (bit_and x m) in
+    let twice : bit_and x (bit_and x m) ≡ bit_and x m = sym (and_assoc m x x) ∙ ap (λ (y : ℕ). bit_and y m) (and_self x) in
+    let swapped : bit_and x (2 ^ 32 - 1 - m) ≡ bit_and (2 ^ 32 - 1 - m) x = and_comm x (2 ^ 32 - 1 - m) in
+    ap (λ (y : ℕ). bit_and x (2 ^ 32 - 1 - y)) (one_shl i l) ∙ omega (arith, without, apart, twice, swapped, and_comm x m)

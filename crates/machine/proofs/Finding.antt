@@ -1,15 +1,17 @@
 -- The late job that the code finds is the lowest late one of the machine
-use mathlib.Core.Path.{◌≡◌, refl, sym, ap, ◌∙◌}
+use mathlib.Core.Path.{◌≡◌, refl, sym, ap, ◌∙◌, subst}
 use mathlib.Core.Bool.{Bool, true, false, ◌&&◌, cond, false≢true}
-use mathlib.Core.Logic.{◌⊎◌, inl, inr}
+use mathlib.Core.Logic.{inl, inr}
 use mathlib.Core.Option.{none, some}
 use mathlib.Core.List.{List}
 use Prim.Native.Nat.{ℕ, zero, suc, ◌≤◌, ◌<◌}
 use native.Mathlib.Omega.{arith}
 use native.Mathlib.Decide.{dec_lt}
-use lib.Dec.{leb, ltb}
+use lib.Dec.{leb}
 use lib.ListN.{length, get_or}
 use borrow.Author.Tests.{ltb-true, ltb-false, leb-true, le-leb}
+use Rattle.std.specs.declared.option.Option as opt
+use Rattle.std.specs.declared.option.Option.TheVariants.{Some, None}
 use Rattle.scope.specs.Limits.{most_tasks}
 use Rattle.scope.specs.Numbers.{first}
 use Rattle.scope.specs.Tasks.{Task, task_at}
@@ -17,13 +19,14 @@ use Rattle.scope.specs.Jobs.{Job, task_of, deadline}
 use Rattle.scope.specs.Run.{late}
 use Rattle.theory.specs.Numbers.{below_suc, and_both, both_and, bool_cases, fits_true, true_fits, none_first, some_first}
 use Rattle.jobs.specs.Legal.{Tasks, Jobs}
+use Rattle.machine.specs.declared.places.Place.{Place}
 use Rattle.machine.specs.Bits.{mem}
-use Rattle.machine.specs.Places.{due_at, held_at, no_job, lower_in, late_to}
+use Rattle.machine.specs.Places.{due_at, held_at, lower_than, lower_in, late_to}
 use Rattle.machine.specs.Relation.{Holds, Sound, Split}
 
 -- ---- the lowest late job of the tasks below n
 
-module _ (pending : ℕ) (places : List ℕ) (t : ℕ) where
+module _ (pending : ℕ) (places : List Place) (t : ℕ) where
   -- task i is pending, and its job is due at instant t or before
   abbrev late_task : ℕ → Bool
   late_task i = mem pending i && leb (due_at places i) t
@@ -36,8 +39,10 @@ module _ (pending : ℕ) (places : List ℕ) (t : ℕ) where
     job : held_at places at ≡ r
     least : (i : ℕ) → i < n → late_task i ≡ true → r ≤ held_at places i
 
-  abbrev Found : ℕ → ℕ → Type 0
-  Found n r = ((r ≡ no_job) × ((i : ℕ) → i < n → late_task i ≡ true → ⊥)) ⊎ ((r < no_job) × Lowest n r)
+  -- r is it, or none of them is late
+  abbrev Found : ℕ → opt.Option ℕ → Type 0
+  Found n None = (i : ℕ) → i < n → late_task i ≡ true → ⊥
+  Found n (Some r) = Lowest n r
 
   -- a task more that is not late, or not lower
   lowest_keep : (n r : ℕ) → (late_task n ≡ true → r ≤ held_at places n) → Lowest n r → Lowest (suc n) r
@@ -59,30 +64,26 @@ module _ (pending : ℕ) (places : List ℕ) (t : ℕ) where
     least = below_suc (λ i. late_task i ≡ true → held_at places n ≤ held_at places i) n h (λ z. omega arith);
   }
 
-  module _ (small : (i : ℕ) → i < most_tasks → late_task i ≡ true → held_at places i < no_job) where
-    late_found : (n : ℕ) → n ≤ most_tasks → Found n (late_to pending places t n)
-    unfolding late_to lower_in
-    late_found zero l = inl (refl, λ i a e. absurd (omega arith))
-    late_found (suc n) l = go (late_found n (omega arith)) (late_task n) refl
-      where
-        best : ℕ
-        best = late_to pending places t n
+  late_found : (n : ℕ) → Found n (late_to pending places t n)
+  unfolding late_to lower_in
+  late_found zero = λ i a e. absurd (omega arith)
+  late_found (suc n) = go (late_to pending places t n) (late_found n) (late_task n) refl
+    where
+      two : (best : opt.Option ℕ) → Found n best → late_task n ≡ true → (b : Bool) → lower_than best (held_at places n) ≡ b →
+          Found (suc n) (cond b (Some (held_at places n)) best)
+      two None f e true q = lowest_take n e (λ i a z. absurd (f i a z))
+      two None f e false q = absurd (false≢true (sym q))
+      two (Some r) f e true q = lowest_take n e (λ i a z. omega (arith, f.least i a z, ltb-true (held_at places n) r q))
+      two (Some r) f e false q = lowest_keep n r (λ z. ltb-false (held_at places n) r q) f
 
-        two : Found n best → late_task n ≡ true → (b : Bool) → ltb (held_at places n) best ≡ b → Found (suc n) (cond b (held_at places n) best)
-        two (inl p) e true q = inr (small n (omega arith) e, lowest_take n e (λ i a z. absurd (p.1 i a z)))
-        two (inl p) e false q = absurd (omega (arith, ltb-false (held_at places n) best q, small n (omega arith) e, p.0))
-        two (inr p) e true q =
-            inr (small n (omega arith) e, lowest_take n e (λ i a z. omega (arith, p.1.least i a z, ltb-true (held_at places n) best q)))
-        two (inr p) e false q = inr (p.0, lowest_keep n best (λ z. ltb-false (held_at places n) best q) p.1)
-
-        go : Found n best → (b : Bool) → late_task n ≡ b → Found (suc n) (cond (b && ltb (held_at places n) best) (held_at places n) best)
-        go p true e = two p e (ltb (held_at places n) best) refl
-        go (inl p) false e = inl (p.0, below_suc (λ i. late_task i ≡ true → ⊥) n p.1 (λ z. false≢true (sym e ∙ z)))
-        go (inr p) false e = inr (p.0, lowest_keep n best (λ z. absurd (false≢true (sym e ∙ z))) p.1)
+      go : (best : opt.Option ℕ) → Found n best → (b : Bool) → late_task n ≡ b → Found (suc n) (cond (b && lower_than best (held_at places n)) (Some (held_at places n)) best)
+      go best f true e = two best f e (lower_than best (held_at places n)) refl
+      go None f false e = below_suc (λ i. late_task i ≡ true → ⊥) n f (λ z. false≢true (sym e ∙ z))
+      go (Some r) f false e = lowest_keep n r (λ z. absurd (false≢true (sym e ∙ z))) f
 
 -- ---- it is the machine's, in a state that shows the work left at instant t
 
-module _ (ts : List Task) (js : List Job) (tasks : Tasks ts) (legal : Jobs ts js) (work : List ℕ) (t pending next : ℕ) (places : List ℕ)
+module _ (ts : List Task) (js : List Job) (tasks : Tasks ts) (legal : Jobs ts js) (work : List ℕ) (t pending next : ℕ) (places : List Place)
     (h : Holds ts js work pending next places) (sp : Split js t t next) where
   -- the job of a late task is late
   task_late : (i : ℕ) → i < most_tasks → late_task pending places t i ≡ true →
@@ -112,39 +113,39 @@ module _ (ts : List Task) (js : List Job) (tasks : Tasks ts) (legal : Jobs ts js
       (low, both_and {a = mem pending i} y.0 (le-leb (due_at places i) t (omega (arith, z.due, d, p.0))), y.1)
 
   found : Found pending places t most_tasks (late_to pending places t most_tasks)
-  found = late_found pending places t (λ i l e. omega (arith, (task_late i l e).0, legal.few)) most_tasks (omega arith)
+  found = late_found pending places t most_tasks
 
-  pub none_late : no_job ≤ late_to pending places t most_tasks → first (late ts js t work) (length js) ≡ none
-  none_late l = none_first (late ts js t work) (length js) (λ j a. elim (bool_cases (late ts js t work j)) [ inl e ↦ absurd (no j a e) | inr e ↦ e ])
+  pub none_late : late_to pending places t most_tasks ≡ None → first (late ts js t work) (length js) ≡ none
+  none_late e = none_first (late ts js t work) (length js) (λ j a. elim (bool_cases (late ts js t work j)) [
+    | inl q ↦ let y = late_task_lem j a q in absurd (none (task_of js j) y.0 y.1)
+    | inr q ↦ q
+  ])
     where
-      no : (j : ℕ) → j < length js → late ts js t work j ≡ true → ⊥
-      no j a e = elim found [
-        | inl p ↦ let y = late_task_lem j a e in p.1 (task_of js j) y.0 y.1
-        | inr p ↦ absurd (omega (arith, p.0))
-      ]
+      none : (i : ℕ) → i < most_tasks → late_task pending places t i ≡ true → ⊥
+      none = subst (Found pending places t most_tasks) e found
 
-  pub one_late : late_to pending places t most_tasks < no_job → first (late ts js t work) (length js) ≡ some (late_to pending places t most_tasks)
-  one_late l = go (late_to pending places t most_tasks) l found
+  pub one_late : (r : ℕ) → late_to pending places t most_tasks ≡ Some r → first (late ts js t work) (length js) ≡ some r
+  one_late r e =
+      some_first (late ts js t work) (length js) r (omega (arith, q.job, y.0)) (ap (late ts js t work) (sym q.job) ∙ y.1)
+      (λ j a. elim (bool_cases (late ts js t work j)) [
+        | inl e ↦
+            let z = late_task_lem j (omega (arith, q.job, y.0)) e in
+            absurd (omega (arith, q.least (task_of js j) z.0 z.1, z.2))
+        | inr e ↦ e
+      ])
     where
-      go : (r : ℕ) → r < no_job → Found pending places t most_tasks r → first (late ts js t work) (length js) ≡ some r
-      go r l (inl p) = absurd (omega (arith, p.0))
-      go r l (inr p) =
-          let q = p.1 in
-          let y = task_late q.at q.bound q.is in
-          some_first (late ts js t work) (length js) r (omega (arith, q.job, y.0)) (ap (late ts js t work) (sym q.job) ∙ y.1)
-          (λ j a. elim (bool_cases (late ts js t work j)) [
-            | inl e ↦
-                let z = late_task_lem j (omega (arith, q.job, y.0)) e in
-                absurd (omega (arith, q.least (task_of js j) z.0 z.1, z.2))
-            | inr e ↦ e
-          ])
+      q : Lowest pending places t most_tasks r
+      q = subst (Found pending places t most_tasks) e found
+
+      y : (held_at places q.at < length js) × (late ts js t work (held_at places q.at) ≡ true)
+      y = task_late q.at q.bound q.is
 
   -- before every pending deadline the code finds none
-  pub early_none : (soon : ℕ) → Sound pending places soon → t < soon → late_to pending places t most_tasks ≡ no_job
-  early_none soon ok l = elim found [
-    | inl p ↦ p.0
-    | inr p ↦
-        let q = p.1 in
-        let y = and_both (mem pending q.at) (leb (due_at places q.at) t) q.is in
-        absurd (omega (arith, ok q.at q.bound y.0, leb-true (due_at places q.at) t y.1))
-  ]
+  pub early_none : (soon : ℕ) → Sound pending places soon → t < soon → late_to pending places t most_tasks ≡ None
+  early_none soon ok l = go (late_to pending places t most_tasks) found
+    where
+      go : (r : opt.Option ℕ) → Found pending places t most_tasks r → r ≡ None
+      go None f = refl
+      go (Some r) q =
+          let y = and_both (mem pending q.at) (leb (due_at places q.at) t) q.is in
+          absurd (omega (arith, ok q.at q.bound y.0, leb-true (due_at places q.at) t y.1))

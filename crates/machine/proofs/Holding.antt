@@ -6,38 +6,38 @@ use mathlib.Core.List.{List}
 use Prim.Native.Nat.{ℕ, zero, suc, ◌+◌, ◌-◌, ◌≤◌, ◌<◌, min}
 use native.Mathlib.Omega.{arith}
 use native.Mathlib.Decide.{ℕ_discrete}
-use lib.Dec.{ltb, eqb}
+use lib.Dec.{eqb}
 use lib.ListN.{length, get_or, set}
 use lib.Seq.{get_or-set_same, get_or-set_other}
-use borrow.Author.Tests.{lt-ltb, eqb-true, eqb-false}
+use borrow.Author.Tests.{eqb-true, eqb-false}
+use Rattle.std.specs.declared.option.Option.{Option}
+use Rattle.std.specs.declared.option.Option.TheVariants.{Some, None}
 use Rattle.scope.specs.Limits.{most_tasks}
 use Rattle.scope.specs.Tasks.{Task, task_at}
 use Rattle.scope.specs.Jobs.{Job, job_at, release_of, task_of, work_of, deadline}
 use Rattle.scope.specs.Machine.{chosen, worked, tick}
 use Rattle.theory.specs.Numbers.{bool_cases}
 use Rattle.jobs.specs.Legal.{Tasks, Jobs}
+use Rattle.machine.specs.declared.places.Place.{Place}
 use Rattle.machine.specs.Bits.{mem, added, removed}
-use Rattle.machine.specs.Places.{left_at, due_at, held_at, no_job, put_at, served_at, ended_at}
-use Rattle.machine.specs.State.{Whole, next_of, feed, release_at}
+use Rattle.machine.specs.Places.{left_at, due_at, held_at, put_at, served_at, ended_at}
+use Rattle.machine.specs.State.{Whole, next_of, pending_of, feed, release_at}
 use Rattle.machine.specs.Relation.{PlaceOf, Holds, Sound, Split, Ends}
 use Rattle.machine.proofs.Sets.{added_same, added_other, removed_same, removed_other}
-use Rattle.machine.proofs.PlaceLaws.{put_length, put_other, put_own, served_idle, served_length, served_other, served_own}
-use Rattle.machine.proofs.PlaceLaws.{ended_idle, ended_last, ended_more}
+use Rattle.machine.proofs.PlaceLaws.{put_length, put_other, put_own, served_length, served_other, served_own}
+use Rattle.machine.proofs.PlaceLaws.{ended_last, ended_more}
+use Rattle.machine.proofs.Counting.{none_some, some_same}
 use Rattle.machine.proofs.Pick.{Chosen}
 
 -- the work left when the job of task i has got a tick
-abbrev served : List ℕ → ℕ → List ℕ → List ℕ
+abbrev served : List Place → ℕ → List ℕ → List ℕ
 served places i work = set work (held_at places i) (get_or work (held_at places i) 0 - 1)
-
--- the tasks that are pending after a tick that went to task i
-abbrev pub pending_after : ℕ → ℕ → List ℕ → ℕ
-pending_after pending i places = cond (ltb (ended_at i places) no_job) (removed pending i) pending
 
 module _ (ts : List Task) (js : List Job) (tasks : Tasks ts) (legal : Jobs ts js) (work : List ℕ) where
   -- ---- releasing a job
 
   -- where no job is late at instant k, the task of a job released at k has no pending job: the one before it was due T ticks after its release
-  free_at_lem : (pending next : ℕ) (places : List ℕ) (k m : ℕ) → Holds ts js work pending next places → next ≤ m → m < length js → release_of js m ≡ k →
+  free_at_lem : (pending next : ℕ) (places : List Place) (k m : ℕ) → Holds ts js work pending next places → next ≤ m → m < length js → release_of js m ≡ k →
       ((j : ℕ) → j < length js → deadline ts js j ≤ k → get_or work j 0 ≡ 0) → mem pending (task_of js m) ≡ false
   free_at_lem pending next places k m h a b e ontime = elim (bool_cases (mem pending i)) [ inl q ↦ absurd (taken q) | inr q ↦ q ]
     where
@@ -54,12 +54,12 @@ module _ (ts : List Task) (js : List Job) (tasks : Tasks ts) (legal : Jobs ts js
           omega (arith, ontime j (omega (arith, z.known)) due, z.left, z.some)
 
   -- job m, the next, takes its task's place, where that is free
-  module _ (pending m : ℕ) (places : List ℕ) (h : Holds ts js work pending m places) (l : m < length js) (e : get_or work m 0 ≡ work_of js m)
+  module _ (pending m : ℕ) (places : List Place) (h : Holds ts js work pending m places) (l : m < length js) (e : get_or work m 0 ≡ work_of js m)
       (f : mem pending (task_of js m) ≡ false) where
     abbrev i : ℕ
     i = task_of js m
 
-    abbrev after : List ℕ
+    abbrev after : List Place
     after = put_at places i (work_of js m) (deadline ts js m) m
 
     low : i < most_tasks
@@ -113,8 +113,8 @@ module _ (ts : List Task) (js : List Job) (tasks : Tasks ts) (legal : Jobs ts js
 
   -- v is w after that
   pub record Fed (k : ℕ) (w v : Whole) : Type 0 where
-    pub holds : Holds ts js work v.state.pending v.state.next v.places
-    pub soon : Sound v.state.pending v.places v.state.soon
+    pub holds : Holds ts js work v.state.pending.bits v.state.next v.places
+    pub soon : Sound v.state.pending.bits v.places v.state.soon
     pub split : Split js (k + 1) (k + 1) v.state.next
     pub backlog : v.state.backlog ≡ w.state.backlog
     pub instant : v.state.instant ≡ w.state.instant
@@ -122,8 +122,8 @@ module _ (ts : List Task) (js : List Job) (tasks : Tasks ts) (legal : Jobs ts js
 
   module _ (k : ℕ) (ontime : (j : ℕ) → j < length js → deadline ts js j ≤ k → get_or work j 0 ≡ 0)
       (new : (j : ℕ) → k ≤ release_of js j → get_or work j 0 ≡ work_of js j) where
-    feed_holds : (f : ℕ) (w : Whole) → w.state.instant ≡ k → Holds ts js work w.state.pending w.state.next w.places →
-        Sound w.state.pending w.places w.state.soon → Split js k (k + 1) w.state.next → f + w.state.next ≡ length js → Fed k w (feed ts js f w)
+    feed_holds : (f : ℕ) (w : Whole) → w.state.instant ≡ k → Holds ts js work w.state.pending.bits w.state.next w.places →
+        Sound w.state.pending.bits w.places w.state.soon → Split js k (k + 1) w.state.next → f + w.state.next ≡ length js → Fed k w (feed ts js f w)
     unfolding feed
     feed_holds zero w at h ok sp e = record {
       holds = h;
@@ -144,14 +144,14 @@ module _ (ts : List Task) (js : List Job) (tasks : Tasks ts) (legal : Jobs ts js
         l : m < length js
         l = omega arith
 
-        go : (Holds ts js work next.state.pending (m + 1) next.places → Sound next.state.pending next.places next.state.soon →
+        go : (Holds ts js work next.state.pending.bits (m + 1) next.places → Sound next.state.pending.bits next.places next.state.soon →
             Split js k (k + 1) (m + 1) → f + (m + 1) ≡ length js → Fed k next (feed ts js f next)) →
             (t : Bool) → eqb (release_of js m) w.state.instant ≡ t → Fed k w (cond t (feed ts js f next) w)
         go more true q =
             let r : release_of js m ≡ k = eqb-true (release_of js m) w.state.instant q ∙ at in
-            let free = free_at_lem w.state.pending m w.places k m h (omega arith) l r ontime in
-            let y = more (put_holds w.state.pending m w.places h l (new m (omega arith)) free)
-            (put_sound w.state.pending m w.places h l (new m (omega arith)) free w.state.soon ok)
+            let free = free_at_lem w.state.pending.bits m w.places k m h (omega arith) l r ontime in
+            let y = more (put_holds w.state.pending.bits m w.places h l (new m (omega arith)) free)
+            (put_sound w.state.pending.bits m w.places h l (new m (omega arith)) free w.state.soon ok)
             (record {
               bound = omega (arith, l);
               early = λ j a. elim (ℕ_discrete j m) [ yes g ↦ omega (arith, ap (release_of js) g) | no g ↦ sp.early j (omega arith) ];
@@ -173,8 +173,8 @@ module _ (ts : List Task) (js : List Job) (tasks : Tasks ts) (legal : Jobs ts js
               end = refl;
             }
 
-    pub release_holds : (w : Whole) → w.state.instant ≡ k → Holds ts js work w.state.pending w.state.next w.places →
-        Sound w.state.pending w.places w.state.soon → Split js k k w.state.next → Fed k w (release_at ts js w)
+    pub release_holds : (w : Whole) → w.state.instant ≡ k → Holds ts js work w.state.pending.bits w.state.next w.places →
+        Sound w.state.pending.bits w.places w.state.soon → Split js k k w.state.next → Fed k w (release_at ts js w)
     unfolding release_at
     release_holds w at h ok sp =
         feed_holds (length js - w.state.next) w at h ok
@@ -184,7 +184,7 @@ module _ (ts : List Task) (js : List Job) (tasks : Tasks ts) (legal : Jobs ts js
   -- ---- one tick of work
 
   -- the job of task i
-  module _ (pending next : ℕ) (places : List ℕ) (i : ℕ) (size : length work ≡ length js) (bound : next ≤ length js) (l : i < most_tasks)
+  module _ (pending next : ℕ) (places : List Place) (i : ℕ) (size : length work ≡ length js) (bound : next ≤ length js) (l : i < most_tasks)
       (h : Holds ts js work pending next places) (m : mem pending i ≡ true) where
     z : PlaceOf ts js work next places i
     z = h.place i l m
@@ -204,10 +204,10 @@ module _ (ts : List Task) (js : List Job) (tasks : Tasks ts) (legal : Jobs ts js
     off_c j u = get_or-set_other work c j (get_or work c 0 - 1) 0 u
 
     -- the place of another task
-    still : (x : ℕ) → x < most_tasks → x ≢ i → mem pending x ≡ true → PlaceOf ts js (served places i work) next (served_at i places) x
+    still : (x : ℕ) → x < most_tasks → x ≢ i → mem pending x ≡ true → PlaceOf ts js (served places i work) next (served_at (Some i) places) x
     still x a u q =
         let y = h.place x a q in
-        let e = served_other places i l x u in
+        let e = served_other places i x u in
         let w : held_at places x ≢ c = λ g. u (sym y.same ∙ ap (task_of js) g ∙ z.same) in
         record {
           known = omega (arith, e.2, y.known);
@@ -218,9 +218,9 @@ module _ (ts : List Task) (js : List Job) (tasks : Tasks ts) (legal : Jobs ts js
         }
 
     -- the place of its own task, where work is left
-    going : 0 < v → PlaceOf ts js (served places i work) next (served_at i places) i
+    going : 0 < v → PlaceOf ts js (served places i work) next (served_at (Some i) places) i
     going p =
-        let e = served_own places i l h.size in
+        let e = served_own places i h.size l in
         record {
           known = omega (arith, e.2, z.known);
           same = ap (task_of js) e.2 ∙ z.same;
@@ -230,20 +230,20 @@ module _ (ts : List Task) (js : List Job) (tasks : Tasks ts) (legal : Jobs ts js
         }
 
     -- what a task shows of its job stays
-    shows : (x : ℕ) → held_at (served_at i places) x ≡ held_at places x
-    shows x = elim (ℕ_discrete x i) [ yes g ↦ rw g (served_own places i l h.size).2 | no g ↦ (served_other places i l x g).2 ]
+    shows : (x : ℕ) → held_at (served_at (Some i) places) x ≡ held_at places x
+    shows x = elim (ℕ_discrete x i) [ yes g ↦ rw g (served_own places i h.size l).2 | no g ↦ (served_other places i x g).2 ]
 
     -- another job keeps its place
     kept : (j : ℕ) → j < next → j ≢ c → 0 < get_or (served places i work) j 0 →
-        (task_of js j ≢ i) × (mem pending (task_of js j) ≡ true) × (held_at (served_at i places) (task_of js j) ≡ j)
+        (task_of js j ≢ i) × (mem pending (task_of js j) ≡ true) × (held_at (served_at (Some i) places) (task_of js j) ≡ j)
     kept j a u q =
         let y = h.held j a (omega (arith, off_c j u)) in
         ((λ g. u (sym y.1 ∙ ap (held_at places) g)), y.0, shows (task_of js j) ∙ y.1)
 
     -- it ended with the tick
-    work_last : left_at places i ≡ 1 → Holds ts js (served places i work) (removed pending i) next (served_at i places)
+    work_last : left_at places i ≡ 1 → Holds ts js (served places i work) (removed pending i) next (served_at (Some i) places)
     work_last e = record {
-      size = served_length places i l ∙ h.size;
+      size = served_length places i ∙ h.size;
       place = λ x a q. elim (ℕ_discrete i x) [
         | yes g ↦ absurd (false≢true (sym (removed_same pending i) ∙ ap (mem (removed pending i)) g ∙ q))
         | no g ↦ still x a (λ y. g (sym y)) (sym (removed_other pending i x g) ∙ q)
@@ -255,81 +255,82 @@ module _ (ts : List Task) (js : List Job) (tasks : Tasks ts) (legal : Jobs ts js
     }
 
     -- it has work left
-    work_more : left_at places i ≢ 1 → Holds ts js (served places i work) pending next (served_at i places)
+    work_more : left_at places i ≢ 1 → Holds ts js (served places i work) pending next (served_at (Some i) places)
     work_more u = record {
-      size = served_length places i l ∙ h.size;
+      size = served_length places i ∙ h.size;
       place = λ x a q. elim (ℕ_discrete i x) [ yes g ↦ rw (← g) (going (omega (arith, z.some))) | no g ↦ still x a (λ y. g (sym y)) q ];
       held = λ j a q. elim (ℕ_discrete j c) [
         | yes g ↦ (
           ap (λ (x : ℕ). mem pending (task_of js x)) g ∙ ap (mem pending) z.same ∙ m,
-          ap (λ (x : ℕ). held_at (served_at i places) (task_of js x)) g ∙ ap (held_at (served_at i places)) z.same ∙ shows i ∙ sym g,
+          ap (λ (x : ℕ). held_at (served_at (Some i) places) (task_of js x)) g ∙ ap (held_at (served_at (Some i) places)) z.same ∙ shows i ∙ sym g,
         )
         | no g ↦ let y = kept j a g q in (y.1, y.2)
       ];
     }
 
-    work_holds : Holds ts js (served places i work) (pending_after pending i places) next (served_at i places)
+    work_holds : Holds ts js (served places i work) (pending_of (Some i) (ended_at (Some i) places) pending) next (served_at (Some i) places)
     work_holds = elim (ℕ_discrete (left_at places i) 1) [
-      | yes e ↦ rw (ap (λ (x : ℕ). ltb x no_job) (ended_last places i l e) ∙ lt-ltb c no_job (omega (arith, z.known, legal.few))) (work_last e)
-      | no u ↦ rw (ap (λ (x : ℕ). ltb x no_job) (ended_more places i l u)) (work_more u)
+      | yes e ↦ rw (ended_last places i e) (work_last e)
+      | no u ↦ rw (ended_more places i u) (work_more u)
     ]
 
     -- it ends where no work is left
-    work_ends : Ends work (served places i work) (length js) (ended_at i places)
+    work_ends : Ends work (served places i work) (length js) (ended_at (Some i) places)
     work_ends = elim (ℕ_discrete (left_at places i) 1) [
-      | yes e ↦ rw (ended_last places i l e) (record {
-        other = λ j a u q. omega (arith, off_c j u);
-        this = inr (omega (arith, z.known), omega (arith, z.left, z.some), omega (arith, at_c));
+      | yes e ↦ rw (ended_last places i e) (record {
+        other = λ j a u q. omega (arith, off_c j (λ g. u (ap Some (sym g))));
+        this = λ j g. rw (← some_same g) (omega (arith, z.known), omega (arith, z.left, z.some), omega (arith, at_c));
       })
-      | no n ↦ rw (ended_more places i l n) (record {
+      | no n ↦ rw (ended_more places i n) (record {
         other = λ j a u q. elim (ℕ_discrete j c) [
           | yes g ↦ omega (arith, ap (λ (x : ℕ). get_or (served places i work) x 0) g, at_c, z.some)
           | no g ↦ omega (arith, off_c j g)
         ];
-        this = inl refl;
+        this = λ j g. absurd (none_some g);
       })
     ]
 
-    work_sound : (soon : ℕ) → Sound pending places soon → Sound (pending_after pending i places) (served_at i places) soon
+    work_sound : (soon : ℕ) → Sound pending places soon → Sound (pending_of (Some i) (ended_at (Some i) places) pending) (served_at (Some i) places) soon
     work_sound soon ok x a q = elim (ℕ_discrete x i) [
-      | yes g ↦ omega (arith, (served_own places i l h.size).1, ok i l m, ap (due_at (served_at i places)) g)
-      | no g ↦ omega (arith, (served_other places i l x g).1, ok x a (was x g (ltb (ended_at i places) no_job) q))
+      | yes g ↦ omega (arith, (served_own places i h.size l).1, ok i l m, ap (due_at (served_at (Some i) places)) g)
+      | no g ↦ omega (arith, (served_other places i x g).1, ok x a (was x g (ended_at (Some i) places) q))
     ]
       where
-        was : (x : ℕ) → x ≢ i → (t : Bool) → mem (cond t (removed pending i) pending) x ≡ true → mem pending x ≡ true
-        was x u true e = sym (removed_other pending i x (λ g. u (sym g))) ∙ e
-        was x u false e = e
+        was : (x : ℕ) → x ≢ i → (d : Option ℕ) → mem (pending_of (Some i) d pending) x ≡ true → mem pending x ≡ true
+        was x u (Some d) e = sym (removed_other pending i x (λ g. u (sym g))) ∙ e
+        was x u None e = e
 
   -- ---- the work of tick k, under any rule of choice
 
   -- the tick goes to task i, or is not supplied and goes to none
-  module _ (σ : ℕ → Bool) (before : ℕ → ℕ → Bool) (k pending next : ℕ) (places : List ℕ) (i : ℕ) (size : length work ≡ length js)
+  module _ (σ : ℕ → Bool) (before : ℕ → ℕ → Bool) (k pending next : ℕ) (places : List Place) (i : Option ℕ) (size : length work ≡ length js)
       (h : Holds ts js work pending next places) (bound : next ≤ length js) (is : Chosen before js k work pending places i) where
     -- to whom it goes
-    abbrev to : ℕ
-    to = cond (σ k) i most_tasks
+    abbrev to : Option ℕ
+    to = cond (σ k) i None
 
     -- what the tick leaves: x is the work left, p the places, d the job that ended, s the pending tasks
-    pub record Worked (x p : List ℕ) (d s : ℕ) : Type 0 where
+    pub record Worked (x : List ℕ) (p : List Place) (d : Option ℕ) (s : ℕ) : Type 0 where
       pub holds : Holds ts js x s next p
       pub ends : Ends work x (length js) d
       pub soon : (soon : ℕ) → Sound pending places soon → Sound s p soon
 
-    idle : Worked work places no_job pending
-    idle = record { holds = h; ends = record { other = λ j a u q. q; this = inl refl }; soon = λ soon ok. ok }
+    -- after a tick that goes to task i
+    abbrev Left : List ℕ → Option ℕ → Type 0
+    Left x i = Worked x (served_at i places) (ended_at i places) (pending_of i (ended_at i places) pending)
 
-    none_served : (x : ℕ) → most_tasks ≤ x → Worked work (served_at x places) (ended_at x places) (pending_after pending x places)
-    none_served x a = rw (ap (λ (y : ℕ). ltb y no_job) (ended_idle places x a), served_idle places x a, ended_idle places x a) idle
+    idle : Left work None
+    unfolding served_at ended_at
+    idle = record { holds = h; ends = record { other = λ j a u q. q; this = λ j g. absurd (none_some g) }; soon = λ soon ok. ok }
 
-    pub tick_worked : Worked (tick σ before js k work) (served_at to places) (ended_at to places) (pending_after pending to places)
+    pub tick_worked : Left (tick σ before js k work) to
     unfolding tick
-    tick_worked = go (σ k) is
+    tick_worked = go (σ k) i is
       where
-        go : (t : Bool) → Chosen before js k work pending places i → let x : ℕ = cond t i most_tasks in
-            Worked (cond t (worked (chosen before js k work) work) work) (served_at x places) (ended_at x places) (pending_after pending x places)
-        go false p = none_served most_tasks (omega arith)
-        go true (inl p) = rw p.1 (none_served i p.0)
-        go true (inr p) = rw p.2 (record {
+        go : (t : Bool) (i : Option ℕ) → Chosen before js k work pending places i → Left (cond t (worked (chosen before js k work) work) work) (cond t i None)
+        go false i p = idle
+        go true None p = rw p idle
+        go true (Some i) p = rw p.2 (record {
           holds = work_holds pending next places i size bound p.0 h p.1;
           ends = work_ends pending next places i size bound p.0 h p.1;
           soon = work_sound pending next places i size bound p.0 h p.1;

@@ -10,15 +10,18 @@ use native.Mathlib.Decide.{ℕ_discrete, dec_lt}
 use lib.Dec.{ltb}
 use lib.ListN.{length, get_or}
 use borrow.Author.Tests.{ltb-true, ltb-false, lt-ltb, le-ltb, eq-eqb, ne_eqb}
-use Rattle.scope.specs.Limits.{most_tasks, most_number}
+use Rattle.std.specs.declared.option.Option as opt
+use Rattle.std.specs.declared.option.Option.TheVariants.{Some, None}
+use Rattle.scope.specs.Limits.{most_tasks}
 use Rattle.scope.specs.Numbers.{sooner, first_by}
 use Rattle.scope.specs.Tasks.{Task}
 use Rattle.scope.specs.Jobs.{Job, release_of, task_of, deadline}
 use Rattle.scope.specs.Machine.{pending, chosen}
 use Rattle.theory.specs.Numbers.{below_suc, fits_true, true_fits, first_passes}
 use Rattle.jobs.specs.Legal.{Tasks, Jobs}
+use Rattle.machine.specs.declared.places.Place.{Place}
 use Rattle.machine.specs.Bits.{mem, better_of, pick_to}
-use Rattle.machine.specs.Places.{due_at, held_at, soonest_of}
+use Rattle.machine.specs.Places.{due_at, held_at, due_of, soonest_of}
 use Rattle.machine.specs.Rule.{rule, choice}
 use Rattle.machine.specs.Relation.{Holds, Sound, Split}
 
@@ -78,8 +81,10 @@ module _ (q : ℕ → Bool) (due : ℕ → ℕ) where
   abbrev key : ℕ → ℕ
   key i = most_tasks * due i + i
 
-  abbrev Picked : ℕ → ℕ → Type 0
-  Picked n b = ((b ≡ most_tasks) × ((i : ℕ) → i < n → q i ≡ true → ⊥)) ⊎ ((b < n) × (q b ≡ true) × ((i : ℕ) → i < n → q i ≡ true → key b ≤ key i))
+  -- the best of the numbers below n that pass, or none passes
+  abbrev Picked : ℕ → opt.Option ℕ → Type 0
+  Picked n None = (i : ℕ) → i < n → q i ≡ true → ⊥
+  Picked n (Some b) = (b < n) × (q b ≡ true) × ((i : ℕ) → i < n → q i ≡ true → key b ≤ key i)
 
   -- the better of two is one of them, and its key is the lesser
   better_key : (b n : ℕ) → n < most_tasks → b < n → (t : Bool) → ltb (due n) (due b) ≡ t →
@@ -89,38 +94,31 @@ module _ (q : ℕ → Bool) (due : ℕ → ℕ) where
 
   picked : (n : ℕ) → n ≤ most_tasks → Picked n (pick_to q due n)
   unfolding pick_to better_of
-  picked zero l = inl (refl, λ i h e. absurd (omega arith))
+  picked zero l = λ i h e. absurd (omega arith)
   picked (suc n) l = go (q n) refl (pick_to q due n) (picked n (omega arith))
     where
-      go : (t : Bool) → q n ≡ t → (b : ℕ) → Picked n b →
-          Picked (suc n) (cond t (cond (ltb b most_tasks) (cond (ltb (due n) (due b)) n b) n) b)
-      go false e b (inl p) = inl (p.0, below_suc (λ i. q i ≡ true → ⊥) n p.1 (λ z. false≢true (sym e ∙ z)))
-      go false e b (inr p) =
-          inr (omega (arith, p.0), p.1, below_suc (λ i. q i ≡ true → key b ≤ key i) n p.2 (λ z. absurd (false≢true (sym e ∙ z))))
-      go true e b (inl p) =
-          rw (le-ltb b most_tasks (omega (arith, p.0)))
-          (inr (omega arith, e, below_suc (λ i. q i ≡ true → key n ≤ key i) n (λ i h z. absurd (p.1 i h z)) (λ z. omega arith)))
-      go true e b (inr p) =
+      go : (t : Bool) → q n ≡ t → (b : opt.Option ℕ) → Picked n b → Picked (suc n) (cond t (Some (better_of due b n)) b)
+      go false e None p = below_suc (λ i. q i ≡ true → ⊥) n p (λ z. false≢true (sym e ∙ z))
+      go false e (Some b) p = (omega (arith, p.0), p.1, below_suc (λ i. q i ≡ true → key b ≤ key i) n p.2 (λ z. absurd (false≢true (sym e ∙ z))))
+      go true e None p = (omega arith, e, below_suc (λ i. q i ≡ true → key n ≤ key i) n (λ i h z. absurd (p i h z)) (λ z. omega arith))
+      go true e (Some b) p =
           let y = better_key b n (omega arith) p.0 (ltb (due n) (due b)) refl in
-          let r : ℕ = cond (ltb (due n) (due b)) n b in
-          rw (lt-ltb b most_tasks (omega (arith, p.0)))
-          (inr (
+          let r : ℕ = cond (ltb (due n) (due b)) n b in (
             y.0,
             elim y.1 [ inl z ↦ ap q z ∙ e | inr z ↦ ap q z ∙ p.1 ],
             below_suc (λ i. q i ≡ true → key r ≤ key i) n (λ i h z. omega (arith, p.2 i h z, y.2)) (λ z. y.3),
-          ))
+          )
 
 -- ---- the choice
 
--- the job that the machine chooses in tick k stands at the pending task i; it chooses none where i is no task
-abbrev pub Chosen : (ℕ → ℕ → Bool) → List Job → ℕ → List ℕ → ℕ → List ℕ → ℕ → Type 0
-Chosen before js k work pending places i =
-    ((most_tasks ≤ i) × (chosen before js k work ≡ none))
-    ⊎ ((i < most_tasks) × (mem pending i ≡ true) × (chosen before js k work ≡ some (held_at places i)))
+-- the job that the machine chooses in tick k stands at the pending task i; it chooses none where there is no such task
+abbrev pub Chosen : (ℕ → ℕ → Bool) → List Job → ℕ → List ℕ → ℕ → List Place → opt.Option ℕ → Type 0
+Chosen before js k work pending places None = chosen before js k work ≡ none
+Chosen before js k work pending places (Some i) = (i < most_tasks) × (mem pending i ≡ true) × (chosen before js k work ≡ some (held_at places i))
 
 -- the code's choice is that of the rule, once the jobs of a tick are released
 abbrev pub Follows : (ℕ → ℕ → Bool) → List Task → List Job → Type 0
-Follows before ts js = (k : ℕ) (work : List ℕ) (pend next : ℕ) (places : List ℕ) → Split js (k + 1) (k + 1) next → Holds ts js work pend next places →
+Follows before ts js = (k : ℕ) (work : List ℕ) (pend next : ℕ) (places : List Place) → Split js (k + 1) (k + 1) next → Holds ts js work pend next places →
     Chosen before js k work pend places (choice pend places)
 
 module _ (ts : List Task) (js : List Job) where
@@ -152,7 +150,7 @@ module _ (ts : List Task) (js : List Job) where
     unfolding pending
     held_pending j a q = true_fits (release_of js j) k 1 (get_or work j 0) (omega (arith, sp.early j a)) q
 
-    module _ (places : List ℕ) (tasks : Tasks ts) (legal : Jobs ts js) (h : Holds ts js work pend next places) where
+    module _ (places : List Place) (tasks : Tasks ts) (legal : Jobs ts js) (h : Holds ts js work pend next places) where
       chosen_is : Chosen (rule ts js) js k work pend places (choice pend places)
       chosen_is = go (choice pend places) (picked (mem pend) (due_at places) most_tasks (omega arith))
         where
@@ -160,16 +158,12 @@ module _ (ts : List Task) (js : List Job) where
           low : (j : ℕ) → j < length js → task_of js j < most_tasks
           low j a = omega (arith, legal.known j a, tasks.few)
 
-          go : (i : ℕ) → Picked (mem pend) (due_at places) most_tasks i → Chosen (rule ts js) js k work pend places i
-          go i (inl p) = inl (
-            omega (arith, p.0),
-            none_passes (rule ts js) (pending js k work) (length js) (λ j a q.
-                let r = pending_held j a q in p.1 (task_of js j) (low j a) (h.held j r.0 r.1).0),
-          )
-          go i (inr p) =
+          go : (i : opt.Option ℕ) → Picked (mem pend) (due_at places) most_tasks i → Chosen (rule ts js) js k work pend places i
+          go None p = none_passes (rule ts js) (pending js k work) (length js) (λ j a q.
+              let r = pending_held j a q in p (task_of js j) (low j a) (h.held j r.0 r.1).0)
+          go (Some i) p =
               let z = h.place i p.0 p.1 in
-              let c : ℕ = held_at places i in
-              inr (
+              let c : ℕ = held_at places i in (
                 p.0,
                 p.1,
                 first_only (rule ts js) (pending js k work) (length js) c (omega (arith, z.known, sp.bound))
@@ -192,10 +186,10 @@ module _ (ts : List Task) (js : List Job) where
 -- ---- the soonest deadline
 
 -- no pending task is due before the soonest
-pub soonest_sound : (pend : ℕ) (places : List ℕ) → Sound pend places (soonest_of pend places)
+pub soonest_sound : (pend : ℕ) (places : List Place) → Sound pend places (soonest_of pend places)
 unfolding soonest_of
 soonest_sound pend places i l e = go (pick_to (mem pend) (due_at places) most_tasks) (picked (mem pend) (due_at places) most_tasks (omega arith))
   where
-    go : (b : ℕ) → Picked (mem pend) (due_at places) most_tasks b → cond (ltb b most_tasks) (due_at places b) most_number ≤ due_at places i
-    go b (inl p) = absurd (p.1 i l e)
-    go b (inr p) = rw (lt-ltb b most_tasks p.0) (omega (arith, p.2 i l e, p.0))
+    go : (b : opt.Option ℕ) → Picked (mem pend) (due_at places) most_tasks b → due_of places b ≤ due_at places i
+    go None p = absurd (p i l e)
+    go (Some b) p = omega (arith, p.2 i l e, p.0)

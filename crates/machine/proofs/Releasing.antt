@@ -10,14 +10,8 @@ use Rattle.scope.specs.Tasks.{Task, task_at}
 use Rattle.scope.specs.Jobs.{Job, job_at, release_of, task_of}
 use Rattle.jobs.specs.Legal.{Tasks, Jobs}
 use Rattle.machine.specs.declared.state.RunState.{RunState}
-use Rattle.machine.specs.Places.{put_at}
-use Rattle.machine.specs.State.{Whole, whole, admitted_of, next_of, feed, release_at}
+use Rattle.machine.specs.State.{Whole, next_of, feed, release_at}
 use Rattle.machine.specs.Relation.{Arriving}
-
--- the code's release of a job
-pub next_is : (ts : List Task) (x : Job) (s : RunState) (p : List ℕ) (due : ℕ) (r : RunState) (q : List ℕ) → due ≡ x.release + (task_at ts x.task).D →
-    r ≡ admitted_of x.task due s → q ≡ put_at p x.task x.work due s.next → whole r q ≡ next_of ts x (whole s p)
-next_is ts x s p due r q ed er eq = rw (er, eq, ed)
 
 -- a job of a legal list can be released
 pub can_arrive : (ts : List Task) (js : List Job) → Tasks ts → Jobs ts js →

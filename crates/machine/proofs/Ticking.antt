@@ -8,7 +8,8 @@ use native.Mathlib.Numerals.{add-one}
 use native.Mathlib.Decide.{ℕ_discrete}
 use lib.Dec.{ltb}
 use lib.ListN.{length}
-use borrow.Author.Tests.{le-ltb, ltb-true, eq-eqb, eqb-true}
+use borrow.Author.Tests.{ltb-true, eq-eqb, eqb-true}
+use Rattle.std.specs.declared.option.Option.{Option}
 use Rattle.scope.specs.Limits.{most_tasks}
 use Rattle.scope.specs.Numbers.{bit, sum, greatest}
 use Rattle.scope.specs.Tasks.{Task}
@@ -19,13 +20,15 @@ use Rattle.theory.specs.Numbers.{sum_eq, sum_swap, sum_zero, sum_at, at, at_othe
 use Rattle.theory.specs.Machine.{work_left_length, work_left_before}
 use Rattle.tables.specs.declared.cursor.Cursor.{Cursor}
 use Rattle.jobs.specs.Legal.{Tasks, Jobs}
+use Rattle.machine.specs.declared.places.Place.{Place}
 use Rattle.machine.specs.declared.state.RunState.{RunState}
+use Rattle.machine.specs.declared.pending.Pending.{Pending}
 use Rattle.machine.specs.Bits.{mem, members}
-use Rattle.machine.specs.Places.{all_places, held_at, no_job, served_at, ended_at, soonest_of, late_to}
-use Rattle.machine.specs.State.{Whole, whole, release_at, goes_to_of, counted_of, worked_of, tested_of, tick_of}
+use Rattle.machine.specs.Places.{all_places, held_at, served_at, ended_at, soonest_of, late_to}
+use Rattle.machine.specs.State.{Whole, whole, release_at, goes_to_of, counted_of, pending_of, end_of, worked_of, tested_of, tick_of}
 use Rattle.machine.specs.Relation.{Holds, Sound, Split, At, OnTime, Ends}
 use Rattle.machine.proofs.Pick.{Follows, pending_held, held_pending, soonest_sound}
-use Rattle.machine.proofs.Holding.{pending_after, Fed, release_holds, Worked, tick_worked}
+use Rattle.machine.proofs.Holding.{Fed, release_holds, Worked, tick_worked}
 use Rattle.machine.proofs.Finding.{early_none}
 
 -- nothing is counted at i of what is not both at i and so
@@ -35,7 +38,7 @@ no_term a i b h = when_none _ (bit b) (λ e. when_none b 1 (λ q. absurd (h (eqb
 module _ (ts : List Task) (js : List Job) (tasks : Tasks ts) (legal : Jobs ts js) where
   -- ---- the backlog: as many jobs are pending as tasks
 
-  module _ (k : ℕ) (work : List ℕ) (pend next : ℕ) (places : List ℕ) (h : Holds ts js work pend next places) (sp : Split js (k + 1) (k + 1) next) where
+  module _ (k : ℕ) (work : List ℕ) (pend next : ℕ) (places : List Place) (h : Holds ts js work pend next places) (sp : Split js (k + 1) (k + 1) next) where
     abbrev p : ℕ → Bool
     p = pending js k work
 
@@ -75,32 +78,32 @@ module _ (ts : List Task) (js : List Job) (tasks : Tasks ts) (legal : Jobs ts js
   -- ---- the miss test
 
   -- what it keeps, and that the run's end moves to the instant exactly where the code finds a late job
-  pub record Tested (p : List ℕ) (s t : RunState) : Type 0 where
+  pub record Tested (p : List Place) (s t : RunState) : Type 0 where
     pub instant : t.instant ≡ s.instant
     pub next : t.next ≡ s.next
     pub pending : t.pending ≡ s.pending
     pub backlog : t.backlog ≡ s.backlog
     pub done : t.done ≡ s.done
-    pub soon : Sound s.pending p t.soon
-    pub end : t.end ≡ cond (ltb (late_to s.pending p s.instant most_tasks) no_job) s.instant s.end
+    pub soon : Sound s.pending.bits p t.soon
+    pub end : t.end ≡ end_of (late_to s.pending.bits p s.instant most_tasks) s.instant s.end
 
-  test_is : (work p : List ℕ) (s : RunState) → Holds ts js work s.pending s.next p → Split js s.instant s.instant s.next →
-      Sound s.pending p s.soon → Tested p s (tested_of p s)
+  test_is : (work : List ℕ) (p : List Place) (s : RunState) → Holds ts js work s.pending.bits s.next p → Split js s.instant s.instant s.next →
+      Sound s.pending.bits p s.soon → Tested p s (tested_of p s)
   unfolding tested_of
   test_is work p s h sp ok = go (ltb s.instant s.soon) refl
     where
       go : (t : Bool) → ltb s.instant s.soon ≡ t → Tested p s (cond t s (record {
         instant = s.instant;
-        end = cond (ltb (late_to s.pending p s.instant most_tasks) no_job) s.instant s.end;
+        end = end_of (late_to s.pending.bits p s.instant most_tasks) s.instant s.end;
         cursor = s.cursor;
         next = s.next;
         pending = s.pending;
         backlog = s.backlog;
-        soon = soonest_of s.pending p;
+        soon = soonest_of s.pending.bits p;
         done = s.done;
       }))
       go true e =
-          let q = early_none ts js tasks legal work s.instant s.pending s.next p h sp s.soon ok (ltb-true s.instant s.soon e) in
+          let q = early_none ts js tasks legal work s.instant s.pending.bits s.next p h sp s.soon ok (ltb-true s.instant s.soon e) in
           record {
             instant = refl;
             next = refl;
@@ -108,13 +111,13 @@ module _ (ts : List Task) (js : List Job) (tasks : Tasks ts) (legal : Jobs ts js
             backlog = refl;
             done = refl;
             soon = ok;
-            end = sym (ap (λ (b : Bool). cond b s.instant s.end) (le-ltb (late_to s.pending p s.instant most_tasks) no_job (omega (arith, q))));
+            end = sym (ap (λ (o : Option ℕ). end_of o s.instant s.end) q);
           }
-      go false e = record { instant = refl; next = refl; pending = refl; backlog = refl; done = refl; soon = soonest_sound s.pending p; end = refl }
+      go false e = record { instant = refl; next = refl; pending = refl; backlog = refl; done = refl; soon = soonest_sound s.pending.bits p; end = refl }
 
   -- ---- the whole tick
 
-  module _ (σ : ℕ → Bool) (before : ℕ → ℕ → Bool) (s : RunState) (p : List ℕ)
+  module _ (σ : ℕ → Bool) (before : ℕ → ℕ → Bool) (s : RunState) (p : List Place)
       (is : At σ before ts js s.instant s p) (ontime : OnTime σ before ts js s.instant) where
     abbrev k : ℕ
     k = s.instant
@@ -134,16 +137,16 @@ module _ (ts : List Task) (js : List Job) (tasks : Tasks ts) (legal : Jobs ts js
 
     module _ (onward : Cursor → Cursor) (choice : Follows before ts js) where
       -- the task that the tick goes to
-      abbrev i : ℕ
-      i = goes_to_of (σ s.instant) fed.state.pending fed.places
+      abbrev i : Option ℕ
+      i = goes_to_of (σ s.instant) fed.state.pending.bits fed.places
 
-      did : Worked ts js tasks legal work σ before k fed.state.pending fed.state.next fed.places _ (work_left_length σ before js k) released.holds
-          released.split.bound (choice k work fed.state.pending fed.state.next fed.places released.split released.holds)
-          (work_left σ before js (k + 1)) (served_at i fed.places) (ended_at i fed.places) (pending_after fed.state.pending i fed.places)
+      did : Worked ts js tasks legal work σ before k fed.state.pending.bits fed.state.next fed.places _ (work_left_length σ before js k) released.holds
+          released.split.bound (choice k work fed.state.pending.bits fed.state.next fed.places released.split released.holds)
+          (work_left σ before js (k + 1)) (served_at i fed.places) (ended_at i fed.places) (pending_of i (ended_at i fed.places) fed.state.pending.bits)
       unfolding goes_to_of work_left
       did = rw (add-one k) (tick_worked ts js tasks legal work σ before k
-          fed.state.pending fed.state.next fed.places _ (work_left_length σ before js k)
-          released.holds released.split.bound (choice k work fed.state.pending fed.state.next fed.places released.split released.holds))
+          fed.state.pending.bits fed.state.next fed.places _ (work_left_length σ before js k)
+          released.holds released.split.bound (choice k work fed.state.pending.bits fed.state.next fed.places released.split released.holds))
 
       -- the state when the tick is done, before the miss test
       abbrev worked : RunState
@@ -158,7 +161,7 @@ module _ (ts : List Task) (js : List Job) (tasks : Tasks ts) (legal : Jobs ts js
         arith,
         released.backlog,
         is.backlog,
-        pending_count k work fed.state.pending fed.state.next fed.places released.holds released.split,
+        pending_count k work fed.state.pending.bits fed.state.next fed.places released.holds released.split,
       ))
 
       tested : Tested (served_at i fed.places) worked (tested_of (served_at i fed.places) worked)
@@ -173,8 +176,8 @@ module _ (ts : List Task) (js : List Job) (tasks : Tasks ts) (legal : Jobs ts js
       unfolding tick_of
       tick_at = record {
         now = tested.instant ∙ at_next;
-        holds = rw (tested.pending, tested.next) did.holds;
-        soon = rw tested.pending tested.soon;
+        holds = rw (ap (λ (x : Pending). x.bits) tested.pending, tested.next) did.holds;
+        soon = rw (ap (λ (x : Pending). x.bits) tested.pending) tested.soon;
         split = rw tested.next released.split;
         backlog = tested.backlog ∙ counted;
       }
@@ -185,6 +188,6 @@ module _ (ts : List Task) (js : List Job) (tasks : Tasks ts) (legal : Jobs ts js
       tick_ends = rw tested.done did.ends
 
       -- the run ends where a job is late
-      pub tick_end : after.state.end ≡ cond (ltb (late_to after.state.pending after.places (k + 1) most_tasks) no_job) (k + 1) s.end
+      pub tick_end : after.state.end ≡ end_of (late_to after.state.pending.bits after.places (k + 1) most_tasks) (k + 1) s.end
       unfolding tick_of
-      tick_end = rw tested.pending (tested.end ∙ rw (at_next, released.end))
+      tick_end = rw (ap (λ (x : Pending). x.bits) tested.pending) (tested.end ∙ rw (at_next, released.end))

@@ -3,6 +3,8 @@
 use Rattle.std.specs.Prelude.{ℕ, ◌≤◌, ◌<◌, ◌≡◌, ◌↔◌, List, length, get_or}
 use Rattle.std.proofs.Common.{sym, ap, ◌∙◌}
 use Rattle.std.proofs.Math.Option.{none}
+use Rattle.std.specs.declared.result.Result.{Result}
+use Rattle.std.specs.declared.result.Result.TheVariants.{Ok, Err}
 use Rattle.scope.specs.Limits.{teams}
 use Rattle.scope.specs.Ticks.{least_supply}
 use Rattle.scope.specs.Windows.{supplied_by}
@@ -31,14 +33,14 @@ use Rattle.tables.specs.declared.answer.Verdict.TheVariants.{Meets, Miss}
 use Rattle.tables.specs.Told.{number, place, board_of, told_verdict}
 use Rattle.tables.specs.Determined.{verdict_determined}
 use Rattle.machine.specs.declared.run.Ran.{Ran}
-use Rattle.machine.specs.declared.run.Ran.TheVariants.{Met, Refused}
+use Rattle.machine.specs.declared.run.Ran.TheVariants.{Met}
 use Rattle.machine.specs.Told.{told_ran}
 use Rattle.machine.specs.Determined.{ran_determined}
 
 -- demand 1: where `run` refuses, the lent buffer is as it was
-pub run_refused : (b : Board) (ws ts : List ℕ) (n : ℕ) (js out left : List ℕ) (r : Ran) →
+pub run_refused : (b : Board) (ws ts : List ℕ) (n : ℕ) (js out left : List ℕ) (r : Result Ran Refusal) →
     told_ran r ≡ run_for (board_of b) ws ts n js (length out) → left ≡ run_out_for (board_of b) ws ts n js out →
-    (e : Refusal) → r ≡ Refused e → left ≡ out
+    (e : Refusal) → r ≡ Err e → left ≡ out
 unfolding run_for run_out_for
 run_refused b ws ts n js out left r told wrote e is =
     wrote ∙ asked_kept (number e) (place e) teams (board_of b) ws (λ windows. run_answer (board_of b) windows ts n js (length out))
@@ -48,7 +50,7 @@ run_refused b ws ts n js out left r told wrote e is =
 given_is : {A : Type 0} {x y : A} → given x ≡ given y → x ≡ y
 given_is e = cc
 
-module _ (b : Board) (ws ts : List ℕ) (v : Verdict) (promised : told_verdict v ≡ verdict_for (board_of b) ws ts) where
+module _ (b : Board) (ws ts : List ℕ) (v : Result Verdict Refusal) (promised : told_verdict v ≡ verdict_for (board_of b) ws ts) where
   -- the table has no fault, and the owner's windows get the verdict
   answers : (w : Verdicts.Verdict) → told_verdict v ≡ given w →
       (shared_fault teams (board_of b) ws ≡ fine) × (verdict_answer (board_of b) (own (board_of b) ws) ts ≡ given w)
@@ -57,27 +59,27 @@ module _ (b : Board) (ws ts : List ℕ) (v : Verdict) (promised : told_verdict v
 
   -- (a) "meets" exactly when, at every length without limit, the demand is at most the least supply
   pub verdict_meets : (w : Verdicts.Verdict) → told_verdict v ≡ given w → (h : ℕ) →
-      (v ≡ Meets h) ↔ ((h ≡ cycle b.frame (tasks_of ts))
+      (v ≡ Ok (Meets h)) ↔ ((h ≡ cycle b.frame (tasks_of ts))
       × ((t : ℕ) → demand (tasks_of ts) t ≤ least_supply (supplied_by (board_of b) (own (board_of b) ws)) b.frame t))
   verdict_meets w e h = let x = exact_meets (board_of b) (own (board_of b) ws) ts w (answers w e).1 h in (
     λ m. x.0 (given_is (sym e ∙ ap told_verdict m)),
-    λ a. verdict_determined v (Meets h) (e ∙ ap given (x.1 a)),
+    λ a. verdict_determined v (Ok (Meets h)) (e ∙ ap given (x.1 a)),
   )
 
   -- (b) a miss exactly when it shows the least length, the least start and both amounts
   pub verdict_miss : (w : Verdicts.Verdict) → told_verdict v ≡ given w → (t s d p : ℕ) →
-      (v ≡ Miss t s d p) ↔ LeastMiss (supplied_by (board_of b) (own (board_of b) ws)) b.frame (tasks_of ts) t s d p
+      (v ≡ Ok (Miss t s d p)) ↔ LeastMiss (supplied_by (board_of b) (own (board_of b) ws)) b.frame (tasks_of ts) t s d p
   verdict_miss w e t s d p = let x = exact_miss (board_of b) (own (board_of b) ws) ts w (answers w e).1 t s d p in (
     λ m. x.0 (given_is (sym e ∙ ap told_verdict m)),
-    λ a. verdict_determined v (Miss t s d p) (e ∙ ap given (x.1 a)),
+    λ a. verdict_determined v (Ok (Miss t s d p)) (e ∙ ap given (x.1 a)),
   )
 
   -- (c) after "meets", a run of a legal job list with room for its counts is met, and each count of a job due in it is 1 to D
-  pub meets_runs : (h : ℕ) → v ≡ Meets h →
-      (n : ℕ) (js out left : List ℕ) (r : Ran) →
+  pub meets_runs : (h : ℕ) → v ≡ Ok (Meets h) →
+      (n : ℕ) (js out left : List ℕ) (r : Result Ran Refusal) →
       told_ran r ≡ run_for (board_of b) ws ts n js (length out) → left ≡ run_out_for (board_of b) ws ts n js out →
       (job_list_fault n js or_else job_fault (tasks_of ts) n (jobs_of js) or_else room_fault (length (jobs_of js)) (length out)) ≡ fine →
-      ((backlog : ℕ) × (r ≡ Met backlog))
+      ((backlog : ℕ) × (r ≡ Ok (Met backlog)))
       × ((j : ℕ) → j < length (jobs_of js) → deadline (tasks_of ts) (jobs_of js) j ≤ n →
       (1 ≤ get_or left j 0) × (get_or left j 0 ≤ (task_at (tasks_of ts) (task_of (jobs_of js) j)).D))
   unfolding verdict_answer job_fault run_answer run_fault run_out run_for run_out_for ran counts
@@ -95,12 +97,12 @@ module _ (b : Board) (ws ts : List ℕ) (v : Verdict) (promised : told_verdict v
       let buffer = wrote ∙ asked_fine teams (board_of b) ws (kept out) (λ l. run_out (board_of b) l ts n js out) a.0 in
       let e = edf_meets (board_of b) windows ts h a.1 n (jobs_of js)
       (fault_at_fine 11 _ (or_else_fine (job_fault (tasks_of ts) n (jobs_of js)) _ (or_else_fine (job_list_fault n js) _ legal).1).0) in (
-        (backlog σ before (jobs_of js) n, ran_determined r (Met (backlog σ before (jobs_of js) n)) (answer ∙ rw (f, e.0))),
+        (backlog σ before (jobs_of js) n, ran_determined r (Ok (Met (backlog σ before (jobs_of js) n))) (answer ∙ rw (f, e.0))),
         λ j l d. rw (buffer, f, written_at (counts σ before (tasks_of ts) (jobs_of js) n) out j (rw (listed_length) l)) (e.1 j l d),
       )
 
   -- and so is every run under earliest deadline first, whichever of several earliest jobs it serves, of any length and of any legal job list
-  pub meets_every : (h : ℕ) → v ≡ Meets h →
+  pub meets_every : (h : ℕ) → v ≡ Ok (Meets h) →
       (n : ℕ) (js : List Job) → bad_job (tasks_of ts) n js ≡ none →
       (left : ℕ → List ℕ) → Under (supplied_by (board_of b) (own (board_of b) ws)) js (deadline (tasks_of ts) js) left →
       (j : ℕ) → j < length js → deadline (tasks_of ts) js j ≤ n →
@@ -109,6 +111,6 @@ module _ (b : Board) (ws ts : List ℕ) (v : Verdict) (promised : told_verdict v
   meets_every h m = edf_every (board_of b) (own (board_of b) ws) ts h (answers (Verdicts.meets h) (ap told_verdict m)).1
 
   -- (d) after a miss, no way of giving out the supplied ticks serves all the full jobs that are due by the end of the length
-  pub miss_starves : (t s d p : ℕ) → v ≡ Miss t s d p →
+  pub miss_starves : (t s d p : ℕ) → v ≡ Ok (Miss t s d p) →
       (w : Way) → Served (supplied_by (board_of b) (own (board_of b) ws)) (tasks_of ts) w s t → ⊥
   miss_starves t s d p m = starved (board_of b) (own (board_of b) ws) ts t s d p (answers (Verdicts.miss t s d p) (ap told_verdict m)).1

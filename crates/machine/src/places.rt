@@ -1,38 +1,56 @@
-// The places of the tasks: three numbers for each, the work left of its pending job, that job's deadline and its index. They are lent, and change in place.
-ghost use Rattle.std.specs.Prelude.{◌≡◌, ◌<◌, length};
+// The places of the tasks: for each the work left of its pending job, that job's deadline and its index. They are lent, and change in place, by
+// functions over the array: a type around it would do no more than lend it on.
+ghost use Rattle.std.specs.Prelude.{◌≡◌, ◌<◌};
 ghost use Rattle.scope.specs.Limits.{most_tasks};
-ghost use Rattle.machine.specs.Places.{all_places, put_at, served_at, ended_at};
+ghost use Rattle.machine.specs.Bits.{IsTask};
+ghost use Rattle.machine.specs.Places.{put_at, served_at, ended_at};
 
-use crate::state::RunState;
+use tables::task::Task;
 
-// A job of task i takes the task's place.
-pub(crate) fn put(places: &mut [u32], i: u32, work: u32, due: u32, job: u32)
-    requires { (length places.old ≡ all_places) × (i < most_tasks) }
-    ensures { places.new ≡ put_at places.old i work due job }
-{
-    let x = 3 * i as usize;
-    places[x] = work;
-    places[x + 1] = due;
-    places[x + 2] = job;
+#[derive(Clone, Copy)]
+pub(crate) struct Place {
+    pub left: u32,
+    pub due: u32,
+    pub job: u32,
 }
 
-// The job of task i, if i is a task, gets one tick of work. Answers the job if that was its last, else no job.
-pub(crate) fn serve(places: &mut [u32], i: u32) -> u32
-    requires { length places.old ≡ all_places }
+impl Place {
+    // One that no job has taken.
+    pub(crate) const NOWHERE: Place = Place {
+        left: 0,
+        due: 0,
+        job: 0,
+    };
+}
+
+// A job of task i takes the task's place.
+#[tactic(auto, unfolding(crate::specs::Places::put_at))]
+pub(crate) fn put(places: &mut [Place; Task::MOST], i: u32, work: u32, due: u32, job: u32)
+    requires { i < most_tasks }
+    ensures { places.new ≡ put_at places.old i work due job }
+{
+    places[i as usize] = Place {
+        left: work,
+        due,
+        job,
+    };
+}
+
+// The job of task i, if there is one, gets one tick of work. Answers the job, if that was its last.
+#[tactic(auto, unfolding(crate::specs::Places::served_at, crate::specs::Places::ended_at))]
+pub(crate) fn serve(places: &mut [Place; Task::MOST], i: Option<u32>) -> Option<u32>
+    requires { IsTask i }
     ensures answer { result ≡ ended_at i places.old }
     ensures places { places.new ≡ served_at i places.old }
 {
-    if RunState::NO_TASK <= i {
-        return RunState::NO_JOB;
-    }
-    let x = 3 * i as usize;
-    let had = places[x];
+    let x = i? as usize;
+    let had = places[x].left;
     if had == 0 {
-        return RunState::NO_JOB;
+        return None;
     }
-    places[x] = had - 1;
+    places[x].left = had - 1;
     if had == 1 {
-        return places[x + 2];
+        return Some(places[x].job);
     }
-    RunState::NO_JOB
+    None
 }

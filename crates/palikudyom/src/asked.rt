@@ -1,14 +1,15 @@
 // How a query is asked: by itself, or under code 16.
 ghost use Rattle.std.specs.Prelude.{◌≤◌};
 
-use crate::stream::{Cursor, any, bad};
+use crate::stream::Stream;
+use plan::number::Damaged;
 use tables::board::Board;
 
 // Windows and tasks of the codes 1 to 15 by themselves have at most so many numbers.
-const NUMBERS: u32 = 200;
+const NUMBERS: usize = 200;
 
 // All others have at most so many.
-pub(crate) const LATER_NUMBERS: u32 = 400;
+pub(crate) const LATER_NUMBERS: usize = 400;
 
 #[derive(Clone, Copy)]
 pub(crate) struct Asked {
@@ -50,8 +51,27 @@ impl Asked {
         }
     }
 
+    // What stands before a query under code 16: how many settings, then the settings, which are the owner, then the shortest allowed window, then the rule
+    // and the lost ticks. There are 1, 2 or 4.
+    pub(crate) fn settings(stream: &mut Stream<'_>) -> Result<Asked, Damaged> {
+        let at = stream.at();
+        let count = stream.any()?;
+        if !matches!(count, 1 | 2 | 4) {
+            return Err(Damaged { at });
+        }
+        let mut asked = Asked::shared(stream.any()?);
+        if count >= 2 {
+            asked.shortest = stream.any()?;
+        }
+        if count == 4 {
+            asked.rule = stream.any()?;
+            asked.lost = stream.any()?;
+        }
+        Ok(asked)
+    }
+
     // How many numbers windows and tasks have at most.
-    pub(crate) fn most(self) -> u32
+    pub(crate) fn most(self) -> usize
         ensures { result ≤ LATER_NUMBERS }
     {
         if self.later { LATER_NUMBERS } else { NUMBERS }
@@ -67,35 +87,4 @@ impl Asked {
             lost: self.lost,
         }
     }
-}
-
-// What stands before a query under code 16.
-#[derive(Clone, Copy)]
-pub(crate) struct Settings {
-    pub asked: Asked,
-    pub after: Cursor,
-}
-
-// How many settings, then the settings: the owner, then the shortest allowed window, then the rule and the lost ticks. There are 1, 2 or 4.
-pub(crate) fn read_settings(stream: &[u8], from: Cursor) -> Settings {
-    let count = any(stream, from);
-    let owner = any(stream, count.after);
-    let mut asked = Asked::shared(owner.value);
-    let mut after = owner.after;
-    if count.value == 2 || count.value == 4 {
-        let second = any(stream, after);
-        asked.shortest = second.value;
-        after = second.after;
-    }
-    if count.value == 4 {
-        let third = any(stream, after);
-        let fourth = any(stream, third.after);
-        asked.rule = third.value;
-        asked.lost = fourth.value;
-        after = fourth.after;
-    }
-    if count.after.good && count.value != 1 && count.value != 2 && count.value != 4 {
-        after = bad(from.at);
-    }
-    Settings { asked, after }
 }

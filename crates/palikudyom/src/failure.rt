@@ -4,10 +4,8 @@ use std::io;
 
 // An error's text without the number that std puts after what the system says.
 fn without_number(text: &str) -> &str {
-    match text.split_once(" (os error ") {
-        Some((words, _)) => words,
-        None => text,
-    }
+    text.split_once(" (os error ")
+        .map_or(text, |(words, _)| words)
 }
 
 // Writes a line: what failed, a colon and what the system says of it.

@@ -12,17 +12,15 @@ pub(crate) fn read_on(input: &mut impl Read, buffer: &mut [u8]) -> io::Result<us
     ensures read { IfOk result (λ n. IsPrefixLen n buffer.new) }
     ensures size { length buffer.new ≡ length buffer.old }
 {
-    let mut filled: usize = 0;
-    while filled < buffer.len() {
+    for filled in 0..buffer.len() {
         let mut byte = [0u8; 1];
         let got = input.read(&mut byte)?;
         if got == 0 {
-            break;
+            return Ok(filled);
         }
         buffer[filled] = byte[0];
-        filled += 1;
     }
-    Ok(filled)
+    Ok(buffer.len())
 }
 
 // Whether there is one byte more.

@@ -1,199 +1,135 @@
-// The printed lines, one for each answer.
+// The printed lines, one for each answer: its value, or its refusal. Where a write fails, the rest of that line is left out, and the next is still tried.
 use machine::run::Ran;
 use print::line::{MOST, line};
-use replay::ending::Seen;
+use replay::ending::Completion;
 use replay::replay::Replayed;
-use std::io;
-use tables::answer::{Amount, Bound, Delay, Edited, Margin, Refusal, Verdict, magnitude};
+use std::{fmt, io};
+use tables::answer::{Delay, Edited, Refusal, Verdict};
 
-// What can't be written is left out, and what follows it is still tried.
-fn word(rt: &impl Print, text: &[u8]) {
-    let _ = rt.write_all(text);
-}
+// Lent memory after a call: each number after a space.
+#[derive(Drop)]
+struct Buffer<'a, T>(&'a [T]);
 
-// A word, then a number in plain decimals.
-fn part(rt: &impl Print, text: &[u8], n: u64) {
-    word(rt, text);
-    let _ = rt.print(n);
-}
-
-fn wide(n: u32) -> u64 {
-    n as u64
-}
-
-// Each number after a space.
-fn numbers(rt: &impl Print, list: &[u32]) {
-    for n in list {
-        part(rt, b" ", wide(*n));
+impl<T: fmt::Display> fmt::Display for Buffer<'_, T> {
+    fn fmt<W: fmt::Write>(&self, f: &mut fmt::Formatter<W>) -> fmt::Result {
+        write!(f, " BUFFER")?;
+        for n in self.0 {
+            write!(f, " {n}")?;
+        }
+        Ok(())
     }
 }
 
-fn refused(rt: &impl Print, r: Refusal) {
-    part(rt, b"REFUSED ", r.number());
-    part(rt, b" at ", r.place());
-}
+// One side of a difference: its completion, or none where it has ended.
+#[derive(Drop)]
+struct Side(Option<Completion>);
 
-fn newline(rt: &impl Print) {
-    word(rt, b"\n");
-}
-
-// A lent buffer after the call.
-fn memory(rt: &impl Print, list: &[u32]) {
-    word(rt, b" BUFFER");
-    numbers(rt, list);
-}
-
-// The same, and the end of the line.
-fn buffer(rt: &impl Print, list: &[u32]) {
-    memory(rt, list);
-    newline(rt);
-}
-
-fn amount_or_refusal(rt: &impl Print, text: &[u8], a: Amount) {
-    match a {
-        Amount::Of(n) => part(rt, text, n),
-        Amount::Refused(r) => refused(rt, r),
+impl fmt::Display for Side {
+    fn fmt<W: fmt::Write>(&self, f: &mut fmt::Formatter<W>) -> fmt::Result {
+        match self.0 {
+            Some(Completion { instant, task }) => write!(f, "instant {instant} task {task}"),
+            None => write!(f, "none"),
+        }
     }
 }
 
 // An amount after its word.
-pub(crate) fn amount(rt: &impl Print, text: &[u8], a: Amount) {
-    amount_or_refusal(rt, text, a);
-    newline(rt);
+pub(crate) fn amount(rt: &impl Print, word: &str, amount: Result<u64, Refusal>) {
+    let _ = match amount {
+        Ok(n) => println!(rt; "{word} {n}"),
+        Err(refusal) => println!(rt; "{refusal}"),
+    };
 }
 
 // An amount after its word, and the buffer that it was filled to.
-pub(crate) fn filled(rt: &impl Print, text: &[u8], a: Amount, out: &[u32]) {
-    amount_or_refusal(rt, text, a);
-    buffer(rt, out);
+pub(crate) fn filled<T: fmt::Display + Drop>(
+    rt: &impl Print,
+    word: &str,
+    amount: Result<u64, Refusal>,
+    out: &[T],
+) {
+    let out = Buffer(out);
+    let _ = match amount {
+        Ok(n) => println!(rt; "{word} {n}{out}"),
+        Err(refusal) => println!(rt; "{refusal}{out}"),
+    };
 }
 
-pub(crate) fn delay(rt: &impl Print, d: Delay) {
-    match d {
-        Delay::Of { delay, per_frame } => {
-            part(rt, b"DELAY ", delay);
-            part(rt, b" of ", per_frame as u64);
-        }
-        Delay::Refused(r) => refused(rt, r),
-    }
-    newline(rt);
+pub(crate) fn delay(rt: &impl Print, delay: Result<Delay, Refusal>) {
+    let _ = match delay {
+        Ok(Delay { delay, per_frame }) => println!(rt; "DELAY {delay} of {per_frame}"),
+        Err(refusal) => println!(rt; "{refusal}"),
+    };
 }
 
-// A word, then a signed number, with a minus sign where it is negative.
-fn signed(rt: &impl Print, text: &[u8], m: i64) {
-    word(rt, text);
-    if m < 0 {
-        word(rt, b"-");
-    }
-    let _ = rt.print(magnitude(m));
-}
-
-pub(crate) fn margin(rt: &impl Print, m: Margin) {
-    match m {
-        Margin::Of(m) => signed(rt, b"MARGIN ", m),
-        Margin::Refused(r) => refused(rt, r),
-    }
-    newline(rt);
-}
-
-// Each signed number after a space.
-fn signed_numbers(rt: &impl Print, list: &[i64]) {
-    for m in list {
-        signed(rt, b" ", *m);
-    }
-}
-
-pub(crate) fn margins(rt: &impl Print, a: Amount, out: &[i64]) {
-    amount_or_refusal(rt, b"MARGINS ", a);
-    word(rt, b" BUFFER");
-    signed_numbers(rt, out);
-    newline(rt);
-}
-
-fn edited_or_refusal(rt: &impl Print, e: Edited) {
-    match e {
-        Edited::Is { windows, numbers } => {
-            part(rt, b"EDITED count ", windows);
-            part(rt, b" summary ", numbers);
-        }
-        Edited::Refused(r) => refused(rt, r),
-    }
+pub(crate) fn margin(rt: &impl Print, margin: Result<i64, Refusal>) {
+    let _ = match margin {
+        Ok(m) => println!(rt; "MARGIN {m}"),
+        Err(refusal) => println!(rt; "{refusal}"),
+    };
 }
 
 // An edit's line has the windows memory and the summary memory.
-pub(crate) fn edited(rt: &impl Print, e: Edited, windows: &[u32], summary: &[u32]) {
-    edited_or_refusal(rt, e);
-    memory(rt, windows);
-    buffer(rt, summary);
+pub(crate) fn edited(
+    rt: &impl Print,
+    edited: Result<Edited, Refusal>,
+    windows: &[u32],
+    summary: &[u32],
+) {
+    let list = Buffer(windows);
+    let kept = Buffer(summary);
+    let _ = match edited {
+        Ok(Edited { windows, numbers }) => {
+            println!(rt; "EDITED count {windows} summary {numbers}{list}{kept}")
+        }
+        Err(refusal) => println!(rt; "{refusal}{list}{kept}"),
+    };
 }
 
-// The line of a verdict, as `plan` makes it; it is never longer than `MOST`. An error where not all of it was written.
-pub(crate) fn verdict(rt: &impl Print, v: Verdict) -> io::Result<()> {
+// The line of a verdict, as `print` makes it; it is never longer than `MOST`. An error where not all of it was written.
+#[tactic(auto, using(crate::proofs::Room::line_written))]
+pub(crate) fn verdict(rt: &impl Print, verdict: Result<Verdict, Refusal>) -> io::Result<()> {
     let mut text = [0u8; MOST];
-    match line(v, &mut text) {
-        Amount::Of(n) => {
-            let n = n as usize;
-            rt.write_all(&text[..n])
-        }
-        Amount::Refused(_) => Err(io::Error::from(io::ErrorKind::WriteZero)),
+    match line(verdict, &mut text) {
+        Ok(n) => rt.write_all(&text[..n as usize]),
+        Err(_) => Err(io::Error::from(io::ErrorKind::WriteZero)),
     }
 }
 
-pub(crate) fn bound(rt: &impl Print, b: Bound) {
-    match b {
-        Bound::Of(t) => part(rt, b"BOUND ", t as u64),
-        Bound::NoBound => word(rt, b"NO BOUND"),
-        Bound::Refused(r) => refused(rt, r),
-    }
-    newline(rt);
+pub(crate) fn bound(rt: &impl Print, bound: Result<Option<u32>, Refusal>) {
+    let _ = match bound {
+        Ok(Some(t)) => println!(rt; "BOUND {t}"),
+        Ok(None) => println!(rt; "NO BOUND"),
+        Err(refusal) => println!(rt; "{refusal}"),
+    };
 }
 
-pub(crate) fn ran(rt: &impl Print, r: Ran, counts: &[u32]) {
-    match r {
-        Ran::Met { backlog } => part(rt, b"MET backlog ", backlog as u64),
-        Ran::Missed {
-            instant,
-            job,
-            backlog,
-        } => {
-            part(rt, b"MISSED instant ", instant as u64);
-            part(rt, b" job ", job as u64);
-            part(rt, b" backlog ", backlog as u64);
-        }
-        Ran::Refused(r) => refused(rt, r),
-    }
-    buffer(rt, counts);
+pub(crate) fn ran(rt: &impl Print, ran: Result<Ran, Refusal>, counts: &[u32]) {
+    let counts = Buffer(counts);
+    let _ = match ran {
+        Ok(Ran::Met { backlog }) => println!(rt; "MET backlog {backlog}{counts}"),
+        Ok(
+            Ran::Missed {
+                instant,
+                job,
+                backlog,
+            },
+        ) => println!(rt; "MISSED instant {instant} job {job} backlog {backlog}{counts}"),
+        Err(refusal) => println!(rt; "{refusal}{counts}"),
+    };
 }
 
-// One side of a difference.
-fn side(rt: &impl Print, text: &[u8], seen: Seen) {
-    word(rt, text);
-    match seen {
-        Seen::None => word(rt, b" none"),
-        Seen::At { instant, task } => {
-            part(rt, b" instant ", instant as u64);
-            part(rt, b" task ", task as u64);
+pub(crate) fn replayed(rt: &impl Print, replayed: Result<Replayed, Refusal>) {
+    let _ = match replayed {
+        Ok(Replayed::Same) => println!(rt; "SAME"),
+        Ok(Replayed::Differs { trace, machine }) => {
+            println!(rt; "DIFFERS trace {} machine {}", Side(trace), Side(machine))
         }
-    }
+        Ok(Replayed::Missed { instant, job }) => println!(rt; "MISSED instant {instant} job {job}"),
+        Err(refusal) => println!(rt; "{refusal}"),
+    };
 }
 
-pub(crate) fn replayed(rt: &impl Print, r: Replayed) {
-    match r {
-        Replayed::Same => word(rt, b"SAME"),
-        Replayed::Differs { trace, machine } => {
-            side(rt, b"DIFFERS trace", trace);
-            side(rt, b" machine", machine);
-        }
-        Replayed::Missed { instant, job } => {
-            part(rt, b"MISSED instant ", instant as u64);
-            part(rt, b" job ", job as u64);
-        }
-        Replayed::Refused(r) => refused(rt, r),
-    }
-    newline(rt);
-}
-
-pub(crate) fn bad_query(rt: &impl Print, at: u64) {
-    part(rt, b"BAD QUERY at ", at);
-    newline(rt);
+pub(crate) fn bad_query(rt: &impl Print, at: usize) {
+    let _ = println!(rt; "BAD QUERY at {at}");
 }

@@ -4,8 +4,6 @@
 // one on a board with its settings.
 #![tactic(auto)]
 
-ghost use Rattle.std.specs.Prelude.{◌≡◌, length};
-
 mod ask;
 mod asked;
 mod entries;
@@ -17,21 +15,16 @@ mod stream;
 mod summary_entries;
 mod trace_file;
 
-use crate::plan_file::Form;
 use crate::trace_file::Before;
+use plan::check::Form;
 use std::env::{Env, FillError};
 
 // What the one argument asks for: one of the words, or the file that it names.
 fn answer(rt: &HostRuntime, word: &[u8]) {
     match word {
-        b"-" => plan_file::check(rt, &mut rt.stdin(), b"standard input", Form::Plain),
-        b"--with-shortest" => plan_file::check(
-            rt,
-            &mut rt.stdin(),
-            b"standard input",
-            Form::WithShortest,
-        ),
-        b"--with-rule" => plan_file::check(rt, &mut rt.stdin(), b"standard input", Form::WithRule),
+        b"-" => plan_file::check_input(rt, Form::Plain),
+        b"--with-shortest" => plan_file::check_input(rt, Form::WithShortest),
+        b"--with-rule" => plan_file::check_input(rt, Form::WithRule),
         b"--ask" => ask::answer_stream(rt),
         b"--replay" => trace_file::replay(rt, Before::Nothing),
         b"--replay-for" => trace_file::replay(rt, Before::Owner),
@@ -41,26 +34,17 @@ fn answer(rt: &HostRuntime, word: &[u8]) {
 }
 
 // There is room for the longest path.
-fn space() -> [u8; 4096]
-    ensures { 4096 ≡ length result }
-{
-    [0; 4096]
-}
+const PATH: usize = 4096;
 
 fn main(rt: HostRuntime) {
-    let mut word = space();
+    let mut word = [0u8; PATH];
     if !matches!(rt.arg(2, &mut word), Err(FillError::NotPresent)) {
         let _ = eprintln!(rt; "palikudyom: one plan file at a time");
         return;
     }
     match rt.arg(1, &mut word) {
         Ok(length) => answer(&rt, &word[..length]),
-        Err(FillError::NotPresent) => plan_file::check(
-            &rt,
-            &mut rt.stdin(),
-            b"standard input",
-            Form::Plain,
-        ),
+        Err(FillError::NotPresent) => plan_file::check_input(&rt, Form::Plain),
         Err(FillError::TooLong) => {
             let _ = eprintln!(rt; "palikudyom: the file's name: File name too long");
         }

@@ -1,38 +1,25 @@
 // The line of a plan file.
 use crate::{failure, input, lines};
-use plan::check::{buffer, check_plan, check_plan_with_rule, check_plan_with_shortest};
+use plan::check::{Form, buffer, check_plan};
 use std::fs::File;
 use std::io::Read;
 use std::{io, str};
-use tables::answer::Verdict;
-
-// What a plan file has before P: nothing, the shortest allowed window, or that, the rule and the lost ticks.
-#[derive(Clone, Copy)]
-pub(crate) enum Form {
-    Plain,
-    WithShortest,
-    WithRule,
-}
-
-pub(crate) fn judged(bytes: &[u8], form: Form) -> Verdict {
-    match form {
-        Form::Plain => check_plan(bytes),
-        Form::WithShortest => check_plan_with_shortest(bytes),
-        Form::WithRule => check_plan_with_rule(bytes),
-    }
-}
 
 // The buffer is enough for any answer: what a longer file has after it is not read.
-pub(crate) fn check(rt: &HostRuntime, input: &mut impl Read, name: &[u8], form: Form) {
+fn check(rt: &HostRuntime, input: &mut impl Read, name: &[u8], form: Form) {
     let mut bytes = buffer();
     match input::read_on(input, &mut bytes) {
         Ok(n) => {
-            if let Err(error) = lines::verdict(rt, judged(&bytes[..n], form)) {
+            if let Err(error) = lines::verdict(rt, check_plan(&bytes[..n], form)) {
                 failure::tell(rt, b"standard output", error);
             }
         }
         Err(error) => failure::tell(rt, name, error),
     }
+}
+
+pub(crate) fn check_input(rt: &HostRuntime, form: Form) {
+    check(rt, &mut rt.stdin(), b"standard input", form);
 }
 
 // Paths of std are text.

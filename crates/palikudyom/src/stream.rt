@@ -1,172 +1,155 @@
-// The numbers of a query stream, one after the other. A bad one stops the reading: from there on nothing is read and every number is 0.
-ghost use Rattle.std.specs.Prelude.{◌*◌, ◌≤◌, ◌≡◌, length, take};
-ghost use Rattle.palikudyom.specs.Prefix.{IsPrefixLen};
+// The numbers of a query stream, one after the other. A bad one ends the reading, and is the error: its offset is what a bad query names.
+ghost use Rattle.std.specs.Prelude.{◌*◌, ◌≤◌, length, IfOk};
 
-use plan::number::{Number, read_number};
-
-// Jobs, and what is lent for an entry to write to, have at most so many numbers.
-pub(crate) const JOBS: u32 = 12400;
+use plan::number::{Damaged, read_number};
 
 // A group has at most so many task records.
-const RECORDS: u32 = 40;
+const RECORDS: usize = 40;
+
+// Jobs, and what is lent for an entry to write to, have at most so many numbers.
+pub(crate) const JOBS: usize = 12400;
 
 // A plan has at most so many bytes.
-pub(crate) const BYTES: u32 = 4096;
+pub(crate) const BYTES: usize = 4096;
 
 // A trace has at most so many bytes.
-pub(crate) const TRACE: u32 = 20000;
+pub(crate) const TRACE: usize = 20000;
 
 // A summary has at most so many numbers.
-pub(crate) const SUMMARY: u32 = 9000;
+pub(crate) const SUMMARY: usize = 9000;
 
 // Lengths are at most so many.
-pub(crate) const LENGTHS: u32 = 1000;
+pub(crate) const LENGTHS: usize = 1000;
 
-// Where the next number begins; or, where the reading is stopped, the bad one.
+// A count of at most N.
 #[derive(Clone, Copy)]
-pub(crate) struct Cursor {
-    pub at: usize,
-    pub good: bool,
+struct UpTo<const N: usize> {
+    count: usize,
+    ghost fits: { count ≤ N },
 }
 
-#[derive(Clone, Copy)]
-pub(crate) struct Read {
-    pub value: u32,
-    pub after: Cursor,
+// A list at the front of fixed memory. Its count keeps its bound by itself, so that the memory can be lent to be written.
+#[derive(Drop)]
+pub(crate) struct List<T, const N: usize> {
+    memory: [T; N],
+    used: UpTo<N>,
 }
 
-// A list's numbers stand at the front of the buffer it was read into.
-#[derive(Clone, Copy)]
-pub(crate) struct Listed {
-    pub count: usize,
-    pub after: Cursor,
-}
-
-pub(crate) fn bad(at: usize) -> Cursor {
-    Cursor { at, good: false }
-}
-
-fn taken(value: u32, next: usize) -> Read
-    ensures { result.value ≤ value }
-{
-    let after = Cursor {
-        at: next,
-        good: true,
-    };
-    Read { value, after }
-}
-
-fn stopped(after: Cursor) -> Read
-    ensures { result.value ≤ 0 }
-{
-    Read { value: 0, after }
-}
-
-// A number of at most `most`.
-pub(crate) fn number(stream: &[u8], from: Cursor, most: u32) -> Read
-    ensures { result.value ≤ most }
-{
-    if !from.good {
-        return stopped(from);
-    }
-    let at = from.at;
-    match read_number(stream, at) {
-        Number::Bad(offset) => stopped(bad(offset)),
-        Number::Is { value, next } => {
-            if most < value {
-                stopped(bad(at))
-            } else {
-                taken(value, next)
-            }
+impl<T: Copy, const N: usize> List<T, N> {
+    pub(crate) fn new(memory: [T; N], count: usize) -> List<T, N>
+        requires { count ≤ N }
+    {
+        List {
+            memory,
+            used: UpTo { count },
         }
     }
-}
 
-// Any number.
-pub(crate) fn any(stream: &[u8], from: Cursor) -> Read {
-    number(stream, from, u32::MAX)
-}
-
-// The first numbers of a buffer.
-pub(crate) fn front(out: &[u32], count: usize, after: Cursor) -> Listed
-    requires { count ≤ length out.now }
-    ensures { IsPrefixLen result.count out.now }
-{
-    Listed { count, after }
-}
-
-// So many numbers, to the front of a buffer.
-fn numbers(stream: &[u8], from: Cursor, count: usize, out: &mut [u32]) -> Cursor
-    requires { count ≤ length out.old }
-{
-    let mut after = from;
-    let mut i = 0;
-    while i < count {
-        let next = any(stream, after);
-        out[i] = next.value;
-        after = next.after;
-        i += 1;
+    pub(crate) fn as_slice(&self) -> &[T] {
+        &self.memory[..self.used.count]
     }
-    after
-}
 
-// A list: first how many numbers, at most `most`.
-pub(crate) fn list(stream: &[u8], from: Cursor, most: u32, out: &mut [u32]) -> Listed
-    requires { most ≤ length out.old }
-    ensures { IsPrefixLen result.count out.new }
-{
-    let size = number(stream, from, most);
-    let count = size.value as usize;
-    let after = numbers(stream, size.after, count, out);
-    front(out, count, after)
-}
-
-// Task records: first how many, then three numbers each.
-pub(crate) fn records(stream: &[u8], from: Cursor, out: &mut [u32]) -> Listed
-    requires { 3 * RECORDS ≤ length out.old }
-    ensures { IsPrefixLen result.count out.new }
-{
-    let size = number(stream, from, RECORDS);
-    let count = 3 * size.value as usize;
-    let after = numbers(stream, size.after, count, out);
-    front(out, count, after)
-}
-
-// How many numbers of a lent buffer are lent: at most all.
-pub(crate) fn room(stream: &[u8], from: Cursor, out: &[u32]) -> Listed
-    requires { JOBS ≤ length out.now }
-    ensures { IsPrefixLen result.count out.now }
-{
-    let size = number(stream, from, JOBS);
-    let count = size.value as usize;
-    front(out, count, size.after)
-}
-
-// The same of a buffer of signed numbers.
-pub(crate) fn signed_room(stream: &[u8], from: Cursor, out: &[i64]) -> Listed
-    requires { JOBS ≤ length out.now }
-    ensures { (result.count ≤ length out.now) × (result.count ≡ length (take result.count out.now)) }
-{
-    let size = number(stream, from, JOBS);
-    let count = size.value as usize;
-    let after = size.after;
-    Listed { count, after }
-}
-
-// Bytes: first how many, at most `most`, then each as a number of at most 255.
-pub(crate) fn bytes(stream: &[u8], from: Cursor, most: u32, out: &mut [u8]) -> Listed
-    requires { most ≤ length out.old }
-    ensures { IsPrefixLen result.count out.new }
-{
-    let size = number(stream, from, most);
-    let count = size.value as usize;
-    let mut after = size.after;
-    let mut i = 0;
-    while i < count {
-        let next = number(stream, after, 255);
-        out[i] = next.value as u8;
-        after = next.after;
-        i += 1;
+    pub(crate) fn as_mut_slice(&mut self) -> &mut [T] {
+        &mut self.memory[..self.used.count]
     }
-    Listed { count, after }
+}
+
+// What a list of the stream has.
+pub(crate) trait Item: Copy + Default {
+    fn read(stream: &mut Stream<'_>) -> Result<Self, Damaged>;
+}
+
+impl Item for u32 {
+    fn read(stream: &mut Stream<'_>) -> Result<u32, Damaged> {
+        stream.any()
+    }
+}
+
+// A byte is a number of at most 255.
+impl Item for u8 {
+    fn read(stream: &mut Stream<'_>) -> Result<u8, Damaged> {
+        let byte = stream.at_most(255)?;
+        Ok(byte as u8)
+    }
+}
+
+// The bytes of a stream, and where the next number begins.
+#[derive(Drop)]
+pub(crate) struct Stream<'a> {
+    bytes: &'a [u8],
+    at: usize,
+}
+
+impl<'a> Stream<'a> {
+    pub(crate) fn new(bytes: &'a [u8]) -> Stream<'a> {
+        Stream { bytes, at: 0 }
+    }
+
+    pub(crate) fn at(&self) -> usize {
+        self.at
+    }
+
+    pub(crate) fn is_at_end(&self) -> bool {
+        self.bytes.len() <= self.at
+    }
+
+    // The bytes that are left.
+    pub(crate) fn rest(&self) -> &'a [u8] {
+        self.bytes.get(self.at..).unwrap_or(&[])
+    }
+
+    // Any number.
+    pub(crate) fn any(&mut self) -> Result<u32, Damaged> {
+        let number = read_number(self.bytes, self.at)?;
+        self.at = number.next;
+        Ok(number.value)
+    }
+
+    // A number of at most `most`.
+    pub(crate) fn at_most(&mut self, most: usize) -> Result<usize, Damaged>
+        ensures { IfOk result (λ n. n ≤ most) }
+    {
+        let at = self.at;
+        let number = self.any()? as usize;
+        if most < number {
+            return Err(Damaged { at });
+        }
+        Ok(number)
+    }
+
+    // So many items.
+    fn items<T: Item, const N: usize>(&mut self, count: usize) -> Result<List<T, N>, Damaged>
+        requires { count ≤ N }
+    {
+        let mut memory = [T::default(); N];
+        for item in &mut memory[..count] {
+            *item = T::read(self)?;
+        }
+        Ok(List::new(memory, count))
+    }
+
+    // A list: first how many items, at most `most`.
+    pub(crate) fn list<T: Item, const N: usize>(
+        &mut self,
+        most: usize,
+    ) -> Result<List<T, N>, Damaged>
+        requires { most ≤ N }
+    {
+        let count = self.at_most(most)?;
+        self.items(count)
+    }
+
+    // Task records: first how many, then three numbers each.
+    pub(crate) fn records<const N: usize>(&mut self) -> Result<List<u32, N>, Damaged>
+        requires { 3 * RECORDS ≤ N }
+    {
+        let count = self.at_most(RECORDS)?;
+        self.items(3 * count)
+    }
+
+    // What is lent for an entry to write to: how many numbers. Each is 7, so that what is written shows.
+    pub(crate) fn room<T: Copy + From<u8>>(&mut self) -> Result<List<T, JOBS>, Damaged> {
+        let count = self.at_most(JOBS)?;
+        Ok(List::new([T::from(7); JOBS], count))
+    }
 }

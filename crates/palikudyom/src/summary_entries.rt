@@ -1,152 +1,71 @@
 // The entries over a summary that is kept beside a table, as `entries` has the others.
-ghost use Rattle.std.specs.Prelude.{◌≡◌, length};
-
 use crate::asked::{Asked, LATER_NUMBERS};
-use crate::entries::{lent, numbers, table_of, threes};
+use crate::entries::Table;
 use crate::lines;
-use crate::stream::{Cursor, JOBS, LENGTHS, SUMMARY, any, list, number, room, signed_room};
+use crate::stream::{LENGTHS, List, SUMMARY, Stream};
 use checker::margins;
 use edits::edit::{Edit, edit_table};
+use plan::number::Damaged;
 use summaries::summary;
-use tables::board::Board;
 
-// A summary as it is read.
-fn kept() -> [u32; SUMMARY as usize]
-    ensures { SUMMARY ≡ length result }
-{
-    [0; SUMMARY as usize]
+pub(crate) fn make(rt: &impl Print, stream: &mut Stream<'_>, asked: Asked) -> Result<(), Damaged> {
+    let table = Table::read(stream, asked)?;
+    let mut out = stream.room()?;
+    let made = summary::make_summary(table.board, table.windows.as_slice(), out.as_mut_slice());
+    lines::filled(rt, "SUMMARY", made, out.as_slice());
+    Ok(())
 }
 
-// Lengths as they are read.
-fn lengths() -> [u32; LENGTHS as usize]
-    ensures { LENGTHS ≡ length result }
-{
-    [0; LENGTHS as usize]
-}
-
-// What is lent for margins: each number is 7.
-fn lent_signed() -> [i64; JOBS as usize]
-    ensures { JOBS ≡ length result }
-{
-    [7; JOBS as usize]
-}
-
-pub(crate) fn make(rt: &impl Print, stream: &[u8], from: Cursor, asked: Asked) -> Cursor {
-    let mut windows = threes();
-    let w = table_of(stream, from, asked, &mut windows);
-    let mut out = lent();
-    let room = room(stream, w.after, &out);
-    let end = room.after;
-    if end.good {
-        let board = w.board;
-        let m = w.count;
-        let n = room.count;
-        make_into(rt, board, &windows[..m], &mut out[..n]);
-    }
-    end
-}
-
-fn make_into(rt: &impl Print, board: Board, windows: &[u32], out: &mut [u32]) {
-    let made = summary::make_summary(board, windows, out);
-    lines::filled(rt, b"SUMMARY ", made, out);
-}
-
-pub(crate) fn least_supply(rt: &impl Print, stream: &[u8], from: Cursor, asked: Asked) -> Cursor {
-    let mut windows = threes();
-    let w = table_of(stream, from, asked, &mut windows);
-    let mut summary = kept();
-    let s = list(stream, w.after, SUMMARY, &mut summary);
-    let length = any(stream, s.after);
-    let end = length.after;
-    if end.good {
-        let board = w.board;
-        let m = w.count;
-        let k = s.count;
-        lines::amount(
-            rt,
-            b"AMOUNT ",
-            summary::least_supply(board, &windows[..m], &summary[..k], length.value),
-        );
-    }
-    end
-}
-
-pub(crate) fn margins(rt: &impl Print, stream: &[u8], from: Cursor, asked: Asked) -> Cursor {
-    let mut windows = threes();
-    let w = table_of(stream, from, asked, &mut windows);
-    let mut summary = kept();
-    let s = list(stream, w.after, SUMMARY, &mut summary);
-    let mut tasks = numbers();
-    let t = list(stream, s.after, LATER_NUMBERS, &mut tasks);
-    let board = w.board;
-    let m = w.count;
-    let k = s.count;
-    let n = t.count;
-    margins_at(
-        rt,
-        stream,
-        t.after,
-        board,
-        &windows[..m],
-        &summary[..k],
-        &tasks[..n],
-    )
-}
-
-fn margins_at(
+pub(crate) fn least_supply(
     rt: &impl Print,
-    stream: &[u8],
-    from: Cursor,
-    board: Board,
-    windows: &[u32],
-    summary: &[u32],
-    tasks: &[u32],
-) -> Cursor {
-    let mut lengths = lengths();
-    let l = list(stream, from, LENGTHS, &mut lengths);
-    let mut out = lent_signed();
-    let room = signed_room(stream, l.after, &out);
-    let end = room.after;
-    if end.good {
-        let m = l.count;
-        let n = room.count;
-        margins_into(
-            rt,
-            board,
-            windows,
-            summary,
-            tasks,
-            &lengths[..m],
-            &mut out[..n],
-        );
-    }
-    end
+    stream: &mut Stream<'_>,
+    asked: Asked,
+) -> Result<(), Damaged> {
+    let table = Table::read(stream, asked)?;
+    let kept: List<u32, SUMMARY> = stream.list(SUMMARY)?;
+    let length = stream.any()?;
+    let supply = summary::least_supply(
+        table.board,
+        table.windows.as_slice(),
+        kept.as_slice(),
+        length,
+    );
+    lines::amount(rt, "AMOUNT", supply);
+    Ok(())
 }
 
-fn margins_into(
+pub(crate) fn margins(
     rt: &impl Print,
-    board: Board,
-    windows: &[u32],
-    summary: &[u32],
-    tasks: &[u32],
-    lengths: &[u32],
-    out: &mut [i64],
-) {
-    let found = margins::margins(board, windows, summary, tasks, lengths, out);
-    lines::margins(rt, found, out);
+    stream: &mut Stream<'_>,
+    asked: Asked,
+) -> Result<(), Damaged> {
+    let table = Table::read(stream, asked)?;
+    let kept: List<u32, SUMMARY> = stream.list(SUMMARY)?;
+    let tasks: List<u32, LATER_NUMBERS> = stream.list(LATER_NUMBERS)?;
+    let lengths: List<u32, LENGTHS> = stream.list(LENGTHS)?;
+    let mut out = stream.room()?;
+    let found = margins::margins(
+        table.board,
+        table.windows.as_slice(),
+        kept.as_slice(),
+        tasks.as_slice(),
+        lengths.as_slice(),
+        out.as_mut_slice(),
+    );
+    lines::filled(rt, "MARGINS", found, out.as_slice());
+    Ok(())
 }
 
 // ---- an edit
 
-#[derive(Clone, Copy)]
-struct Change {
-    edit: Edit,
-    after: Cursor,
-}
-
-// Numbers that a kind does not use are read too.
-fn edit_of(kind: u32, index: u32, start: u32, end: u32, owner: u32) -> Edit {
-    match kind {
+// The kind, index, start, end and owner. Numbers that a kind does not use are read too. The kinds are the stream's, as the codes are (ask.rt).
+fn read_edit(stream: &mut Stream<'_>) -> Result<Edit, Damaged> {
+    let kind = stream.at_most(2)?;
+    let index = stream.any()?;
+    let start = stream.any()?;
+    let end = stream.any()?;
+    let owner = stream.any()?;
+    Ok(match kind {
         0 => Edit::Move { index, start, end },
         1 => Edit::Add {
             index,
@@ -155,56 +74,23 @@ fn edit_of(kind: u32, index: u32, start: u32, end: u32, owner: u32) -> Edit {
             owner,
         },
         _ => Edit::Remove { index },
-    }
-}
-
-// The kind, index, start, end and owner.
-fn read_edit(stream: &[u8], from: Cursor) -> Change {
-    let kind = number(stream, from, 2);
-    let index = any(stream, kind.after);
-    let start = any(stream, index.after);
-    let end = any(stream, start.after);
-    let owner = any(stream, end.after);
-    let edit = edit_of(kind.value, index.value, start.value, end.value, owner.value);
-    let after = owner.after;
-    Change { edit, after }
+    })
 }
 
 // The windows memory is in threes as it is read, and may have more than the list.
-pub(crate) fn edit(rt: &impl Print, stream: &[u8], from: Cursor, asked: Asked) -> Cursor {
-    let frame = any(stream, from);
-    let count = any(stream, frame.after);
-    let mut windows = numbers();
-    let w = list(stream, count.after, LATER_NUMBERS, &mut windows);
-    let mut summary = kept();
-    let s = list(stream, w.after, SUMMARY, &mut summary);
-    let change = read_edit(stream, s.after);
-    let end = change.after;
-    if end.good {
-        let board = asked.board(frame.value);
-        let m = w.count;
-        let k = s.count;
-        let edit = change.edit;
-        edit_both(
-            rt,
-            board,
-            count.value,
-            &mut windows[..m],
-            &mut summary[..k],
-            edit,
-        );
-    }
-    end
-}
-
-fn edit_both(
-    rt: &impl Print,
-    board: Board,
-    count: u32,
-    windows: &mut [u32],
-    summary: &mut [u32],
-    edit: Edit,
-) {
-    let edited = edit_table(board, count, windows, summary, edit);
-    lines::edited(rt, edited, windows, summary);
+pub(crate) fn edit(rt: &impl Print, stream: &mut Stream<'_>, asked: Asked) -> Result<(), Damaged> {
+    let board = asked.board(stream.any()?);
+    let count = stream.any()?;
+    let mut windows: List<u32, LATER_NUMBERS> = stream.list(LATER_NUMBERS)?;
+    let mut kept: List<u32, SUMMARY> = stream.list(SUMMARY)?;
+    let edit = read_edit(stream)?;
+    let edited = edit_table(
+        board,
+        count,
+        windows.as_mut_slice(),
+        kept.as_mut_slice(),
+        edit,
+    );
+    lines::edited(rt, edited, windows.as_slice(), kept.as_slice());
+    Ok(())
 }

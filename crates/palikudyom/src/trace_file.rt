@@ -1,18 +1,11 @@
 // Replays a trace from standard input: P, windows and tasks as a query has them, and then the trace's bytes to the end.
-ghost use Rattle.std.specs.Prelude.{◌≡◌, length};
-
-use crate::asked::{Asked, Settings, read_settings};
-use crate::stream::{Cursor, any};
+use crate::asked::Asked;
+use crate::stream::Stream;
 use crate::{entries, failure, input};
+use plan::number::Damaged;
 
 // There is room for so many bytes. A longer input gets no answer: what is left out could change it.
 const MOST: usize = 131072;
-
-fn space() -> [u8; MOST]
-    ensures { MOST ≡ length result }
-{
-    [0; MOST]
-}
 
 // What stands before P: nothing, where the windows are pairs; else they are in threes, after the owner, or after the settings as code 16 has them.
 #[derive(Clone, Copy)]
@@ -22,34 +15,25 @@ pub(crate) enum Before {
     Settings,
 }
 
-fn board(stream: &[u8], form: Before) -> Settings {
-    let start = Cursor { at: 0, good: true };
-    match form {
-        Before::Nothing => {
-            let asked = Asked::alone(17);
-            Settings {
-                asked,
-                after: start,
-            }
+impl Before {
+    fn read(self, stream: &mut Stream<'_>) -> Result<Asked, Damaged> {
+        match self {
+            Before::Nothing => Ok(Asked::alone(17)),
+            Before::Owner => Ok(Asked::shared(stream.any()?)),
+            Before::Settings => Asked::settings(stream),
         }
-        Before::Owner => {
-            let owner = any(stream, start);
-            let asked = Asked::shared(owner.value);
-            let after = owner.after;
-            Settings { asked, after }
-        }
-        Before::Settings => read_settings(stream, start),
     }
 }
 
-// Whether the numbers before the trace could be read.
-fn answered(rt: &impl Print, stream: &[u8], form: Before) -> bool {
-    let board = board(stream, form);
-    entries::replay_rest(rt, stream, board.after, board.asked)
+// An error where a number before the trace is bad.
+fn answer(rt: &impl Print, bytes: &[u8], before: Before) -> Result<(), Damaged> {
+    let mut stream = Stream::new(bytes);
+    let asked = before.read(&mut stream)?;
+    entries::replay_rest(rt, &mut stream, asked)
 }
 
-pub(crate) fn replay(rt: &HostRuntime, form: Before) {
-    let mut space = space();
+pub(crate) fn replay(rt: &HostRuntime, before: Before) {
+    let mut space = [0u8; MOST];
     let mut stdin = rt.stdin();
     match input::read_on(&mut stdin, &mut space) {
         Ok(length) => {
@@ -57,7 +41,7 @@ pub(crate) fn replay(rt: &HostRuntime, form: Before) {
                 let _ = eprintln!(rt;
                     "palikudyom: a trace with its plan's numbers is over 131,072 bytes"
                 );
-            } else if !answered(rt, &space[..length], form) {
+            } else if answer(rt, &space[..length], before).is_err() {
                 let _ = eprintln!(rt; "palikudyom: the numbers before the trace are damaged");
             }
         }

@@ -1,7 +1,7 @@
 -- One byte more of a number, over the variables of the loop
 use mathlib.Core.Path.{◌≡◌, refl, sym, ap, ap₂, ◌∙◌}
 use mathlib.Core.Bool.{true}
-use mathlib.Core.Logic.{inl, inr}
+use mathlib.Core.Logic.{◌≢◌, ◌⊎◌, ⊎_elim, inl, inr}
 use mathlib.Core.Option.{Option, none, some}
 use mathlib.Core.List.{List, ◌∷◌}
 use Prim.Native.Nat.{ℕ, suc, ◌+◌, ◌-◌, ◌*◌, ◌^◌, ◌≤◌, ◌<◌}
@@ -11,18 +11,28 @@ use lib.ListN.{length, get_or, drop, drop_of_length-le}
 use lib.Pow.{pow-add}
 use lib.Seq.{drop-cons}
 use borrow.Author.Tests.{le-leb, lt-leb}
+use Rattle.scope.specs.Limits.{most_number}
 use Rattle.scope.specs.Plan.{Groups, lower, groups, well_formed, Read.read, Read.bad, read_groups, read_number}
 use Rattle.theory.specs.Numbers.{bool_cases}
-use Rattle.theory.specs.Reading.{groups_alone, groups_over, groups_size, five_bytes}
+use Rattle.theory.specs.Reading.{well_formed_lem, is_well_formed, groups_alone, groups_over, groups_size, five_bytes}
 
 -- ---- how the groups of a number are answered
 
-module _ (at : ℕ) (r : Groups) where
-  pub number_formed : well_formed r ≡ true → read r.value (at + r.size) ≡ read_groups at (some r)
-  number_formed w = rw w
+number_ill_formed : (at : ℕ) (r : Groups) → (well_formed r ≡ true → ⊥) → bad at ≡ read_groups at (some r)
+number_ill_formed at r n = elim (bool_cases (well_formed r)) [ inl w ↦ absurd (n w) | inr w ↦ rw w ]
 
-  pub number_ill_formed : (well_formed r ≡ true → ⊥) → bad at ≡ read_groups at (some r)
-  number_ill_formed n = elim (bool_cases (well_formed r)) [ inl w ↦ absurd (n w) | inr w ↦ rw w ]
+module _ (at value size last : ℕ) where
+  abbrev these : Groups
+  these = record { value = value; size = size; last = last }
+
+  pub too_large : most_number < value → bad at ≡ read_groups at (some these)
+  too_large h = number_ill_formed at these (λ w. omega (arith, (well_formed_lem these w).0))
+
+  pub not_fewest : size ≢ 1 → last ≡ 0 → bad at ≡ read_groups at (some these)
+  not_fewest h z = number_ill_formed at these (λ w. omega (arith, (well_formed_lem these w).1 h))
+
+  pub number_formed : value ≤ most_number → (size ≡ 1) ⊎ (0 < last) → read value (at + size) ≡ read_groups at (some these)
+  number_formed h few = let w = is_well_formed these h (λ n. ⊎_elim (λ e. absurd (n e)) (λ l. l) few) in rw w
 
 pub number_missing : (bytes : List ℕ) (at : ℕ) → length bytes ≤ at → bad (length bytes) ≡ read_number bytes at
 unfolding read_number
@@ -64,14 +74,20 @@ after_five at a n bytes more h = go (groups more) refl
 
 -- ---- the loop over the bytes of a number
 
--- one group more stays below its weight, and five weigh 128 ^ 5 at most
-pub grown : (value weight size g : ℕ) → size < 5 → weight ≡ 128 ^ size → value < weight → g ≤ 127 →
-    (value + g * weight < weight * 128) × (weight * 128 ≤ 34359738368)
-grown value weight size g few weighs h l =
+-- five groups weigh 128 ^ 5 at most, and one group more stays below its weight
+pub heavier : (weight size : ℕ) → size < 5 → weight ≡ 128 ^ size → weight * 128 ≤ 34359738368
+heavier weight size few weighs =
     let four : size ≤ 4 = omega arith in
     let most : 128 ^ size ≤ 128 ^ 4 = pow-le-pow_right {n = 128} (omega arith) four in
+    omega arith
+
+pub next_weight : (weight size : ℕ) → weight ≡ 128 ^ size → weight * 128 ≡ 128 ^ (size + 1)
+next_weight weight size e = ap (λ (w : ℕ). w * 128) e ∙ sym (pow-add 128 size 1)
+
+pub grown : (value weight g : ℕ) → value < weight → g ≤ 127 → value + g * weight < weight * 128
+grown value weight g h l =
     let worth : g * weight ≤ 127 * weight = mul-le-mul_right weight l in
-    (omega arith, omega arith)
+    omega arith
 
 -- after `size` groups that are worth `value`
 module _ (bytes : List ℕ) (at value weight size : ℕ) (starts : at < length bytes) (weighs : weight ≡ 128 ^ size)
@@ -82,12 +98,9 @@ module _ (bytes : List ℕ) (at value weight size : ℕ) (starts : at < length b
       let none_left : groups (drop (at + size) bytes) ≡ none = rw (drop_of_length-le bytes h) in
       sym (number_starts bytes at starts ∙ ap (read_groups at) (so_far ∙ ap (after value size) none_left))
 
-  module _ (here : at + size < length bytes) where
-    abbrev byte : ℕ
-    byte = get_or bytes (at + size) 0
-
+  module _ (here : at + size < length bytes) (byte : ℕ) (is : byte ≡ get_or bytes (at + size) 0) where
     split : drop (at + size) bytes ≡ byte ∷ drop (suc (at + size)) bytes
-    split = drop-cons bytes (at + size) 0 here
+    split = rw is (drop-cons bytes (at + size) 0 here)
 
     pub ends : byte < 128 → read_groups at (some (record { value = value + byte * weight; size = size + 1; last = byte })) ≡ read_number bytes at
     ends l =
@@ -107,3 +120,8 @@ module _ (bytes : List ℕ) (at value weight size : ℕ) (starts : at < length b
 
   pub too_long : 5 ≤ size → bad at ≡ read_number bytes at
   too_long h = after_five at value size (drop at bytes) (drop (at + size) bytes) h so_far ∙ sym (number_starts bytes at starts)
+
+-- what a number's groups, and the loop over its bytes, ask for
+pub ruleset judged = (too_large, not_fewest, number_formed)
+
+pub ruleset by_groups = (number_missing, heavier, next_weight, grown, unfinished, ends, goes_on, after_none, too_long)

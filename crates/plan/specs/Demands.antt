@@ -20,10 +20,13 @@ use Rattle.theory.specs.Shortest.{Twelve, OfPlan, plan_twelve}
 use Rattle.theory.specs.Thirteen.{Thirteen, plan_thirteen}
 use Rattle.scope.specs.Plan.{Plan, plan_of}
 use Rattle.scope.specs.Demands.{LeastMiss, Under, Way, Served}
+use Rattle.std.specs.declared.result.Result.{Result}
+use Rattle.std.specs.declared.result.Result.TheVariants.{Ok, Err}
 use Rattle.tables.specs.declared.board.Board.{Board}
+use Rattle.tables.specs.declared.answer.Refusal.{Refusal}
 use Rattle.tables.specs.declared.answer.Refusal.TheVariants.{Sliver, Loss}
 use Rattle.tables.specs.declared.answer.Verdict.{Verdict}
-use Rattle.tables.specs.declared.answer.Verdict.TheVariants.{Meets, Miss, Refused}
+use Rattle.tables.specs.declared.answer.Verdict.TheVariants.{Meets, Miss}
 use Rattle.tables.specs.Told.{board_of, told_verdict}
 use Rattle.tables.specs.Determined.{verdict_determined}
 use Rattle.tables.specs.Refused.{told_refused}
@@ -45,7 +48,7 @@ asked_board p = record {
 abbrev pub asked_windows : Plan → List ℕ
 asked_windows p = as_owned 0 p.windows
 
-module _ (k : ℕ) (bytes : List ℕ) (p : Plan) (read : plan_of k bytes ≡ given p) (v : Verdict) (promised : told_verdict v ≡ plan_answer k bytes) where
+module _ (k : ℕ) (bytes : List ℕ) (p : Plan) (read : plan_of k bytes ≡ given p) (v : Result Verdict Refusal) (promised : told_verdict v ≡ plan_answer k bytes) where
   -- a plan that was read is answered as `verdict` answers owner 0 on its windows
   pub plan_asked : told_verdict v ≡ verdict_for (board_of (asked_board p)) (asked_windows p) p.tasks
   unfolding plan_answer
@@ -63,27 +66,27 @@ module _ (k : ℕ) (bytes : List ℕ) (p : Plan) (read : plan_of k bytes ≡ giv
 
   -- (a)
   pub plan_meets : (w : Verdicts.Verdict) → told_verdict v ≡ given w → (h : ℕ) →
-      (v ≡ Meets h) ↔ ((h ≡ cycle p.frame (tasks_of p.tasks))
+      (v ≡ Ok (Meets h)) ↔ ((h ≡ cycle p.frame (tasks_of p.tasks))
       × ((t : ℕ) → demand (tasks_of p.tasks) t ≤ least_supply (supplied_by (board_of (asked_board p)) p.windows) p.frame t))
   plan_meets w e = rw plan_own at (verdict_meets (asked_board p) (asked_windows p) p.tasks v plan_asked w e)
 
   -- (b)
   pub plan_miss : (w : Verdicts.Verdict) → told_verdict v ≡ given w → (t s d u : ℕ) →
-      (v ≡ Miss t s d u) ↔ LeastMiss (supplied_by (board_of (asked_board p)) p.windows) p.frame (tasks_of p.tasks) t s d u
+      (v ≡ Ok (Miss t s d u)) ↔ LeastMiss (supplied_by (board_of (asked_board p)) p.windows) p.frame (tasks_of p.tasks) t s d u
   plan_miss w e = rw plan_own at (verdict_miss (asked_board p) (asked_windows p) p.tasks v plan_asked w e)
 
   -- (c)
-  pub plan_runs : (h : ℕ) → v ≡ Meets h →
-      (n : ℕ) (js out left : List ℕ) (r : Ran) →
+  pub plan_runs : (h : ℕ) → v ≡ Ok (Meets h) →
+      (n : ℕ) (js out left : List ℕ) (r : Result Ran Refusal) →
       told_ran r ≡ run_for (board_of (asked_board p)) (asked_windows p) p.tasks n js (length out) →
       left ≡ run_out_for (board_of (asked_board p)) (asked_windows p) p.tasks n js out →
       (job_list_fault n js or_else job_fault (tasks_of p.tasks) n (jobs_of js) or_else room_fault (length (jobs_of js)) (length out)) ≡ fine →
-      ((backlog : ℕ) × (r ≡ Met backlog))
+      ((backlog : ℕ) × (r ≡ Ok (Met backlog)))
       × ((j : ℕ) → j < length (jobs_of js) → deadline (tasks_of p.tasks) (jobs_of js) j ≤ n →
       (1 ≤ get_or left j 0) × (get_or left j 0 ≤ (task_at (tasks_of p.tasks) (task_of (jobs_of js) j)).D))
   plan_runs = meets_runs (asked_board p) (asked_windows p) p.tasks v plan_asked
 
-  pub plan_every : (h : ℕ) → v ≡ Meets h →
+  pub plan_every : (h : ℕ) → v ≡ Ok (Meets h) →
       (n : ℕ) (js : List Job) → bad_job (tasks_of p.tasks) n js ≡ none →
       (left : ℕ → List ℕ) → Under (supplied_by (board_of (asked_board p)) p.windows) js (deadline (tasks_of p.tasks) js) left →
       (j : ℕ) → j < length js → deadline (tasks_of p.tasks) js j ≤ n →
@@ -92,15 +95,15 @@ module _ (k : ℕ) (bytes : List ℕ) (p : Plan) (read : plan_of k bytes ≡ giv
   plan_every h m = rw plan_own at (meets_every (asked_board p) (asked_windows p) p.tasks v plan_asked h m)
 
   -- (d)
-  pub plan_starves : (t s d u : ℕ) → v ≡ Miss t s d u →
+  pub plan_starves : (t s d u : ℕ) → v ≡ Ok (Miss t s d u) →
       (w : Way) → Served (supplied_by (board_of (asked_board p)) p.windows) (tasks_of p.tasks) w s t → ⊥
   plan_starves t s d u m =
       rw plan_own at (miss_starves (asked_board p) (asked_windows p) p.tasks v plan_asked t s d u m)
 
 -- requests 5 and 7: 12 and 13 exactly when the file reads to a plan whose windows and settings are refused so
-module _ (k : ℕ) (bytes : List ℕ) (v : Verdict) (promised : told_verdict v ≡ plan_answer k bytes) where
-  pub plan_sliver : (p : ℕ) → (v ≡ Refused (Sliver p)) ↔ OfPlan k bytes (λ q. Twelve teams (plan_board q) (as_owned 0 q.windows) p)
-  plan_sliver p = told_refused told_verdict Refused (λ r. refl) verdict_determined (Sliver p) v promised (plan_twelve k bytes p)
+module _ (k : ℕ) (bytes : List ℕ) (v : Result Verdict Refusal) (promised : told_verdict v ≡ plan_answer k bytes) where
+  pub plan_sliver : (p : ℕ) → (v ≡ Err (Sliver p)) ↔ OfPlan k bytes (λ q. Twelve teams (plan_board q) (as_owned 0 q.windows) p)
+  plan_sliver p = told_refused told_verdict Err (λ r. refl) verdict_determined (Sliver p) v promised (plan_twelve k bytes p)
 
-  pub plan_loss : (v ≡ Refused Loss) ↔ OfPlan k bytes (λ q. Thirteen teams (plan_board q) (as_owned 0 q.windows) 0)
-  plan_loss = told_refused told_verdict Refused (λ r. refl) verdict_determined Loss v promised (plan_thirteen k bytes 0)
+  pub plan_loss : (v ≡ Err Loss) ↔ OfPlan k bytes (λ q. Thirteen teams (plan_board q) (as_owned 0 q.windows) 0)
+  plan_loss = told_refused told_verdict Err (λ r. refl) verdict_determined Loss v promised (plan_thirteen k bytes 0)

@@ -1,42 +1,45 @@
 -- What the code's types say, in the words of `scope`
-use Rattle.std.specs.Prelude.{ℕ, ◌*◌, ◌≤◌, List, length, take}
-use Rattle.scope.specs.Limits.{most_windows, most_tasks}
-use Rattle.scope.specs.Answers.{Answer, Answer.given}
-use Rattle.scope.specs.Plan.{Read, Read.read, Read.bad, Plan, Listed, as_listed}
-use Rattle.tables.specs.Told.{no}
-use Rattle.plan.specs.declared.number.Number as number
+use Rattle.std.specs.Prelude.{ℕ, List}
+use Rattle.std.specs.declared.result.Result.{Result}
+use Rattle.std.specs.declared.result.Result.TheVariants.{Ok, Err}
+use Rattle.scope.specs.Answers.{Answer}
+use Rattle.scope.specs.Plan.{Read, Read.read, Read.bad, Plan, Listed}
+use Rattle.tables.specs.declared.answer.Refusal.{Refusal}
+use Rattle.tables.specs.Told.{told}
+use Rattle.plan.specs.declared.check.Form.{Form}
+use Rattle.plan.specs.declared.check.Form.TheVariants.{Plain, WithShortest, WithRule}
+use Rattle.plan.specs.declared.number.Number.{Number}
+use Rattle.plan.specs.declared.number.Damaged.{Damaged}
 use Rattle.plan.specs.declared.read.Listed as listed
 use Rattle.plan.specs.declared.read.ReadPlan as readPlan
 
-abbrev pub told_number : number.Number → Read ℕ
-told_number (number.TheVariants.Is value next) = read value next
-told_number (number.TheVariants.Bad offset) = bad offset
+abbrev pub told_number : Result Number Damaged → Read ℕ
+told_number (Ok n) = read n.value n.next
+told_number (Err d) = bad d.at
 
--- ---- numbers in a lent buffer l, and how many of its numbers are meant
+-- ---- numbers that fill a buffer l, and the offset after them
 
-abbrev pub told_listed : listed.Listed → List ℕ → Answer Listed
-told_listed (listed.TheVariants.Is count next) l = as_listed (take count l) next
-told_listed (listed.TheVariants.Refused r) l = no r
+abbrev pub told_filled : Result ℕ Damaged → List ℕ → Read (List ℕ)
+told_filled (Ok next) l = read l next
+told_filled (Err d) l = bad d.at
 
-abbrev pub held : listed.Listed → ℕ
-held (listed.TheVariants.Is count next) = count
-held (listed.TheVariants.Refused r) = 0
+-- ---- a list with its count, and a plan
 
--- ---- a plan with these settings, whose windows and tasks are in lent buffers
+abbrev pub listed_of : listed.Listed → Listed
+listed_of l = record { numbers = l.numbers.now; next = l.next }
 
-abbrev pub told_plan : readPlan.ReadPlan → (settings windows tasks : List ℕ) → Answer Plan
-told_plan (readPlan.TheVariants.Is frame w t) settings windows tasks =
-    given (record { settings = settings; frame = frame; windows = take w windows; tasks = take t tasks })
-told_plan (readPlan.TheVariants.Refused r) settings windows tasks = no r
+abbrev pub told_listed : Result listed.Listed Refusal → Answer Listed
+told_listed = told listed_of
 
-abbrev pub held_windows : readPlan.ReadPlan → ℕ
-held_windows (readPlan.TheVariants.Is frame w t) = w
-held_windows (readPlan.TheVariants.Refused r) = 0
+abbrev pub plan_of_read : readPlan.ReadPlan → Plan
+plan_of_read p = record { settings = p.settings.now; frame = p.frame; windows = p.windows.now; tasks = p.tasks.now }
 
-abbrev pub held_tasks : readPlan.ReadPlan → ℕ
-held_tasks (readPlan.TheVariants.Is frame w t) = t
-held_tasks (readPlan.TheVariants.Refused r) = 0
+abbrev pub told_plan : Result readPlan.ReadPlan Refusal → Answer Plan
+told_plan = told plan_of_read
 
--- room for the windows and the tasks of any plan
-abbrev pub Room : (windows tasks : List ℕ) → Type 0
-Room windows tasks = (2 * most_windows ≤ length windows) × (3 * most_tasks ≤ length tasks)
+-- ---- how many settings stand before P
+
+abbrev pub settings_of : Form → ℕ
+settings_of Plain = 0
+settings_of WithShortest = 1
+settings_of WithRule = 3

@@ -3,15 +3,37 @@ ghost use Rattle.scope.specs.Limits.{most_settings, most_windows};
 ghost use Rattle.scope.specs.Shared.{as_owned, verdict_for, plan_board, plan_answer};
 ghost use Rattle.theory.specs.Plan.{most_plan_bytes};
 ghost use Rattle.tables.specs.Told.{board_of, told_verdict};
+ghost use Rattle.plan.specs.Told.{settings_of};
 
 use crate::number::Number;
-use crate::read::{ReadPlan, read_plan};
+use crate::read::read_plan;
 use checker::verdict::verdict;
 use shared::table::as_owned;
-use tables::answer::{Amount, Verdict};
+use tables::answer::{Refusal, Verdict};
 use tables::board::Board;
 use tables::task::Task;
 use tables::window::Window;
+
+// What stands before P: nothing; the shortest allowed window; or that, the rule and the lost ticks. Without them every window is allowed, and given whole.
+#[derive(Clone, Copy, Debug, PartialEq, Eq)]
+pub enum Form {
+    Plain,
+    WithShortest,
+    WithRule,
+}
+
+impl Form {
+    // How many settings these are.
+    fn settings(self) -> usize
+        ensures { result ≡ settings_of self }
+    {
+        match self {
+            Form::Plain => 0,
+            Form::WithShortest => 1,
+            Form::WithRule => 3,
+        }
+    }
+}
 
 // The most settings that a form of the file has before P.
 pub const SETTINGS: usize = 3;
@@ -33,10 +55,7 @@ pub fn buffer() -> [u8; LONGEST + 1]
 fn setting(settings: &[u32], i: usize, meant: u32) -> u32
     ensures { result ≡ get_or settings.now i meant }
 {
-    if i < settings.len() {
-        return settings[i];
-    }
-    meant
+    settings.get(i).copied().unwrap_or(meant)
 }
 
 // The board of a plan: its settings, where it has them, and owner 0.
@@ -56,55 +75,30 @@ fn board_of(frame: u32, settings: &[u32]) -> Board
 }
 
 // The verdict on a plan's windows, which are pairs and owner 0's. Refusals: a table's, then 4 5 6.
-fn verdict_of(board: Board, windows: &[u32], tasks: &[u32]) -> Verdict
+#[tactic(auto, using(crate::proofs::OwnedLaws::as_threes))]
+fn verdict_of(board: Board, windows: &[u32], tasks: &[u32]) -> Result<Verdict, Refusal>
     requires { length windows.now ≤ 2 * most_windows }
     ensures { told_verdict result ≡ verdict_for (board_of board) (as_owned 0 windows.now) tasks.now }
 {
     let mut owned = [0; 3 * Window::MOST];
-    match as_owned(0, windows, &mut owned) {
-        Amount::Refused(r) => Verdict::Refused(r),
-        Amount::Of(n) => verdict(board, &owned[..n as usize], tasks),
-    }
+    let n = as_owned(0, windows, &mut owned)?;
+    verdict(board, &owned[..n as usize], tasks)
 }
 
-// The verdict of a plan file with k settings. Refusal 9 and the two early answers as the file is read, then 2 3 12 13 5 6.
-fn check_with(bytes: &[u8], k: usize) -> Verdict
-    requires { k ≤ most_settings }
-    ensures { told_verdict result ≡ plan_answer k bytes.now }
+// The verdict of a plan file of a form. Refusal 9 and the two early answers as the file is read, then 2 3 12 13 5 6.
+#[tactic(auto, using(crate::proofs::ReadLaws::plan_refused))]
+pub fn check_plan(bytes: &[u8], form: Form) -> Result<Verdict, Refusal>
+    ensures { told_verdict result ≡ plan_answer (settings_of form) bytes.now }
 {
-    let mut settings = [0u32; SETTINGS];
-    let mut windows = [0u32; 2 * Window::MOST];
-    let mut tasks = [0u32; 3 * Task::MOST];
-    match read_plan(bytes, k, &mut settings, &mut windows, &mut tasks) {
-        ReadPlan::Refused(refusal) => Verdict::Refused(refusal),
-        ReadPlan::Is {
-            frame,
-            windows: w,
-            tasks: t,
-        } => {
-            let board = board_of(frame, &settings[..k]);
-            verdict_of(board, &windows[..w], &tasks[..t])
-        }
-    }
-}
-
-// The verdict of a plan file that has no settings: every window is allowed, and given whole.
-pub fn check_plan(bytes: &[u8]) -> Verdict
-    ensures { told_verdict result ≡ plan_answer 0 bytes.now }
-{
-    check_with(bytes, 0)
-}
-
-// The verdict of a plan file that has the shortest allowed window first.
-pub fn check_plan_with_shortest(bytes: &[u8]) -> Verdict
-    ensures { told_verdict result ≡ plan_answer 1 bytes.now }
-{
-    check_with(bytes, 1)
-}
-
-// The verdict of a plan file that has the shortest allowed window, the rule and the lost ticks first.
-pub fn check_plan_with_rule(bytes: &[u8]) -> Verdict
-    ensures { told_verdict result ≡ plan_answer 3 bytes.now }
-{
-    check_with(bytes, 3)
+    let mut settings = [0; SETTINGS];
+    let mut windows = [0; 2 * Window::MOST];
+    let mut tasks = [0; 3 * Task::MOST];
+    let plan = read_plan(
+        bytes,
+        &mut settings[..form.settings()],
+        &mut windows,
+        &mut tasks,
+    )?;
+    let board = board_of(plan.frame, plan.settings);
+    verdict_of(board, plan.windows, plan.tasks)
 }

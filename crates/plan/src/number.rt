@@ -2,13 +2,31 @@
 ghost use Rattle.std.specs.Prelude.{◌≡◌, ◌+◌, ◌<◌};
 ghost use Rattle.std.proofs.Math.Option.{some};
 ghost use Rattle.scope.specs.Plan.{read_groups, read_number};
+ghost use Rattle.tables.specs.declared.answer.Refusal.TheVariants.{Bytes};
 ghost use Rattle.plan.specs.Told.{told_number};
 
-// The number at an offset, with the offset after it; or the offset that refusal 9 names.
-#[derive(Clone, Copy)]
-pub enum Number {
-    Is { value: u32, next: usize },
-    Bad(usize),
+use tables::answer::Refusal;
+
+// A number of a plan file, with the offset after it.
+#[derive(Clone, Copy, Debug, PartialEq, Eq)]
+pub struct Number {
+    pub value: u32,
+    pub next: usize,
+}
+
+// Where a file is bad.
+#[derive(Clone, Copy, Debug, PartialEq, Eq)]
+pub struct Damaged {
+    pub at: usize,
+}
+
+// Refusal 9 names the offset.
+impl From<Damaged> for Refusal {
+    ghost from_gives = { λ damaged refusal. refusal ≡ Bytes damaged.at };
+
+    fn from(damaged: Damaged) -> Refusal {
+        Refusal::Bytes(damaged.at as u64)
+    }
 }
 
 impl Number {
@@ -20,43 +38,43 @@ impl Number {
 }
 
 // The number of these groups at an offset: not too large, and in the fewest bytes.
-fn formed(at: usize, value: u64, size: usize, last: u64) -> Number
+#[tactic(auto, using(crate::proofs::NumberLaws::judged))]
+fn formed(at: usize, value: u64, size: usize, last: u64) -> Result<Number, Damaged>
     requires { at + size < 18446744073709551616 }
     ensures { told_number result ≡ read_groups at (some (record { value = value; size = size; last = last })) }
 {
     if Number::LARGEST < value {
-        return Number::Bad(at);
+        return Err(Damaged { at });
     }
     if size != 1 && last == 0 {
-        return Number::Bad(at);
+        return Err(Damaged { at });
     }
-    Number::Is {
+    Ok(Number {
         value: value as u32,
         next: at + size,
-    }
+    })
 }
 
-pub fn read_number(bytes: &[u8], at: usize) -> Number
+#[tactic(auto, using(crate::proofs::NumberLaws::by_groups))]
+pub fn read_number(bytes: &[u8], at: usize) -> Result<Number, Damaged>
     ensures { told_number result ≡ read_number bytes.now at }
 {
     if bytes.len() <= at {
-        return Number::Bad(bytes.len());
+        return Err(Damaged { at: bytes.len() });
     }
     let mut value: u64 = 0;
     let mut weight: u64 = 1;
-    let mut size = 0;
-    while size < Number::MOST_GROUPS {
+    for size in 0..Number::MOST_GROUPS {
         let next = at + size;
         if bytes.len() <= next {
-            return Number::Bad(at);
+            return Err(Damaged { at });
         }
-        let byte = bytes[next] as u64;
-        size += 1;
+        let byte = u64::from(bytes[next]);
         if byte < 128 {
-            return formed(at, value + byte * weight, size, byte);
+            return formed(at, value + byte * weight, size + 1, byte);
         }
         value += (byte - 128) * weight;
         weight *= 128;
     }
-    Number::Bad(at)
+    Err(Damaged { at })
 }

@@ -1,3 +1,4 @@
-pub mod Put
+pub mod Told
+pub mod Text
 pub mod Demands
 pub mod Printed

@@ -2,5 +2,6 @@
 #![tactic(auto)]
 
 pub mod line;
+mod put;
 mod text;
 pub mod write;

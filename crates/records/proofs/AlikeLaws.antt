@@ -1,6 +1,6 @@
--- Two groups as numbers that every entry answers alike: equal, or both refused with 4, which comes after the table's checks and before all that reads a task
-use mathlib.Core.Path.{◌≡◌, refl, sym, ap, subst}
-use mathlib.Core.Logic.{◌⊎◌, inl, inr}
+-- Every entry answers two groups alike that are equal, or both refused with 4
+use mathlib.Core.Path.{◌≡◌, refl, sym, ap}
+use mathlib.Core.Logic.{inl, inr}
 use mathlib.Core.List.{List}
 use Prim.Native.Nat.{ℕ, ◌/◌, ◌<◌}
 use native.Mathlib.Omega.{arith}
@@ -16,13 +16,9 @@ use Rattle.theory.specs.Shared.{asked_same}
 use Rattle.tables.specs.declared.task.Task.{Task}
 use Rattle.tables.proofs.FaultLaws.{or_fault}
 use Rattle.tables.proofs.TaskLaws.{too_many}
-use Rattle.records.specs.declared.flat.Flat.{Flat}
 use Rattle.records.specs.Numbers.{numbers_of, enough_numbers}
+use Rattle.records.specs.Alike.{Alike}
 use Rattle.records.proofs.NumberLaws.{numbers_length}
-use Rattle.records.proofs.FlatLaws.{front, Flattened}
-
-abbrev pub Alike : List ℕ → List ℕ → Type 0
-Alike ts ts' = (ts ≡ ts') ⊎ ((group_fault ts ≡ fault 4 0) × (group_fault ts' ≡ fault 4 0))
 
 -- ---- every entry answers them alike
 
@@ -98,11 +94,11 @@ pub over : (ts : List ℕ) → most_tasks < length ts / 3 → group_fault ts ≡
 over ts h = bad_list ts (sym (too_many ts h))
 
 -- the numbers of the first records, as many as are enough, and all
-pub flattened_alike : (ys : List Task) (f : Flat) → Flattened ys f → Alike (front f) (numbers_of ys)
-flattened_alike ys f flat =
+pub enough_alike : (ys : List Task) → Alike (take enough_numbers (numbers_of ys)) (numbers_of ys)
+enough_alike ys =
     let all = numbers_of ys in
     let e = numbers_length ys in
-    subst (λ (l : List ℕ). Alike l all) (sym flat.1) (elim (dec_le (length all) enough_numbers) [
+    elim (dec_le (length all) enough_numbers) [
       | yes l ↦ inl (take_all enough_numbers all l)
       | no l ↦ inr (over (take enough_numbers all) (omega (arith, length-take-le enough_numbers all (omega arith))), over all (omega arith))
-    ])
+    ]

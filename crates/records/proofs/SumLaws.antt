@@ -1,99 +1,77 @@
 -- The demand of a group as it is summed, one record after the other
-use mathlib.Core.Path.{◌≡◌, refl, sym}
-use mathlib.Core.Bool.{Bool, true, false, not, cond}
-use mathlib.Core.Option.{Option, none, some}
+use mathlib.Core.Path.{◌≡◌, sym, ap, ◌∙◌}
+use mathlib.Core.Bool.{true, false}
 use mathlib.Core.List.{List}
-use Prim.Native.Nat.{ℕ, suc, ◌+◌, ◌^◌, ◌≤◌, ◌<◌}
+use Prim.Native.Nat.{ℕ, ◌+◌, ◌^◌, ◌≤◌, ◌<◌}
 use native.Mathlib.Omega.{arith}
 use native.Mathlib.Numerals.{add-one}
 use lib.ListN.{length, get_or}
-use borrow.Author.Tests.{not-false}
-use Rattle.scope.specs.Numbers.{sum, first, first_by}
-use Rattle.scope.specs.Tasks.{Task, tasks_of, task_at, task_legal, bad_task, task_demand, demand}
-use Rattle.scope.specs.Answers.{Fault, Fault.fine, Fault.fault, Answer, fault_if, fault_at, ◌or_else◌, unless, task_list_fault, task_fault, group_fault, length_fault}
-use Rattle.scope.specs.Answers.{demand_answer}
-use Rattle.theory.specs.Numbers.{sum_le, sum_same, first_none, first_some, some_first}
-use Rattle.theory.specs.Answers.{task_list_legal}
+use borrow.Author.Tests.{lt-ltb, le-ltb}
+use Rattle.scope.specs.Limits.{most_tasks}
+use Rattle.scope.specs.Numbers.{sum}
+use Rattle.scope.specs.Tasks.{Task, tasks_of, task_at, task_legal, bad_task, task_demand}
+use Rattle.scope.specs.Answers.{Fault.fine, Fault.fault, Answer.given, Answer.refused, length_fault, task_list_fault, task_fault, group_fault, demand_answer}
+use Rattle.theory.specs.Numbers.{sum_le, sum_same}
 use Rattle.theory.specs.Tasks.{demand_sum}
 use Rattle.tables.specs.Told.{task_of}
 use Rattle.tables.specs.declared.task.Task as records
+use Rattle.tables.proofs.FaultLaws.{if_true, if_false, stopped, passed, refused_there, given_there, breaks_at_lem, breaks_nowhere}
 use Rattle.records.specs.Numbers.{numbers_of}
-use Rattle.records.specs.Sums.{begin_of, add_of, finish_of, Roomy}
 use Rattle.records.proofs.NumberLaws as numbers
 use Rattle.records.proofs.TaskLaws.{task_most}
-
--- ---- the first of one number more
-
-module _ (p : ℕ → Bool) (i : ℕ) where
-  first_stays : (c : ℕ) → first p i ≡ some c → first p (suc i) ≡ some c
-  first_stays c e = let s = first_some p i c e in some_first p (suc i) c (omega (arith, s.0)) s.1 s.2
-
-  first_next : first p i ≡ none → first p (suc i) ≡ cond (p i) (some i) none
-  unfolding first_by
-  first_next e = rw e
-
--- ---- the first i records of a group
 
 module _ (ys : List records.Task) (t : ℕ) where
   abbrev ts : List Task
   ts = tasks_of (numbers_of ys)
 
-  -- whether record k breaks its rule
-  abbrev broken : ℕ → Bool
-  broken k = not (task_legal (task_at ts k))
+  -- the demand of the first i records
+  abbrev pub summed : ℕ → ℕ
+  summed i = sum (λ k. task_demand (task_at ts k) t) i
 
-  -- the answer of the first i: the list's own refusal, that of the first of them that breaks its rule, or the sum of their demands
-  unfoldable pub so_far : ℕ → Answer ℕ
-  so_far i = unless (task_list_fault (numbers_of ys) or_else fault_at 5 (first broken i)) (sum (λ k. task_demand (task_at ts k) t) i)
-
-  pub begin_is : begin_of (length ys) ≡ so_far 0
-  unfolding so_far begin_of first_by sum
-  begin_is = rw (sym (numbers.list_fault_lem ys)) (alone (task_list_fault (numbers_of ys)))
-    where
-      alone : (f : Fault) → unless {A = ℕ} f 0 ≡ unless (f or_else fine) 0
-      alone fine = refl
-      alone (fault n p) = refl
+  -- they keep their rule
+  abbrev pub Kept : ℕ → Type 0
+  Kept i = (k : ℕ) → k < i → task_legal (task_at ts k) ≡ true
 
   -- record i is added
-  pub add_is : (i : ℕ) → add_of (so_far i) i (task_of (get_or ys i numbers.none)) t ≡ so_far (i + 1)
-  unfolding so_far add_of sum
-  add_is i = rw (sym (numbers.task_at_lem ys i), add-one i) (go (task_list_fault (numbers_of ys)) (first broken i) refl)
-    where
-      one : (z : Bool) (n : ℕ) → unless (fault_if z 5 i) n ≡ unless (fault_at 5 (cond z (some i) none)) n
-      one true n = refl
-      one false n = refl
-
-      go : (f : Fault) (o : Option ℕ) → first broken i ≡ o →
-          add_of (unless (f or_else fault_at 5 o) (sum (λ k. task_demand (task_at ts k) t) i)) i (task_at ts i) t
-          ≡ unless (f or_else fault_at 5 (first broken (suc i))) (sum (λ k. task_demand (task_at ts k) t) i + task_demand (task_at ts i) t)
-      go (fault n p) o e = refl
-      go fine (some c) e = rw (first_stays broken i c e)
-      go fine none e = rw (first_next broken i e) (one (broken i) _)
-
-  pub finish_is : finish_of (so_far (length ys)) t ≡ demand_answer (numbers_of ys) t
-  unfolding so_far finish_of demand_answer group_fault task_fault bad_task
-  finish_is = rw (sym (numbers.tasks_length ys), sym (demand_sum ts t)) (go (task_list_fault (numbers_of ys) or_else fault_at 5 (first broken (length ts))))
-    where
-      go : (f : Fault) → finish_of (unless f (demand ts t)) t ≡ unless (f or_else length_fault t) (demand ts t)
-      go fine = refl
-      go (fault n p) = refl
+  pub summed_more : (i : ℕ) → summed i + task_demand (task_of (get_or ys i numbers.none)) t ≡ summed (i + 1)
+  unfolding sum
+  summed_more i = rw (sym (numbers.task_at_lem ys i), add-one i)
 
   -- as many tasks as a group may have, of at most 2 ^ 52 each
-  pub roomy : (i : ℕ) → i ≤ length ys → t < 2 ^ 32 → Roomy (so_far i)
-  unfolding so_far
-  roomy i l h = go (task_list_fault (numbers_of ys)) (first broken i) refl refl
-    where
-      each : first broken i ≡ none → (k : ℕ) → k < i → task_demand (task_at ts k) t ≤ 2 ^ 52
-      each e k j = task_most (task_at ts k) t (not-false _ (first_none broken i e k j)) h
-
-      go : (f : Fault) (o : Option ℕ) → task_list_fault (numbers_of ys) ≡ f → first broken i ≡ o →
-          Roomy (unless (f or_else fault_at 5 o) (sum (λ k. task_demand (task_at ts k) t) i))
-      go (fault n p) o e e' = tt
-      go fine (some c) e e' = tt
-      go fine none e e' = omega (
+  pub roomy : (i : ℕ) → Kept i → i ≤ most_tasks → t < 2 ^ 32 → summed i ≤ 2 ^ 57
+  roomy i kept few h =
+      omega (
         arith,
-        (task_list_legal (numbers_of ys) e).1,
-        numbers.numbers_length ys,
-        sum_le (λ k. task_demand (task_at ts k) t) (λ k. 2 ^ 52) i (each e'),
+        sum_le (λ k. task_demand (task_at ts k) t) (λ k. 2 ^ 52) i (λ k j. task_most (task_at ts k) t (kept k j) h),
         sum_same (2 ^ 52) i,
       )
+
+  pub too_many : most_tasks < length ys → refused 4 0 ≡ demand_answer (numbers_of ys) t
+  unfolding demand_answer group_fault
+  too_many h = refused_there _ (stopped _ (stopped _ (if_true _ 4 0 (lt-ltb _ _ h) ∙ sym (numbers.list_fault_lem ys))))
+
+  module _ (few : length ys ≤ most_tasks) where
+    list_kept : fine ≡ task_list_fault (numbers_of ys)
+    list_kept = if_false _ 4 0 (le-ltb _ _ few) ∙ sym (numbers.list_fault_lem ys)
+
+    -- record i is the first that breaks its rule
+    pub broken_at : (i : ℕ) → i < length ys → Kept i → task_legal (task_of (get_or ys i numbers.none)) ≡ false → refused 5 i ≡ demand_answer (numbers_of ys) t
+    unfolding demand_answer group_fault task_fault bad_task
+    broken_at i h kept broken =
+        refused_there _ (stopped _ (passed list_kept (breaks_at_lem 5 (λ k. task_legal (task_at ts k)) (length ts) i (omega (arith, numbers.tasks_length ys)) kept
+        (ap task_legal (numbers.task_at_lem ys i) ∙ broken))))
+
+    -- all of them keep it
+    module _ (i : ℕ) (all : i ≡ length ys) (kept : Kept i) where
+      group_kept : fine ≡ group_fault (numbers_of ys)
+      unfolding group_fault task_fault bad_task
+      group_kept =
+          passed list_kept (breaks_nowhere 5 (λ k. task_legal (task_at ts k)) (length ts) (λ k h. kept k (omega (arith, numbers.tasks_length ys))))
+
+      pub answered : fine ≡ length_fault t → given (summed i) ≡ demand_answer (numbers_of ys) t
+      unfolding demand_answer
+      answered e = ap given (rw (all, sym (numbers.tasks_length ys)) (sym (demand_sum ts t))) ∙ given_there _ (passed group_kept e)
+
+      pub too_long : {n p : ℕ} → fault n p ≡ length_fault t → refused n p ≡ demand_answer (numbers_of ys) t
+      unfolding demand_answer
+      too_long e = refused_there _ (passed group_kept e)

@@ -1,3 +1,3 @@
 pub mod Numbers
-pub mod Sums
+pub mod Alike
 pub mod Demands

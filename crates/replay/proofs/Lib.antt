@@ -1,7 +1,7 @@
 pub mod ReadLaws
 pub mod Forward
 pub mod SurveyLaws
-pub mod Ahead
+pub mod RecordsLaws
 pub mod OrderLaws
 pub mod RebuildLaws
 pub mod EndingLaws

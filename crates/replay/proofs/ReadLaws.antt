@@ -1,63 +1,62 @@
 -- Steps of the reader of records
-use Rattle.std.proofs.Common.{◌≡◌, ℕ, ◌+◌, ◌%◌, ◌^◌, ◌<◌, ◌≤◌, List, length, arith, eq-eqb, ne_eqb, le-leb}
-use borrow.Author.Tests.{lt-leb}
-use Rattle.scope.specs.Plan.{Read, Read.read, Read.bad, read_number}
-use Rattle.scope.specs.Trace.{Stamped, read_kind, read_work, read_record, elapsed}
-use Rattle.replay.specs.declared.read.Reader.{Reader}
-use Rattle.replay.specs.Reading.{stamp_in, first_stamp_of, passed_by, passed}
+use Rattle.std.proofs.Common.{◌≡◌, ℕ, ◌+◌, ◌-◌, ◌%◌, ◌^◌, ◌<◌, ◌≤◌, Bool, true, false, cond, leb, List, refl, ap, arith, eq-eqb, leb-true}
+use Rattle.scope.specs.Plan.{Read, Read.read, Read.bad, and_read, read_number}
+use Rattle.scope.specs.Trace.{read_kind, read_record, elapsed}
+use Rattle.replay.specs.declared.read.Event.TheVariants.{Release, Completion}
+use Rattle.replay.specs.Reading.{stamped_at}
+
+-- ---- `?`: what is bad is bad, and what is read goes on
+
+module _ {A B : Type 0} {r : Read A} (f : A → ℕ → Read B) where
+  pub read_fails : {o : ℕ} → bad o ≡ r → bad o ≡ and_read r f
+  read_fails e = rw (← e)
+
+  pub read_goes_on : {a : A} {next : ℕ} {x : Read B} → read a next ≡ r → x ≡ f a next → x ≡ and_read r f
+  read_goes_on e q = rw (← e) q
+
+-- ---- a record
+
+-- there are two kinds
+kind_most : (bytes : List ℕ) (at kind next : ℕ) → read kind next ≡ read_kind bytes at → kind ≤ 1
+kind_most bytes at kind next e = go (read_number bytes at) e
+  where
+    one : (v n : ℕ) (t : Bool) → leb v 1 ≡ t → read kind next ≡ cond t (read v n) (bad at) → kind ≤ 1
+    one v n true h q = let z : kind ≡ v = cc in omega (arith, leb-true v 1 h)
+    one v n false h q = let z : ◌≡◌ {A = ℕ} 0 1 = cc in absurd (omega arith)
+
+    go : (r : Read ℕ) → read kind next ≡ and_read r (λ k n. cond (leb k 1) (read k n) (bad at)) → kind ≤ 1
+    go (read v n) q = one v n (leb v 1) refl q
+    go (bad o) q = let z : ◌≡◌ {A = ℕ} 0 1 = cc in absurd (omega arith)
 
 module _ (bytes : List ℕ) (at : ℕ) where
-  pub kind_bad : (o : ℕ) → read_number bytes at ≡ bad o → bad o ≡ read_kind bytes at
-  kind_bad o e = rw e
-
-  pub kind_over : (v next : ℕ) → read_number bytes at ≡ read v next → 1 < v → bad at ≡ read_kind bytes at
-  kind_over v next e h = rw (e, lt-leb v 1 h)
-
-  pub kind_is : (v next : ℕ) → read_number bytes at ≡ read v next → v ≤ 1 → read v next ≡ read_kind bytes at
-  kind_is v next e h = rw (e, le-leb v 1 h)
-
-  pub record_kind : (o : ℕ) → read_kind bytes at ≡ bad o → bad o ≡ read_record bytes at
+  pub kind_fails : (o : ℕ) → bad o ≡ read_kind bytes at → bad o ≡ read_record bytes at
   unfolding read_record
-  record_kind o e = rw e
+  kind_fails o e = read_fails _ e
 
-  module _ (kind afterKind : ℕ) where
-    pub record_task : (o : ℕ) → read_kind bytes at ≡ read kind afterKind → read_number bytes afterKind ≡ bad o → bad o ≡ read_record bytes at
+  module _ (kind after_kind : ℕ) (e : read kind after_kind ≡ read_kind bytes at) where
+    pub task_fails : (o : ℕ) → bad o ≡ read_number bytes after_kind → bad o ≡ read_record bytes at
     unfolding read_record
-    record_task o e f = rw (e, f)
+    task_fails o f = read_goes_on _ e (read_fails _ f)
 
-    module _ (task afterTask : ℕ) where
-      pub record_work : (o : ℕ) → read_kind bytes at ≡ read kind afterKind → read_number bytes afterKind ≡ read task afterTask →
-          read_work kind bytes afterTask ≡ bad o → bad o ≡ read_record bytes at
+    module _ (task after_task : ℕ) (f : read task after_task ≡ read_number bytes after_kind) where
+      -- a release
+      module _ (zero : kind ≡ 0) where
+        pub work_fails : (o : ℕ) → bad o ≡ read_number bytes after_task → bad o ≡ read_record bytes at
+        unfolding read_record
+        work_fails o g = read_goes_on _ e (read_goes_on _ f (rw (eq-eqb kind 0 zero) (read_fails _ g)))
+
+        pub release_is : (work after_work : ℕ) → read work after_work ≡ read_number bytes after_task →
+            stamped_at (Release task work) bytes after_work ≡ read_record bytes at
+        unfolding read_record
+        release_is work after_work g = read_goes_on _ e (read_goes_on _ f (rw (eq-eqb kind 0 zero) (read_goes_on _ g (rw zero))))
+
+      pub completion_is : (kind ≡ 0 → ⊥) → stamped_at (Completion task) bytes after_task ≡ read_record bytes at
       unfolding read_record
-      record_work o e f g = rw (e, f, g)
+      completion_is u =
+          let one : kind ≡ 1 = omega (arith, kind_most bytes at kind after_kind e) in
+          read_goes_on _ e (read_goes_on _ f (rw one))
 
-      module _ (work afterWork : ℕ) where
-        pub record_stamp : (o : ℕ) → read_kind bytes at ≡ read kind afterKind → read_number bytes afterKind ≡ read task afterTask →
-            read_work kind bytes afterTask ≡ read work afterWork → read_number bytes afterWork ≡ bad o → bad o ≡ read_record bytes at
-        unfolding read_record
-        record_stamp o e f g h = rw (e, f, g, h)
-
-        pub record_is : (stamp next : ℕ) → read_kind bytes at ≡ read kind afterKind → read_number bytes afterKind ≡ read task afterTask →
-            read_work kind bytes afterTask ≡ read work afterWork → read_number bytes afterWork ≡ read stamp next →
-            read (record { kind = kind; task = task; work = work; stamp = stamp }) next ≡ read_record bytes at
-        unfolding read_record
-        record_is stamp next e f g h = rw (e, f, g, h)
-
-pub work_of_lem : (kind : ℕ) (bytes : List ℕ) (at : ℕ) → kind ≡ 0 → read_work kind bytes at ≡ read_number bytes at
-work_of_lem kind bytes at e = rw (eq-eqb kind 0 e)
-
-pub no_work : (kind : ℕ) (bytes : List ℕ) (at : ℕ) → (kind ≡ 0 → ⊥) → read_work kind bytes at ≡ read 0 at
-no_work kind bytes at u = rw (ne_eqb kind 0 u)
-
-pub stamp_of : (bytes : List ℕ) (x : Read Stamped) → read_record bytes 0 ≡ x → first_stamp_of bytes ≡ stamp_in x
-unfolding first_stamp_of
-stamp_of bytes x e = rw e
-
-pub passed_by_lem : (bytes : List ℕ) (r : Reader) (x : Read Stamped) → read_record bytes r.at ≡ x → passed bytes r ≡ passed_by (length bytes) r x
-unfolding passed
-passed_by_lem bytes r x e = rw e
-
--- what `wrapping_sub_u32` ensures says what has elapsed
-pub from_wraps : (r a b : ℕ) → r < 2 ^ 32 → a < 2 ^ 32 → (r + a) % 2 ^ 32 ≡ b → r ≡ elapsed a b
+-- what `wrapping_sub` answers has elapsed
+pub wraps : (a b : ℕ) → a < 2 ^ 32 → (b + (2 ^ 32 - a)) % 2 ^ 32 ≡ elapsed a b
 unfolding elapsed
-from_wraps r a b hr ha e = omega arith
+wraps a b h = let z : b + (2 ^ 32 - a) ≡ b + 2 ^ 32 - a = omega arith in ap (λ (u : ℕ). u % 2 ^ 32) z

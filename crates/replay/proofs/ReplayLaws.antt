@@ -1,5 +1,5 @@
 -- The parts of a replay's answer put together
-use Rattle.std.proofs.Common.{◌≡◌, ℕ, zero, suc, ◌-◌, ◌<◌, ◌≤◌, min, Bool, true, false, ◌||◌, ltb, List, length, get_or, sym, refl, ap, ◌∙◌, true≢false, arith, ltb-false, le-ltb, lt-ltb, le-leb}
+use Rattle.std.proofs.Common.{◌≡◌, ℕ, zero, suc, ◌-◌, ◌*◌, ◌<◌, ◌≤◌, min, Bool, true, ◌||◌, ltb, List, length, take, get_or, sym, refl, ap, ◌∙◌, arith, ltb-false, le-ltb, lt-ltb, le-leb}
 use mathlib.Core.Option.{Option, none, some}
 use native.Mathlib.Decide.{dec_lt}
 use borrow.Author.Tests.{lt-leb}
@@ -11,11 +11,11 @@ use Rattle.scope.specs.Numbers.{first, listed, written}
 use Rattle.scope.specs.Machine.{edf, work_left}
 use Rattle.scope.specs.Run as Runs
 use Rattle.scope.specs.Run.{Outcome, late, then_at, judged, outcome, ticks_done, count, ran, counts}
-use Rattle.scope.specs.Answers.{Fault, Fault.fine, Fault.fault, Answer, Answer.given, Answer.refused, fault_if, ◌or_else◌, unless, group_fault}
+use Rattle.scope.specs.Answers.{Fault, Fault.fine, Fault.fault, Answer.given, Answer.refused, fault_if, ◌or_else◌, unless, group_fault}
 use Rattle.scope.specs.Answers.{job_fault, room_fault, run_fault, run_answer, run_out}
 use Rattle.scope.specs.Plan.{Read, Read.read, Read.bad, or_nine}
 use Rattle.scope.specs.Trace.{Stamped, trace_of, Record, timed, ticks_of, releases, completions, bad_record}
-use Rattle.scope.specs.Replay.{ended_from, Difference, first_difference, Replayed.missed, named, replayed, extent_fault, record_fault, replay_fault}
+use Rattle.scope.specs.Replay.{ended_from, Difference, first_difference, named, replayed, extent_fault, record_fault, replay_fault}
 use Rattle.scope.specs.Replay.{records_answer}
 use Rattle.scope.specs.Shared.{own, shared_fault, kept, run_for, run_out_for, records_for, replay_for}
 use Rattle.theory.specs.Numbers.{or_neither}
@@ -27,24 +27,12 @@ use Rattle.theory.specs.Replays.{records_given, jobs_legal}
 use Rattle.theory.specs.Shared.{own_fine, asked_fine, asked_unless}
 use Rattle.tables.proofs.FaultLaws.{or_assoc}
 use Rattle.replay.specs.Surveyed.{Surveyed.extends, Surveyed.damaged, surveyed}
-use Rattle.replay.specs.Rebuilt.{timed_in, records_of, Fits, Rebuilt, Legal}
-use Rattle.replay.specs.Compared.{endings_from, compared_from, is_no_later, up_to, named_in}
+use Rattle.replay.specs.Fitting.{fits}
+use Rattle.replay.specs.Rebuilt.{timed_in, records_of, Fits, numbers_of}
+use Rattle.replay.specs.Compared.{endings_from, compared_from, up_to}
+use Rattle.replay.proofs.RecordsLaws.{fits_is}
 use Rattle.replay.proofs.OrderLaws.{jobs_back, list_fine}
 use Rattle.replay.proofs.EndedLaws.{endings_are}
-
--- ---- which is named
-
-module _ (last k j : ℕ) where
-  pub missed_late : (d : Option Difference) → last < k → named Runs.met d ≡ named (up_to last (Runs.missed k j)) d
-  missed_late d h = rw (lt-leb k last h)
-
-  pub missed_named : (d : Option Difference) → k ≤ last → is_no_later k d ≡ true → missed k j ≡ named (up_to last (Runs.missed k j)) d
-  missed_named none h e = rw (le-leb k last h)
-  missed_named (some d) h e = rw (le-leb k last h, e)
-
-  pub missed_after : (d : Option Difference) → k ≤ last → is_no_later k d ≡ false → named Runs.met d ≡ named (up_to last (Runs.missed k j)) d
-  missed_after none h e = absurd (true≢false e)
-  missed_after (some d) h e = rw (le-leb k last h, e)
 
 -- ---- the miss up to the last instant, and the ticks done by then
 
@@ -67,7 +55,23 @@ module _ (σ : ℕ → Bool) (before : ℕ → ℕ → Bool) (ts : List Task) (j
       go Runs.met f h = late_now f
       go (Runs.missed k j) f h = rw (le-leb k n h)
 
-module _ (b : Board) (ws ts bytes : List ℕ) (n : ℕ) (jobs : List ℕ) (l : Legal b ws ts bytes n jobs) where
+-- ---- a legal trace
+
+-- of a legal table and group, with the job list in numbers
+pub record Rebuilt (b : Board) (ws ts bytes : List ℕ) (n : ℕ) (jobs : List ℕ) : Type 0 where
+  pub fits : Fits bytes
+  pub table : shared_fault teams b ws ≡ fine
+  pub group : group_fault ts ≡ fine
+  pub ticks : n ≡ ticks_of (records_of bytes)
+  pub numbers : jobs ≡ numbers_of (releases (records_of bytes))
+
+pub rebuilt_is : (b : Board) (ws ts bytes : List ℕ) (n count : ℕ) (room : List ℕ) → fits bytes ≡ true →
+    (shared_fault teams b ws ≡ fine) × (group_fault ts ≡ fine) × (n ≡ ticks_of (records_of bytes)) × (count ≡ length (releases (records_of bytes))) →
+    take (3 * length (releases (records_of bytes))) room ≡ numbers_of (releases (records_of bytes)) → Rebuilt b ws ts bytes n (take (3 * count) room)
+rebuilt_is b ws ts bytes n count room f r e = record { fits = fits_is bytes f; table = r.0; group = r.1; ticks = r.2; numbers = rw r.3 e }
+
+module _ (b : Board) (ws ts bytes : List ℕ) (n : ℕ) (jobs : List ℕ) (built : Rebuilt b ws ts bytes n jobs)
+    (legal : fine ≡ record_fault (tasks_of ts) (records_of bytes)) where
   abbrev rs : List Record
   rs = records_of bytes
 
@@ -84,15 +88,12 @@ module _ (b : Board) (ws ts bytes : List ℕ) (n : ℕ) (jobs : List ℕ) (l : L
   abbrev before : ℕ → ℕ → Bool
   before = edf (tasks_of ts) js
 
-  abbrev built : Rebuilt b ws ts bytes n jobs
-  built = l.rebuilt
-
   abbrev last : ℕ
   last = n - 1
 
   no_bad_record : bad_record (tasks_of ts) rs ≡ none
   unfolding record_fault
-  no_bad_record = fault_at_fine 11 (bad_record (tasks_of ts) rs) l.legal
+  no_bad_record = fault_at_fine 11 (bad_record (tasks_of ts) rs) (sym legal)
 
   no_bad_job : bad_job (tasks_of ts) n js ≡ none
   no_bad_job = rw built.ticks (jobs_legal (tasks_of ts) rs no_bad_record)
@@ -145,15 +146,21 @@ module _ (b : Board) (ws ts bytes : List ℕ) (n : ℕ) (jobs : List ℕ) (l : L
       ∙ endings_are σ before js done left (counts_are out left h e) (λ j k. (job_rules (tasks_of ts) n js no_bad_job j k).some) last last 0 (omega arith)
       ∙ ap (ended_from σ before js 0) y)
 
+  -- it is not refused
+  pub ran_by : (m p room : ℕ) → most_jobs ≡ room → refused m p ≡ run_for b ws ts n jobs room → ⊥
+  ran_by m p room h e = let q : refused m p ≡ given (ran σ before (tasks_of ts) js n) = e ∙ ran_is room h in let z : ◌≡◌ {A = ℕ} 0 1 = cc in absurd (omega arith)
+
   -- so what is named is the replay's answer
-  pub legal_answer : (out left : List ℕ) (a : Answer Runs.Ran) (d : Option Difference) (k : ℕ) → most_jobs ≡ length out →
-      a ≡ run_for b ws ts n jobs (length out) → left ≡ run_out_for b ws ts n jobs out → k ≡ last →
-      d ≡ compared_from bytes (jobs_of jobs) left k → named_in a k d ≡ records_for b ws ts rs
+  pub legal_answer : (out left : List ℕ) (r : Runs.Ran) (d : Option Difference) (k : ℕ) → most_jobs ≡ length out →
+      given r ≡ run_for b ws ts n jobs (length out) → left ≡ run_out_for b ws ts n jobs out → k ≡ last →
+      d ≡ compared_from bytes (jobs_of jobs) left k → given (named (up_to k r.outcome) d) ≡ records_for b ws ts rs
   unfolding records_for replayed ran
-  legal_answer out left a d k h e f g q =
+  legal_answer out left r d k h e f g q =
       let ended = ended_from σ before js 0 (ticks_done (outcome σ before (tasks_of ts) js last) last) in
       let z : d ≡ first_difference (completions rs) ended = q ∙ ap (compared_from bytes (jobs_of jobs) left) g ∙ compared_is out left h f in
-      rw (e, ran_is (length out) h, g, z, up_to_lem σ before (tasks_of ts) js n, built.ticks)
+      let y : given r ≡ given (ran σ before (tasks_of ts) js n) = e ∙ ran_is (length out) h in
+      let x : r ≡ ran σ before (tasks_of ts) js n = cc in
+      rw (x, g, z, up_to_lem σ before (tasks_of ts) js n, built.ticks)
       (sym (asked_fine teams b ws refused (λ w. records_answer b w ts rs) built.table
       ∙ records_given b mine ts rs (own_fine teams b ws built.table) built.group built.fits.ticks built.fits.few no_bad_record))
 
@@ -192,6 +199,7 @@ module _ (b : Board) (ws ts bytes : List ℕ) where
     pub stamped : List Stamped
     pub end : ℕ
     pub reads : trace_of bytes ≡ read stamped end
+    pub timed_is : timed stamped ≡ records_of bytes
     pub ticks_are : ticks ≡ min (ticks_of (records_of bytes)) (suc most_ticks)
     pub count_is : count ≡ length (releases (records_of bytes))
     pub answer : replay_for b ws ts bytes ≡ records_for b ws ts (records_of bytes)
@@ -210,6 +218,7 @@ module _ (b : Board) (ws ts bytes : List ℕ) where
             stamped = rs;
             end = end;
             reads = q;
+            timed_is = sym r;
             ticks_are = z ∙ ap (λ (l : List Record). min (ticks_of l) (suc most_ticks)) (sym r);
             count_is = y ∙ ap (λ (l : List Record). length (releases l)) (sym r);
             answer = rw q;
@@ -244,16 +253,18 @@ module _ (b : Board) (ws ts bytes : List ℕ) where
         go fine (fault u v) h q = cc
         go (fault u v) g h q = cc
 
-    pub fitting : fine ≡ checked → Fits bytes × (shared_fault teams b ws ≡ fine) × (group_fault ts ≡ fine) × (ticks ≡ ticks_of (records_of bytes))
+    pub fitting : fine ≡ checked → (fits bytes ≡ true) × (shared_fault teams b ws ≡ fine) × (group_fault ts ≡ fine) × (ticks ≡ ticks_of (records_of bytes))
         × (count ≡ length (releases (records_of bytes)))
+    unfolding fits
     fitting e =
         let p = or_else_fine (shared_fault teams b ws or_else group_fault ts) _ (sym e) in
         let q = or_else_fine (shared_fault teams b ws) (group_fault ts) p.0 in
         let n = or_neither (ltb most_ticks ticks) (ltb most_jobs count) (fault_if_fine _ 10 0 p.1) in
         let t = ltb-false most_ticks ticks n.0 in
         let c = ltb-false most_jobs count n.1 in
-        let z : ticks ≡ ticks_of (records_of bytes) = omega (arith, t, x.ticks_are) in (
-          record { stamped = x.stamped; end = x.end; reads = x.reads; ticks = omega arith; few = omega (arith, c, x.count_is) },
+        let z : ticks ≡ ticks_of (records_of bytes) = omega (arith, t, x.ticks_are) in
+        let all : timed x.stamped ≡ records_of bytes = x.timed_is in (
+          rw (x.reads, all, le-leb (ticks_of (records_of bytes)) most_ticks (omega arith)) (le-leb (length (releases (records_of bytes))) most_jobs (omega (arith, c, x.count_is))),
           q.0,
           q.1,
           z,

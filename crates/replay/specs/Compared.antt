@@ -3,11 +3,10 @@ use Rattle.std.specs.Prelude.{ℕ, zero, suc, Bool, true, false, cond, ◌&&◌,
 use Rattle.std.proofs.Math.Option.{Option, none, some}
 use Rattle.scope.specs.Jobs.{Job, task_of}
 use Rattle.scope.specs.Run as Runs
-use Rattle.scope.specs.Answers.{Answer, Answer.given, Answer.refused}
 use Rattle.scope.specs.Trace.{Completion, completion, completions}
-use Rattle.scope.specs.Replay.{Difference, first_difference, lesser, Replayed, named}
-use Rattle.replay.specs.declared.compare.Compared as compared
-use Rattle.replay.specs.declared.read.Reader.{Reader}
+use Rattle.scope.specs.Replay.{Difference, first_difference}
+use Rattle.std.specs.declared.option.Option as compared
+use Rattle.replay.specs.declared.compare.Difference as difference
 use Rattle.replay.specs.Rebuilt.{records_of}
 use Rattle.replay.specs.Ending.{finish, next_end, told_seen}
 
@@ -25,52 +24,21 @@ endings_from js counts last (suc fuel) after = and_endings js counts (next_end j
 unfoldable pub compared_from : List ℕ → List Job → List ℕ → ℕ → Option Difference
 compared_from bytes js counts last = first_difference (completions (records_of bytes)) (endings_from js counts last last 0)
 
-abbrev pub told_compared : compared.Compared → Option Difference
-told_compared compared.TheVariants.Equal = none
-told_compared (compared.TheVariants.Differ trace machine) = some (record { trace = told_seen trace; machine = told_seen machine })
+abbrev pub told_compared : compared.Option difference.Difference → Option Difference
+told_compared compared.TheVariants.None = none
+told_compared (compared.TheVariants.Some d) = some (record { trace = told_seen d.trace; machine = told_seen d.machine })
 
-abbrev pub is_at : Option Completion → ℕ → ℕ → Bool
-is_at none instant task = false
-is_at (some c) instant task = instant == c.instant && task == c.task
+abbrev pub same : Option Completion → Option Completion → Bool
+same none none = true
+same none (some m) = false
+same (some c) none = false
+same (some c) (some m) = c.instant == m.instant && c.task == m.task
 
 -- a completion of the trace against the machine's next one
-abbrev pub unless_same : Bool → Completion → Option Completion → Option Difference
-unless_same true c m = none
-unless_same false c m = some (record { trace = some c; machine = m })
-
--- a release says nothing
-abbrev pub held_if : Bool → Option Completion → Reader → Option Difference
-held_if true m r = none
-held_if false m r = unless_same (is_at m r.instant r.task) (completion r.instant r.task) m
-
-unfoldable pub held_by : Option Completion → Reader → Option Difference
-held_by m r = held_if (r.kind == 0) m r
-
--- the instant of the last completion that was held
-unfoldable pub held_to : ℕ → Reader → ℕ
-held_to after r = cond (r.kind == 0) after r.instant
-
-abbrev pub is_difference : Option Difference → Bool
-is_difference none = false
-is_difference (some d) = true
-
-abbrev pub or_none : Option Completion → List Completion
-or_none none = []
-or_none (some c) = c ∷ []
-
--- a miss at this instant is no later than any difference
-abbrev pub is_no_later : ℕ → Option Difference → Bool
-is_no_later k none = true
-is_no_later k (some d) = nat_le k (lesser d.trace d.machine)
-
-abbrev pub by_difference : Option Difference → Replayed
-by_difference d = named Runs.met d
+unfoldable pub differ_in : Option Completion → Option Completion → Option Difference
+differ_in c m = cond (same c m) none (some (record { trace = c; machine = m }))
 
 -- a miss up to the last instant
 abbrev pub up_to : ℕ → Runs.Outcome → Runs.Outcome
 up_to last Runs.met = Runs.met
 up_to last (Runs.missed k j) = cond (nat_le k last) (Runs.missed k j) Runs.met
-
-abbrev pub named_in : Answer Runs.Ran → ℕ → Option Difference → Answer Replayed
-named_in (given r) last d = given (named (up_to last r.outcome) d)
-named_in (refused number place) last d = refused number place

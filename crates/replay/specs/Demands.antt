@@ -26,7 +26,10 @@ use Rattle.tables.specs.declared.board.Board.{Board}
 use Rattle.tables.specs.declared.answer.Verdict.{Verdict}
 use Rattle.tables.specs.declared.answer.Verdict.TheVariants.{Meets}
 use Rattle.tables.specs.Told.{board_of, told_verdict}
-use Rattle.replay.specs.declared.ending.Seen.TheVariants.{None}
+use Rattle.std.specs.declared.option.Option.TheVariants.{None}
+use Rattle.std.specs.declared.result.Result.{Result}
+use Rattle.std.specs.declared.result.Result.TheVariants.{Ok}
+use Rattle.tables.specs.declared.answer.Refusal.{Refusal}
 use Rattle.replay.specs.declared.replay.Replayed as replayed
 use Rattle.replay.specs.Told.{told_replayed}
 use Rattle.replay.specs.Determined.{replayed_determined}
@@ -35,13 +38,13 @@ use Rattle.replay.specs.Determined.{replayed_determined}
 abbrev pub mine : Board → List ℕ → List ℕ
 mine b ws = windowsOwn (board_of b) ws
 
-module _ (b : Board) (ws ts bytes : List ℕ) (v : replayed.Replayed) (promised : told_replayed v ≡ replay_for (board_of b) ws ts bytes) where
+module _ (b : Board) (ws ts bytes : List ℕ) (v : Result replayed.Replayed Refusal) (promised : told_replayed v ≡ replay_for (board_of b) ws ts bytes) where
   -- the list is legal, and its owner's windows get the answer
   answers : (r : Replays.Replayed) → told_replayed v ≡ given r → (shared_fault teams (board_of b) ws ≡ fine) × (replay_answer (board_of b) (mine b ws) ts bytes ≡ given r)
   answers r e = replay_asked (board_of b) ws ts bytes r (sym promised ∙ e)
 
   -- "same": the trace's completions are the machine's up to the last instant, and no deadline was missed by then
-  pub same_says : v ≡ replayed.TheVariants.Same → (stamped : List Stamped) (end : ℕ) → trace_of bytes ≡ read stamped end →
+  pub same_says : v ≡ Ok replayed.TheVariants.Same → (stamped : List Stamped) (end : ℕ) → trace_of bytes ≡ read stamped end →
       let rs = timed stamped in
       let js = releases rs in
       (completions rs ≡ ended_from (supplied_by (board_of b) (mine b ws)) (edf (tasks_of ts) js) js 0 (ticks_of rs - 1))
@@ -53,14 +56,14 @@ module _ (b : Board) (ws ts bytes : List ℕ) (v : replayed.Replayed) (promised 
       rw (← z) (same_completions (board_of b) (mine b ws) ts bytes r)
 
   -- a difference has a side
-  pub some_side : v ≡ replayed.TheVariants.Differs None None → ⊥
+  pub some_side : v ≡ Ok (replayed.TheVariants.Differs None None) → ⊥
   some_side e =
       let r = replay_given (board_of b) (mine b ws) ts bytes (Replays.differs none none) (answers (Replays.differs none none) (ap told_replayed e)).1 in
       replayed_sides (supplied_by (board_of b) (mine b ws)) _ (tasks_of ts) (timed r.stamped) r.is
 
   -- where the verdict is "meets", no trace answers with a miss
-  pub meets_never_missed : (u : Verdict) → told_verdict u ≡ verdict_for (board_of b) ws ts → (h k j : ℕ) → u ≡ Meets h →
-      v ≢ replayed.TheVariants.Missed k j
+  pub meets_never_missed : (u : Result Verdict Refusal) → told_verdict u ≡ verdict_for (board_of b) ws ts → (h k j : ℕ) → u ≡ Ok (Meets h) →
+      v ≢ Ok (replayed.TheVariants.Missed k j)
   unfolding verdict_for
   meets_never_missed u told h k j met e =
       meets_no_miss (board_of b) (mine b ws) ts bytes h k j
@@ -70,7 +73,7 @@ module _ (b : Board) (ws ts bytes : List ℕ) (v : replayed.Replayed) (promised 
   -- where the counter stood does not matter: stamps later by any constant get the same answer
   pub shifted_same : (c : ℕ) (stamped : List Stamped) (end : ℕ) → trace_of bytes ≡ read stamped end →
       (bytes' : List ℕ) (end' : ℕ) → trace_of bytes' ≡ read (shifted c stamped) end' →
-      (w : replayed.Replayed) → told_replayed w ≡ replay_for (board_of b) ws ts bytes' → w ≡ v
+      (w : Result replayed.Replayed Refusal) → told_replayed w ≡ replay_for (board_of b) ws ts bytes' → w ≡ v
   unfolding replay_for
   shifted_same c stamped end reads bytes' end' reads' w told =
       replayed_determined w v (told ∙ shift_same bytes stamped end reads c bytes' end' reads' (records_for (board_of b) ws ts) ∙ sym promised)
@@ -81,7 +84,7 @@ module _ (b : Board) (ws ts : List ℕ) (table : shared_fault teams (board_of b)
   pub mine_fine : table_fault (board_of b) (mine b ws) ≡ fine
   mine_fine = own_fine teams (board_of b) ws table
 
-  module _ (ticks : ticks_of (own (board_of b) (mine b ws) ts mine_fine group js n legal few some start) ≤ most_ticks) (c : ℕ) (v : replayed.Replayed)
+  module _ (ticks : ticks_of (own (board_of b) (mine b ws) ts mine_fine group js n legal few some start) ≤ most_ticks) (c : ℕ) (v : Result replayed.Replayed Refusal)
       (promised : told_replayed v ≡
       replay_for (board_of b) ws ts (trace_bytes (stamped_from c (own (board_of b) (mine b ws) ts mine_fine group js n legal few some start)))) where
     -- the machine up to the last record's instant
@@ -90,19 +93,19 @@ module _ (b : Board) (ws ts : List ℕ) (table : shared_fault teams (board_of b)
         outcome (supplied_by (board_of b) (mine b ws)) (edf (tasks_of ts) js) (tasks_of ts) js (ticks_of (own (board_of b) (mine b ws) ts mine_fine group js n legal few some start) - 1)
 
     -- is the same where nothing is missed up to its last record's instant
-    pub own_same : ran_to ≡ Runs.met → v ≡ replayed.TheVariants.Same
+    pub own_same : ran_to ≡ Runs.met → v ≡ Ok replayed.TheVariants.Same
     own_same e =
-        replayed_determined v replayed.TheVariants.Same
+        replayed_determined v (Ok replayed.TheVariants.Same)
         (promised ∙ replay_own (board_of b) ws ts _ table ∙ recorded_same (board_of b) (mine b ws) ts mine_fine group js n legal few some start ticks c e)
 
     -- so where the run is met
-    pub own_met : outcome (supplied_by (board_of b) (mine b ws)) (edf (tasks_of ts) js) (tasks_of ts) js n ≡ Runs.met → v ≡ replayed.TheVariants.Same
+    pub own_met : outcome (supplied_by (board_of b) (mine b ws)) (edf (tasks_of ts) js) (tasks_of ts) js n ≡ Runs.met → v ≡ Ok replayed.TheVariants.Same
     own_met e =
-        replayed_determined v replayed.TheVariants.Same
+        replayed_determined v (Ok replayed.TheVariants.Same)
         (promised ∙ replay_own (board_of b) ws ts _ table ∙ recorded_met (board_of b) (mine b ws) ts mine_fine group js n legal few some start ticks c e)
 
     -- and answers the miss up to its last record's instant
-    pub own_missed : (k j : ℕ) → ran_to ≡ Runs.missed k j → v ≡ replayed.TheVariants.Missed k j
+    pub own_missed : (k j : ℕ) → ran_to ≡ Runs.missed k j → v ≡ Ok (replayed.TheVariants.Missed k j)
     own_missed k j e =
-        replayed_determined v (replayed.TheVariants.Missed k j)
+        replayed_determined v (Ok (replayed.TheVariants.Missed k j))
         (promised ∙ replay_own (board_of b) ws ts _ table ∙ recorded_missed (board_of b) (mine b ws) ts mine_fine group js n legal few some start ticks c k j e)

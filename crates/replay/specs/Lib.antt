@@ -1,4 +1,6 @@
 pub mod Reading
+pub mod Fitting
+pub mod Records
 pub mod Rebuilt
 pub mod Surveyed
 pub mod Ending

@@ -1,84 +1,62 @@
 // The machine's completions, one after another, out of a run's counts.
-ghost use Rattle.std.specs.Prelude.{◌≡◌, ◌+◌, ◌≤◌, length};
+ghost use Rattle.std.specs.Prelude.{◌≡◌, length};
 ghost use Rattle.scope.specs.Jobs.{jobs_of};
-ghost use Rattle.replay.specs.Ending.{next_end, best_of, nearer_of, completion_in, told_seen};
+ghost use Rattle.replay.specs.Ending.{next_end, sooner_than, nearer_of, completion_in, told_seen};
 
+use crate::counted::Counted;
 use jobs::job::job_at;
 
-// A completion; or none, where a side has ended.
-#[derive(Clone, Copy)]
-pub enum Seen {
-    None,
-    At { instant: u32, task: u32 },
+// The instant after a job's last work, and its task.
+#[derive(Clone, Copy, Debug, PartialEq, Eq)]
+pub struct Completion {
+    pub instant: u32,
+    pub task: u32,
 }
 
-// The instant at which a job is complete: it is released at `release` and has the count `count`.
-fn complete(release: u32, count: u32) -> u64
-    ensures { result ≡ release + count }
+// Whether an instant is sooner than the best so far; where there is none, whether it is no later than the last.
+fn sooner(best: Option<Completion>, finish: u64, last: u32) -> bool
+    ensures { result ≡ sooner_than (told_seen best) finish last }
 {
-    release as u64 + count as u64
+    match best {
+        None => finish <= u64::from(last),
+        Some(b) => finish < u64::from(b.instant),
+    }
 }
 
-// The best job so far, and the first instant that is too late to be before it.
-#[derive(Clone, Copy)]
-struct Best {
-    job: usize,
-    until: u64,
-}
-
-// Job j, which is complete at instant `finish` if its count is not 0, in place of the best so far if it is sooner.
-fn nearer(best: Best, j: usize, count: u32, finish: u64, after: u32) -> Best
-    ensures { result ≡ nearer_of best j count finish after }
+// A job of this task, which is complete at instant `finish` if its count is not 0, in place of the best so far if it is sooner.
+#[tactic(auto, using(crate::proofs::EndingLaws::nearer_none, crate::proofs::EndingLaws::nearer_before, crate::proofs::EndingLaws::nearer_late, crate::proofs::EndingLaws::nearer_is))]
+fn nearer(
+    best: Option<Completion>,
+    task: u32,
+    count: u32,
+    finish: u64,
+    after: u32,
+    last: u32,
+) -> Option<Completion>
+    ensures { told_seen result ≡ nearer_of (told_seen best) task count finish after last }
 {
-    if count == 0 {
+    if count == 0 || finish <= u64::from(after) || !sooner(best, finish, last) {
         return best;
     }
-    if finish <= after as u64 {
-        return best;
-    }
-    if best.until <= finish {
-        return best;
-    }
-    Best {
-        job: j,
-        until: finish,
-    }
+    Some(Completion {
+        instant: finish as u32,
+        task,
+    })
 }
 
-// The job that is complete first after one instant, and no later than another; the number of jobs where there is none.
-fn next_end(jobs: &[u32], counts: &[u32], after: u32, last: u32) -> Best
-    requires { length (jobs_of jobs.now) ≤ length counts.now }
-    ensures { result ≡ best_of (jobs_of jobs.now) counts.now last (length (jobs_of jobs.now))
-        (next_end (jobs_of jobs.now) counts.now after last (length (jobs_of jobs.now))) }
-{
-    let count = jobs.len() / 3;
-    let mut best = Best {
-        job: count,
-        until: last as u64 + 1,
-    };
-    let mut j = 0;
-    while j < count {
-        let job = job_at(jobs, j);
-        let finish = complete(job.release, counts[j]);
-        best = nearer(best, j, counts[j], finish, after);
-        j += 1;
-    }
-    best
-}
-
-// The machine's first completion after one instant and no later than another.
-pub(crate) fn completion_after(jobs: &[u32], counts: &[u32], after: u32, last: u32) -> Seen
-    requires { length (jobs_of jobs.now) ≤ length counts.now }
-    ensures { told_seen result ≡ completion_in (jobs_of jobs.now) counts.now (next_end (jobs_of jobs.now)
-        counts.now after last (length (jobs_of jobs.now))) }
-{
-    let best = next_end(jobs, counts, after, last);
-    if jobs.len() / 3 <= best.job {
-        return Seen::None;
-    }
-    let job = job_at(jobs, best.job);
-    Seen::At {
-        instant: best.until as u32,
-        task: job.task,
+impl Counted<'_> {
+    // The machine's first completion after one instant and no later than another.
+    pub(crate) fn completion_after(self, after: u32, last: u32) -> Option<Completion>
+        ensures { told_seen result ≡ completion_in (jobs_of self.entry.jobs.now) self.entry.counts.now
+            (next_end (jobs_of self.entry.jobs.now) self.entry.counts.now after last (length (jobs_of self.entry.jobs.now))) }
+    {
+        let mut best = None;
+        for j in 0..self.jobs.len() / 3 {
+            let job = job_at(self.jobs, j);
+            let count = self.counts[j];
+            let finish = u64::from(job.release) + u64::from(count);
+            best = nearer(best, job.task, count, finish, after, last);
+        }
+        best
     }
 }

@@ -2,9 +2,12 @@
 #![tactic(auto)]
 
 mod compare;
+mod counted;
 pub mod ending;
 mod order;
 mod read;
 mod rebuild;
+mod records;
 pub mod replay;
 mod survey;
+mod trace;

@@ -1,93 +1,56 @@
 // The order of a trace's records, and refusal 11.
-ghost use Rattle.std.specs.Prelude.{◌≡◌, not, ◌||◌, length, ◌==◌};
+ghost use Rattle.std.specs.Prelude.{◌≡◌, length};
 ghost use Rattle.scope.specs.Numbers.{first};
 ghost use Rattle.scope.specs.Tasks.{tasks_of};
 ghost use Rattle.scope.specs.Answers.{Fault.fine, fault_at, group_fault};
-ghost use Rattle.scope.specs.Trace.{goes_before, ticks_of, releases};
+ghost use Rattle.scope.specs.Trace.{ticks_of, releases};
 ghost use Rattle.scope.specs.Replay.{record_fault};
 ghost use Rattle.tables.specs.Told.{fault_of};
-ghost use Rattle.replay.specs.Reading.{record_of};
-ghost use Rattle.replay.specs.Rebuilt.{records_of, Fits, numbers_of, breaks_by, breaks_at};
+ghost use Rattle.replay.specs.Reading.{record_of, record_before};
+ghost use Rattle.replay.specs.Rebuilt.{records_of, numbers_of, breaks_by, breaks_at};
 
-use crate::read::{Reader, next, start};
-use crate::survey::counted;
+use crate::read::Record;
+use crate::trace::Trace;
 use jobs::check::check_jobs;
-use tables::answer::{Checked, Refusal};
+use tables::answer::Refusal;
 
-// Whether b may come right after a: by instant, then completions before releases, then by rising task index.
-fn goes_before(a: Reader, b: Reader) -> bool
-    ensures { result ≡ goes_before (record_of a) (record_of b) }
+// Whether a record is against the order after the one before it, or is release number `illegal`, where j releases come before it.
+fn breaks(previous: Option<Record>, here: Record, j: usize, illegal: Option<usize>) -> bool
+    ensures { result ≡ breaks_by (record_before previous) (record_of here) j illegal }
 {
-    if a.instant < b.instant {
-        return true;
-    }
-    if a.instant != b.instant {
-        return false;
-    }
-    if b.kind < a.kind {
-        return true;
-    }
-    if b.kind != a.kind {
-        return false;
-    }
-    a.task < b.task
-}
-
-// Whether record i, which is b and comes after a, is against the order.
-fn out_of_turn(i: usize, a: Reader, b: Reader) -> bool
-    ensures { result ≡ not (i == 0 || goes_before (record_of a) (record_of b)) }
-{
-    if i == 0 {
-        return false;
-    }
-    !goes_before(a, b)
-}
-
-// Whether it is, or is release number `illegal`, where j releases come before it.
-fn breaks(i: usize, a: Reader, b: Reader, j: usize, illegal: usize) -> bool
-    ensures { result ≡ breaks_by i (record_of a) (record_of b) j illegal }
-{
-    if out_of_turn(i, a, b) {
-        return true;
-    }
-    if b.kind != 0 {
-        return false;
-    }
-    j == illegal
+    previous.is_some_and(|p| !p.goes_before(here)) || (here.is_release() && illegal == Some(j))
 }
 
 // The first record that is against the order, or release number `illegal`, if one of these comes.
-fn first_bad(bytes: &[u8], illegal: usize) -> Checked
-    requires { Fits bytes.now }
-    ensures { fault_of result ≡ fault_at 11 (first (breaks_at (records_of bytes.now) illegal) (length (records_of bytes.now))) }
+fn first_bad(trace: Trace<'_>, illegal: Option<usize>) -> Result<(), Refusal>
+    ensures { fault_of result ≡ fault_at 11 (first (breaks_at (records_of trace.entry.bytes.now) illegal) (length (records_of trace.entry.bytes.now))) }
 {
-    let mut r = start(bytes);
-    let mut i = 0;
+    let mut previous = None;
     let mut j = 0;
-    while r.at < bytes.len() {
-        let previous = r;
-        r = next(bytes, r);
-        if breaks(i, previous, r, j, illegal) {
-            let place = i as u64;
-            return Checked::Bad(Refusal::Job(place));
+    for (i, record) in trace.records().enumerate() {
+        if breaks(previous, record, j, illegal) {
+            return Err(Refusal::Job(i as u64));
         }
-        j = counted(j, r.kind);
-        i += 1;
+        j += usize::from(record.is_release());
+        previous = Some(record);
     }
-    Checked::Fine
+    Ok(())
 }
 
 // Refusal 11 at the lowest record: the first that is against the order, or that of the first illegal job.
-pub(crate) fn check_records(tasks: &[u32], n: u32, bytes: &[u8], jobs: &[u32]) -> Checked
-    requires { Fits bytes.now × (group_fault tasks.now ≡ fine) × (n ≡ ticks_of (records_of bytes.now))
-        × (jobs.now ≡ numbers_of (releases (records_of bytes.now))) }
-    ensures { fault_of result ≡ record_fault (tasks_of tasks.now) (records_of bytes.now) }
+#[tactic(auto, using(crate::proofs::RecordsLaws::fits_is, crate::proofs::OrderLaws::records_fine, crate::proofs::OrderLaws::records_illegal))]
+pub(crate) fn check_records(
+    tasks: &[u32],
+    n: u32,
+    trace: Trace<'_>,
+    jobs: &[u32],
+) -> Result<(), Refusal>
+    requires { (group_fault tasks.now ≡ fine) × (n ≡ ticks_of (records_of trace.bytes.now))
+        × (jobs.now ≡ numbers_of (releases (records_of trace.bytes.now))) }
+    ensures { fault_of result ≡ record_fault (tasks_of tasks.now) (records_of trace.entry.bytes.now) }
 {
     match check_jobs(tasks, n, jobs) {
-        Checked::Fine => first_bad(bytes, jobs.len() / 3),
-        Checked::Bad(r) => {
-            let illegal = r.place() as usize;
-            first_bad(bytes, illegal)
-        }
+        Ok(()) => first_bad(trace, None),
+        Err(r) => first_bad(trace, Some(r.place() as usize)),
     }
 }

@@ -1,10 +1,10 @@
 // The releases of a trace, as a job list for the tick machine.
 ghost use Rattle.std.specs.Prelude.{◌≡◌, ◌+◌, ◌*◌, ◌<◌, ◌≤◌, length, take, slice_set};
 ghost use Rattle.scope.specs.Trace.{releases};
-ghost use Rattle.replay.specs.Rebuilt.{records_of, Fits, numbers_of, job_put};
+ghost use Rattle.replay.specs.Rebuilt.{records_of, numbers_of};
 
-use crate::read::{Reader, next, start};
-use crate::survey::counted;
+use crate::read::Event;
+use crate::trace::Trace;
 
 // Job j of a list of numbers.
 fn put_job(jobs: &mut [u32], j: usize, release: u32, task: u32, work: u32)
@@ -17,27 +17,17 @@ fn put_job(jobs: &mut [u32], j: usize, release: u32, task: u32, work: u32)
     jobs[at + 2] = work;
 }
 
-// A release becomes job j.
-fn put(jobs: &mut [u32], j: usize, r: Reader)
-    requires { r.kind ≡ 0 → 3 * j + 2 < length jobs.old }
-    ensures { jobs.new ≡ job_put jobs.old j r }
-{
-    if r.kind == 0 {
-        put_job(jobs, j, r.instant, r.task, r.work);
-    }
-}
-
 // The numbers of the job list, at the front of a buffer that has room for them.
-pub(crate) fn rebuild(bytes: &[u8], jobs: &mut [u32])
-    requires { Fits bytes.now × (3 * length (releases (records_of bytes.now)) ≤ length jobs.old) }
-    ensures { take (3 * length (releases (records_of bytes.now))) jobs.new
-        ≡ numbers_of (releases (records_of bytes.now)) }
+pub(crate) fn rebuild(trace: Trace<'_>, jobs: &mut [u32])
+    requires { 3 * length (releases (records_of trace.bytes.now)) ≤ length jobs.old }
+    ensures { take (3 * length (releases (records_of trace.entry.bytes.now))) jobs.new
+        ≡ numbers_of (releases (records_of trace.entry.bytes.now)) }
 {
-    let mut r = start(bytes);
     let mut j = 0;
-    while r.at < bytes.len() {
-        r = next(bytes, r);
-        put(jobs, j, r);
-        j = counted(j, r.kind);
+    for record in trace.records() {
+        if let Event::Release { task, work } = record.event {
+            put_job(jobs, j, record.instant, task, work);
+            j += 1;
+        }
     }
 }

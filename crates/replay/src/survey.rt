@@ -1,64 +1,47 @@
 // How long a trace is: the first pass over its bytes, and refusals 9 and 10.
-ghost use Rattle.std.specs.Prelude.{◌≡◌, ◌+◌, ◌<◌, ◌||◌, ◌==◌, nat_lt};
-ghost use Rattle.scope.specs.Numbers.{bit};
+ghost use Rattle.std.specs.Prelude.{◌≡◌, ◌||◌, nat_lt};
 ghost use Rattle.scope.specs.Limits.{most_ticks, most_jobs};
 ghost use Rattle.scope.specs.Answers.{fault_if};
 ghost use Rattle.scope.specs.Trace.{trace_of};
 ghost use Rattle.tables.specs.Told.{fault_of};
 ghost use Rattle.replay.specs.Surveyed.{surveyed, told_extent};
 
-use crate::read::{next, start};
+use crate::read::Reader;
 use jobs::check::Run;
-use tables::answer::{Checked, Refusal};
+use plan::number::Damaged;
+use tables::answer::Refusal;
 
-// The ticks of the run, no more than one too many, and the number of releases; or the offset that refusal 9 names.
+// The ticks of the run, no more than one too many, and the number of releases.
 #[derive(Clone, Copy)]
-pub(crate) enum Extent {
-    Is { ticks: u32, releases: usize },
-    Bad(usize),
+pub(crate) struct Extent {
+    pub(crate) ticks: u32,
+    pub(crate) releases: usize,
 }
 
-// One more where the kind is a release's.
-pub(crate) fn counted(releases: usize, kind: u32) -> usize
-    requires { releases + 1 < 18446744073709551616 }
-    ensures { result ≡ releases + bit (kind == 0) }
-{
-    if kind == 0 {
-        return releases + 1;
-    }
-    releases
-}
-
-pub(crate) fn survey(bytes: &[u8]) -> Extent
+// It reads, and may find damage; the passes after it go over `records`, which reads no damage.
+pub(crate) fn survey(bytes: &[u8]) -> Result<Extent, Damaged>
     ensures { told_extent result ≡ surveyed (trace_of bytes.now) }
 {
-    let mut r = start(bytes);
+    let mut reader = Reader::new(bytes);
+    let mut ticks = 0;
     let mut releases = 0;
-    while r.at < bytes.len() {
-        r = next(bytes, r);
-        releases = counted(releases, r.kind);
+    while reader.at < bytes.len() {
+        let (record, after) = reader.next(bytes)?;
+        reader = after;
+        ticks = record.instant + 1;
+        releases += usize::from(record.is_release());
     }
-    if r.bad {
-        return Extent::Bad(r.offset);
-    }
-    if bytes.len() == 0 {
-        return Extent::Is { ticks: 0, releases };
-    }
-    Extent::Is {
-        ticks: r.instant + 1,
-        releases,
-    }
+    Ok(Extent { ticks, releases })
 }
 
-// Refusal 10.
-pub(crate) fn check_extent(ticks: u32, releases: usize) -> Checked
-    ensures { fault_of result ≡ fault_if (nat_lt most_ticks ticks || nat_lt most_jobs releases) 10 0 }
-{
-    if Run::TICKS < ticks {
-        return Checked::Bad(Refusal::JobList);
+impl Extent {
+    // Refusal 10.
+    pub(crate) fn check(self) -> Result<(), Refusal>
+        ensures { fault_of result ≡ fault_if (nat_lt most_ticks self.ticks || nat_lt most_jobs self.releases) 10 0 }
+    {
+        if Run::TICKS < self.ticks || Run::JOBS < self.releases {
+            return Err(Refusal::JobList);
+        }
+        Ok(())
     }
-    if Run::JOBS < releases {
-        return Checked::Bad(Refusal::JobList);
-    }
-    Checked::Fine
 }

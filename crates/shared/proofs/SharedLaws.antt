@@ -1,21 +1,30 @@
 -- The rule of windows with owners, by the cases that the code tells apart; and the windows of one owner, one after the other
 use mathlib.Core.Path.{◌≡◌, refl, sym, ap, ap₂, ◌∙◌}
-use mathlib.Core.Bool.{Bool, true, false, not, cond, ◌&&◌, or-false, true≢false}
+use mathlib.Core.Bool.{Bool, true, false, not, cond, ◌&&◌, ◌||◌, true≢false}
 use mathlib.Core.Logic.{◌≢◌}
 use mathlib.Core.Option.{none, some}
 use mathlib.Core.List.{List, [], ◌∷◌, ◌++◌, append-nil, append_assoc}
 use Prim.Native.Nat.{ℕ, zero, suc, ◌+◌, ◌-◌, ◌*◌, ◌/◌, ◌≤◌, ◌<◌}
 use native.Mathlib.Omega.{arith}
 use native.Mathlib.Numerals.{add-one}
-use native.Mathlib.Decide.{dec_lt}
 use lib.Dec.{ltb, eqb}
 use lib.ListN.{length, get_or, set, take, drop, length-append, length-set, take-append-drop}
 use lib.Seq.{take-suc, take-length, length-take-le}
 use borrow.Author.Tests.{ltb-true, lt-ltb, le-ltb, eq-eqb, ne_eqb}
+use Rattle.shared.specs.Lent.{own_table_answer}
+use Rattle.scope.specs.Limits.{most_windows}
 use Rattle.scope.specs.Numbers.{first_by, pieces, pieces_from, written}
-use Rattle.scope.specs.Windows.{Board, Window, window, windows_of, window_fits}
-use Rattle.scope.specs.Answers.{Fault, Fault.fine, Fault.fault, Answer.given, Answer.refused, fault_if, fault_at, ◌or_else◌, unless, rule_fault}
-use Rattle.scope.specs.Shared.{Owned, owned, owned_at, windows_for, own, left_of, own_left, as_owned, follows, owned_legal, bad_owned, owned_fault, owned_answer}
+use Rattle.scope.specs.Windows.{Board, Window, window, windows_of, window_fits, framed}
+use Rattle.scope.specs.Answers.{Fault, Fault.fine, Fault.fault, Answer, Answer.given, Answer.refused, fault_if, fault_at, ◌or_else◌, unless, rule_fault, window_answer}
+use Rattle.scope.specs.Shared.{Owned, owned, owned_at, windows_for, own, left_of, own_left, as_owned, follows, owned_legal, bad_owned, owned_fault, owned_answer, own_answer}
+use Rattle.std.specs.declared.result.Result.{Result}
+use Rattle.std.specs.declared.result.Result.TheVariants.{Ok, Err}
+use Rattle.std.specs.Result.{is_ok}
+use Rattle.tables.specs.declared.answer.Refusal.{Refusal}
+use Rattle.tables.specs.Told.{number, place}
+use Rattle.shared.specs.declared.table.Owned as owned_record
+use Rattle.shared.specs.Told.{owned_by, told_owned}
+use Rattle.std.specs.List.{range_with_len, filter, list_any}
 use Rattle.theory.specs.Numbers.{and_both}
 use Rattle.theory.specs.Lists.{pieces_length, pieces_append}
 use Rattle.theory.specs.Buffers.{written_more}
@@ -23,18 +32,11 @@ use Rattle.theory.specs.Shared.{for_even}
 use Rattle.theory.specs.Left.{left_few}
 use Rattle.theory.specs.Losses.{rule_or}
 use Rattle.theory.specs.Alone.{owned_length}
-use Rattle.tables.proofs.FaultLaws.{keeps, breaks}
+use Rattle.theory.specs.Lent.{not_taken}
+use Rattle.tables.proofs.FaultLaws.{keeps, breaks, refused_there}
+use Rattle.tables.proofs.WindowLaws.{unfitting, window_alone_lem}
 
 -- ---- the rule
-
-module _ (v w : Owned) where
-  pub touching : v.window.end ≡ w.window.start → not (eqb v.owner w.owner) ≡ follows v w
-  unfolding follows
-  touching e = sym (rw (le-ltb v.window.end w.window.start (omega arith), eq-eqb v.window.end w.window.start e))
-
-  pub not_touching : v.window.end ≢ w.window.start → ltb v.window.end w.window.start ≡ follows v w
-  unfolding follows
-  not_touching u = sym (rw (ne_eqb v.window.end w.window.start u) (or-false _))
 
 -- a window alone with its owner
 pub owned_alone_lem : (owners : ℕ) (b : Board) (w : Owned) (t u : Bool) → window_fits b w.window ≡ t → ltb w.owner owners ≡ u →
@@ -47,30 +49,41 @@ owned_alone_lem owners b w t u e f =
     go true = refl
     go false = refl
 
-module _ (owners : ℕ) (b : Board) (w : Owned) where
-  abbrev pub alone : Bool
-  alone = window_fits b w.window && ltb w.owner owners
+-- a window that is refused alone is refused with its owner
+pub unfit_owned : (owners : ℕ) (b : Board) (s e o : ℕ) {n p : ℕ} → refused n p ≡ window_answer (framed b.frame) (window s e) → refused n p ≡ owned_answer owners b (owned s e o)
+unfit_owned owners b s e o {n} {p} r =
+    let f = unfitting (framed b.frame) (window s e) n p r in
+    let z : ◌≡◌ {A = Answer Window} (refused n p) (refused 3 0) = r ∙ sym (window_alone_lem (framed b.frame) (window s e) false f) in
+    let number : n ≡ 3 = cc in
+    let place : p ≡ 0 = cc in
+    rw (number, place) (owned_alone_lem owners b (owned s e o) false _ f refl)
 
-  -- and back
-  pub kept_alone : (v : Owned) → given v ≡ owned_answer owners b w → alone ≡ true
-  kept_alone v e = (keeps alone w 3 0 v (e ∙ sym (owned_alone_lem owners b w _ _ refl refl))).0
+module _ (owners : ℕ) (b : Board) where
+  abbrev pub alone : Owned → Bool
+  alone w = window_fits b w.window && ltb w.owner owners
 
-  pub broken_alone : (n p : ℕ) → refused n p ≡ owned_answer owners b w → alone ≡ false
-  broken_alone n p e = breaks alone w 3 0 n p (e ∙ sym (owned_alone_lem owners b w _ _ refl refl))
+  -- what is made of it tells whether it keeps its rule alone
+  made_alone : (w : Owned) (r : Result owned_record.Owned Refusal) → told_owned r ≡ owned_answer owners b w → is_ok r ≡ alone w
+  made_alone w (Ok v) e = sym (keeps (alone w) w 3 0 (owned_by v) (e ∙ sym (owned_alone_lem owners b w _ _ refl refl))).0
+  made_alone w (Err r) e = sym (breaks (alone w) w 3 0 (number r) (place r) (e ∙ sym (owned_alone_lem owners b w _ _ refl refl)))
 
-module _ (owners : ℕ) (b : Board) (ws : List Owned) (i : ℕ) where
-  pub broken : alone owners b (owned_at ws i) ≡ false → false ≡ owned_legal owners b ws i
-  unfolding owned_legal
-  broken e = rw e
+  -- a window of the list that was read
+  pub read_alone : {w v : Owned} (r : Result owned_record.Owned Refusal) {t u : Bool} → told_owned r ≡ owned_answer owners b w → w ≡ v → t ≡ is_ok r → t ≡ u → alone v ≡ u
+  read_alone {w} {v} r made read ok is = ap alone (sym read) ∙ sym (made_alone w r made) ∙ sym ok ∙ is
 
-  module _ (fits : alone owners b (owned_at ws i) ≡ true) where
-    pub first_owned : i ≡ 0 → true ≡ owned_legal owners b ws i
+  module _ (ws : List Owned) (i : ℕ) where
+    pub broken : alone (owned_at ws i) ≡ false → false ≡ owned_legal owners b ws i
     unfolding owned_legal
-    first_owned e = rw (fits, eq-eqb i 0 e)
+    broken e = rw e
 
-    pub next_owned : i ≢ 0 → follows (owned_at ws (i - 1)) (owned_at ws i) ≡ owned_legal owners b ws i
-    unfolding owned_legal
-    next_owned e = rw (fits, ne_eqb i 0 e)
+    module _ (fits : alone (owned_at ws i) ≡ true) where
+      pub first_owned : i ≡ 0 → true ≡ owned_legal owners b ws i
+      unfolding owned_legal
+      first_owned e = rw (fits, eq-eqb i 0 e)
+
+      pub next_owned : i ≢ 0 → follows (owned_at ws (i - 1)) (owned_at ws i) ≡ owned_legal owners b ws i
+      unfolding owned_legal
+      next_owned e = rw (fits, ne_eqb i 0 e)
 
 -- ---- numbers that are gathered window by window: the windows of owner o, and what is left of them
 
@@ -148,6 +161,55 @@ module _ (f : List Owned → List ℕ) (is : Gathers f) (ws : List Owned) where
     pub count_hit : (s e : ℕ) → f (w ∷ []) ≡ s ∷ e ∷ [] → length (front (i + 1)) ≡ length (front i) + 2
     count_hit s e z = ap length (front_hit s e z) ∙ length-append (front i) (s ∷ e ∷ [])
 
+-- how many windows come, and whether one does, by a test that tells which
+module _ (f : List Owned → List ℕ) (is : Gathers f) (test : Owned → Bool)
+    (hit : (w : Owned) → test w ≡ true → length (f (w ∷ [])) ≡ 2) (miss : (w : Owned) → test w ≡ false → length (f (w ∷ [])) ≡ 0) where
+  -- the windows are read one after the other, from index a on
+  abbrev Reads : List Owned → ℕ → (ℕ → Bool) → Type 0
+  Reads ws a read = (i : ℕ) → i < length ws → read (a + i) ≡ test (owned_at ws i)
+
+  first_length : (w : Owned) (ws : List Owned) → length (f (w ∷ ws)) ≡ length (f (w ∷ [])) + length (f ws)
+  first_length w ws = ap length (is.append (w ∷ []) ws) ∙ length-append (f (w ∷ [])) (f ws)
+
+  reads_first : (w : Owned) (ws : List Owned) (a : ℕ) (read : ℕ → Bool) → Reads (w ∷ ws) a read → read a ≡ test w
+  reads_first w ws a read r = let e : a + 0 ≡ a = omega arith in ap read (sym e) ∙ r 0 (omega arith)
+
+  reads_rest : (w : Owned) (ws : List Owned) (a : ℕ) (read : ℕ → Bool) → Reads (w ∷ ws) a read → Reads ws (a + 1) read
+  reads_rest w ws a read r i h = let e : a + 1 + i ≡ a + suc i = omega arith in ap read e ∙ r (suc i) (omega arith)
+
+  count_from : (ws : List Owned) (a : ℕ) (read : ℕ → Bool) → Reads ws a read → 2 * length (filter read (range_with_len a (length ws))) ≡ length (f ws)
+  count_from [] a read r = sym (ap length is.empty)
+  count_from (w ∷ ws) a read r = go (read a) (reads_first w ws a read r) (count_from ws (a + 1) read (reads_rest w ws a read r))
+    where
+      rest : List ℕ
+      rest = filter read (range_with_len (a + 1) (length ws))
+
+      go : (t : Bool) → t ≡ test w → 2 * length rest ≡ length (f ws) → 2 * length (cond t (a ∷ rest) rest) ≡ length (f (w ∷ ws))
+      go true e n = omega (arith, n, first_length w ws, hit w (sym e))
+      go false e n = omega (arith, n, first_length w ws, miss w (sym e))
+
+  any_from : (ws : List Owned) (a : ℕ) (read : ℕ → Bool) → Reads ws a read → list_any read (range_with_len a (length ws)) ≡ ltb 0 (length (f ws))
+  any_from [] a read r = sym (le-ltb 0 (length (f [])) (omega (arith, ap length is.empty)))
+  any_from (w ∷ ws) a read r = go (read a) (reads_first w ws a read r) (any_from ws (a + 1) read (reads_rest w ws a read r))
+    where
+      go : (t : Bool) {u : Bool} → t ≡ test w → u ≡ ltb 0 (length (f ws)) → (t || u) ≡ ltb 0 (length (f (w ∷ ws)))
+      go true e n = sym (lt-ltb 0 (length (f (w ∷ ws))) (omega (arith, first_length w ws, hit w (sym e))))
+      go false e n = n ∙ ap (ltb 0) (omega (arith, first_length w ws, miss w (sym e)))
+
+  -- all of them
+  module _ (ws : List Owned) where
+    abbrev read : ℕ → Bool
+    read i = test (owned_at ws i)
+
+    from_zero : Reads ws 0 read
+    from_zero i h = let e : 0 + i ≡ i = omega arith in ap read e
+
+    pub count_read : 2 * length (filter read (range_with_len 0 (length ws))) ≡ length (f ws)
+    count_read = count_from ws 0 read from_zero
+
+    pub any_read : list_any read (range_with_len 0 (length ws)) ≡ ltb 0 (length (f ws))
+    any_read = any_from ws 0 read from_zero
+
 module _ (o : ℕ) (w : Owned) where
   pub own_hit : w.owner ≡ o → windows_for o (w ∷ []) ≡ w.window.start ∷ w.window.end ∷ []
   unfolding windows_for
@@ -161,15 +223,6 @@ module _ (b : Board) (w : Owned) where
   -- the window is the asked owner's, and is longer than what is lost
   abbrev pub is_left : Bool
   is_left = eqb w.owner b.owner && ltb b.lost (w.window.end - w.window.start)
-
-  -- as the code tells it, without a difference that may be cut off
-  pub left_sum : ltb (b.lost + w.window.start) w.window.end ≡ ltb b.lost (w.window.end - w.window.start)
-  left_sum =
-      let ticks : ℕ = w.window.end - w.window.start in
-      elim (dec_lt (b.lost + w.window.start) w.window.end) [
-        | yes h ↦ lt-ltb (b.lost + w.window.start) w.window.end h ∙ sym (lt-ltb b.lost ticks (omega arith))
-        | no h ↦ le-ltb (b.lost + w.window.start) w.window.end (omega arith) ∙ sym (le-ltb b.lost ticks (omega arith))
-      ]
 
   pub left_hit : is_left ≡ true → left_for b (w ∷ []) ≡ (b.lost + w.window.start) ∷ w.window.end ∷ []
   unfolding windows_for left_of pieces pieces_from
@@ -207,6 +260,11 @@ module _ (b : Board) (left : ℕ) where
       go : (f : Fault) → f ≡ (f or_else fine)
       go fine = refl
       go (fault n p) = refl
+
+-- where there is room for as many windows as a table may have, the table is refused as what is left is
+pub none_lent : (owners : ℕ) (b : Board) (ws : List ℕ) (room : ℕ) {n p : ℕ} → refused n p ≡ own_answer owners b ws room → 2 * most_windows ≤ room → refused n p ≡ own_table_answer owners b ws
+unfolding own_table_answer
+none_lent owners b ws room {n} {p} e h = refused_there _ (sym (not_taken owners b ws room n p h (sym e)))
 
 -- two numbers more in the lent memory
 pub length_two : (out : List ℕ) (i j s e : ℕ) → length (set (set out i s) j e) ≡ length out

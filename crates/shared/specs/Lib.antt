@@ -2,3 +2,4 @@ pub mod Told
 pub mod Determined
 pub mod Slivers
 pub mod Losses
+pub mod Lent

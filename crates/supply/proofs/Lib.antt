@@ -3,3 +3,4 @@ pub mod SupplyLaws
 pub mod PieceLaws
 pub mod PartitionLaws
 pub mod SummaryLaws
+pub mod TableLaws

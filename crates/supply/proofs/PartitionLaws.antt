@@ -4,23 +4,25 @@ use mathlib.Core.Bool.{Bool, true, false, cond, not, ◌&&◌, beq, and-true, an
 use mathlib.Core.List.{List, [], ◌∷◌, ◌++◌}
 use mathlib.Core.Logic.{inl, inr}
 use Prim.Native.Nat.{ℕ, zero, suc, ◌+◌, ◌-◌, ◌*◌, ◌≤◌, ◌<◌}
-use native.Mathlib.Nat.{add-zero, zero-add, add-suc}
+use native.Mathlib.Nat.{add-zero, add-suc}
 use native.Mathlib.Numerals.{add-one}
 use native.Mathlib.Omega.{arith}
 use lib.Dec.{ltb, eqb}
-use lib.ListN.{length, get_or, drop, length-append}
+use lib.ListN.{length, get_or, length-append}
 use borrow.Author.Tests.{lt-ltb}
 use Rattle.scope.specs.Numbers.{greatest, keep}
 use Rattle.scope.specs.Ticks.{Periodic, per_frame, least_supply}
 use Rattle.scope.specs.Windows.{Board, supplied_by}
 use Rattle.scope.specs.Partition.{rises, within, edge, maximal_runs, critical, lag, delay}
-use Rattle.scope.specs.Answers.{Fault.fine, Fault.fault, table_fault, critical_of, critical_fault}
+use Rattle.scope.specs.Answers.{critical_of}
 use Rattle.scope.specs.Summary.{begins}
+use Rattle.theory.specs.Answers.{LegalTable}
 use Rattle.theory.specs.Numbers.{bool_cases}
+use Rattle.theory.specs.Ticks.{least_none}
+use Rattle.theory.specs.Rows.{table_row}
 use Rattle.theory.specs.Lists.{keep_most, keep_hit, keep_miss}
 use Rattle.theory.specs.MaximalRuns.{within_in, within_out}
 use Rattle.theory.specs.Delay.{least_average, lag_exact}
-use Rattle.tables.proofs.FaultLaws.{then_short, then_roomy}
 use Rattle.supply.specs.declared.partition.Met.{Met}
 use Rattle.supply.specs.declared.pieces.Piece.{Piece}
 use Rattle.supply.specs.Ahead.{Told}
@@ -139,7 +141,7 @@ module _ (b : Board) (ws : List ℕ) where
   edges_few t = keep_most (edge risen) t
 
   -- a piece from t on, before which it rose or not
-  module _ (t : ℕ) (p : Piece) (told : Told σ P t p) (before : Bool) (is : before ≡ rose b ws t) where
+  module _ {t : ℕ} {p : Piece} (told : Told σ P t p) {before : Bool} (is : before ≡ rose b ws t) where
     holds : (k : ℕ) → t ≤ k → k < p.end → risen k ≡ p.rising
     holds k h l = within_in (rises σ P) P k (omega (arith, told.most)) ∙ told.piece.same k h l
 
@@ -162,20 +164,49 @@ module _ (b : Board) (ws : List ℕ) where
     pub next_most : length (edges b ws p.end) ≤ length (critical_of b ws)
     next_most = omega (arith, count_up (edge risen) p.end (P + 1) (omega (arith, told.most)), ap length edges_all)
 
+  -- the pieces so far are up to length t
+  pub record Reached (t : ℕ) (before : Bool) (least : ℕ) : Type 0 where
+    pub within : t ≤ P
+    pub turned : before ≡ rose b ws t
+    pub low : least ≡ least_supply σ P t
+
+  pub reached_none : LegalTable b ws → Reached 0 false 0
+  reached_none ok = record { within = omega arith; turned = was_none risen; low = sym (least_none σ P (table_row b ws ok).repeats) }
+
+  pub reached_next : {t : ℕ} {p : Piece} → Told σ P t p → {before : Bool} {least : ℕ} → Reached t before least → Reached p.end p.rising p.least
+  reached_next told so = record { within = told.most; turned = next_rose told so.turned; low = told.piece.ends }
+
   -- at the end of the frame an open run ends
-  module _ (before : Bool) (is : before ≡ rose b ws P) where
+  module _ {t : ℕ} {before : Bool} {least : ℕ} (so : Reached t before least) (ended : P ≤ t) where
+    at_end : t ≡ P
+    at_end = omega (arith, so.within)
+
     last : edge risen P ≡ before
-    last = edge_is risen P false before (sym (within_out (rises σ P) P P (omega arith))) is ∙ is_edge before
+    last =
+        edge_is risen P false before (sym (within_out (rises σ P) P P (omega arith))) (so.turned ∙ ap (rose b ws) at_end)
+        ∙ is_edge before
       where
         is_edge : (v : Bool) → not (beq false v) ≡ v
         is_edge true = refl
         is_edge false = refl
 
-    pub last_edge : before ≡ true → critical_of b ws ≡ edges b ws P ++ (P ∷ [])
-    last_edge e = sym edges_all ∙ kept_hit (edge risen) P (last ∙ e)
+    pub last_edge : before ≡ true → critical_of b ws ≡ edges b ws t ++ (P ∷ [])
+    last_edge e = sym edges_all ∙ kept_hit (edge risen) P (last ∙ e) ∙ ap (λ (k : ℕ). edges b ws k ++ (P ∷ [])) (sym at_end)
 
-    pub last_none : before ≡ false → critical_of b ws ≡ edges b ws P
-    last_none e = sym edges_all ∙ kept_miss (edge risen) P (last ∙ e)
+    pub last_none : before ≡ false → critical_of b ws ≡ edges b ws t
+    last_none e = sym edges_all ∙ kept_miss (edge risen) P (last ∙ e) ∙ ap (edges b ws) (sym at_end)
+
+  -- where an edge is written after others there is room for it, if there is room for all
+  room_for : (x : ℕ) (l : List ℕ) {at room : ℕ} {m : List ℕ} → at ≡ length l → length (critical_of b ws) ≤ room → length m ≤ length (critical_of b ws) →
+      m ≡ l ++ (x ∷ []) → at < room
+  room_for x l at h most e = omega (arith, at, h, most, ap length e, length-append l (x ∷ []))
+
+  module _ (t : ℕ) {at room : ℕ} (met : at ≡ length (edges b ws t)) (h : length (critical_of b ws) ≤ room) where
+    pub room_next : {p : Piece} (told : Told σ P t p) {before : Bool} → before ≡ rose b ws t → not (beq p.rising before) ≡ true → at < room
+    room_next told is e = room_for _ _ met h (next_most told is) (next_edge told is e)
+
+    pub room_last : {before : Bool} {least : ℕ} → Reached t before least → P ≤ t → before ≡ true → at < room
+    room_last so ended e = room_for _ _ met h (omega arith) (last_edge so ended e)
 
 -- ---- numbers held against a list that grows
 
@@ -186,14 +217,6 @@ begins_more [] [] x = refl
 begins_more [] (y ∷ m) x = and-true (eqb x y)
 begins_more (a ∷ l) [] x = refl
 begins_more (a ∷ l) (y ∷ m) x = ap (λ (t : Bool). eqb a y && t) (begins_more l m x) ∙ sym (and_assoc (eqb a y) (begins l m) _)
-
--- from an index on
-has_drop : (m : List ℕ) (from k x : ℕ) → has_at (drop from m) k x ≡ has_at m (from + k) x
-unfolding has_at
-has_drop m zero k x = ap (λ (j : ℕ). has_at m j x) (sym (zero-add k))
-has_drop [] (suc from) k x = refl
-has_drop (y ∷ m) (suc from) k x =
-    let e : suc from + k ≡ suc (from + k) = omega arith in rw e (has_drop m from k x)
 
 -- as the code looks
 pub has_in : (l : List ℕ) (k x : ℕ) → k < length l → has_at l k x ≡ eqb x (get_or l k 0)
@@ -208,51 +231,35 @@ has_out [] k x h = refl
 has_out (y ∷ l) zero x h = absurd (omega arith)
 has_out (y ∷ l) (suc k) x h = has_out l k x (omega arith)
 
--- the edges of a list are met: how many there are, and whether the numbers held from an index on begin with them
-pub record Counted (held : List ℕ) (from : ℕ) (l : List ℕ) (m : Met) : Type 0 where
+-- the edges of a list are met: how many there are, and whether the numbers held begin with them
+pub record Counted (held : List ℕ) (l : List ℕ) (m : Met) : Type 0 where
   pub count : m.count ≡ length l
-  pub same : m.same ≡ begins l (drop from held)
+  pub same : m.same ≡ begins l held
 
 -- none at length 0
-pub counted_none : (b : Board) (ws held : List ℕ) (from : ℕ) → Counted held from (edges b ws 0) (record { count = 0; same = true })
+pub counted_none : (b : Board) (ws held : List ℕ) → Counted held (edges b ws 0) (record { count = 0; same = true })
 unfolding keep begins
-counted_none b ws held from = record { count = refl; same = refl }
+counted_none b ws held = record { count = refl; same = refl }
 
-module _ (held : List ℕ) (from : ℕ) (l : List ℕ) (x : ℕ) (m : Met) (so : Counted held from l m) where
-  counted_more : Counted held from (l ++ (x ∷ [])) (met_of m held from true x)
+module _ {held l : List ℕ} {m : Met} (so : Counted held l m) where
+  counted_more : (x : ℕ) → Counted held (l ++ (x ∷ [])) (met_of m held true x)
   unfolding met_of
-  counted_more = record {
-    count = omega (arith, so.count, length-append l (x ∷ []));
-    same = rw (so.same, so.count)
-        (ap (λ (t : Bool). begins l (drop from held) && t) (sym (has_drop held from (length l) x)) ∙ sym (begins_more l (drop from held) x));
-  }
+  counted_more x = record { count = omega (arith, so.count, length-append l (x ∷ [])); same = rw (so.same, so.count) (sym (begins_more l held x)) }
 
-  counted_still : Counted held from l (met_of m held from false x)
+  counted_still : (x : ℕ) → Counted held l (met_of m held false x)
   unfolding met_of
-  counted_still = so
+  counted_still x = so
 
   -- one edge more, or none
-  pub counted_next : (here : Bool) (next : List ℕ) → (here ≡ true → next ≡ l ++ (x ∷ [])) → (here ≡ false → next ≡ l) → Counted held from next (met_of m held from here x)
-  counted_next true next more still = rw (more refl) counted_more
-  counted_next false next more still = rw (still refl) counted_still
-
--- ---- the critical partition
-
--- what its entry refuses: a table that has a fault, then a buffer that is too short
-module _ (b : Board) (ws : List ℕ) (room : ℕ) where
-  pub critical_short : table_fault b ws ≡ fine → room < length (critical_of b ws) → critical_fault b ws room ≡ fault 8 (length (critical_of b ws))
-  unfolding critical_fault
-  critical_short e h = then_short (table_fault b ws) _ room e h
-
-  pub critical_fine : table_fault b ws ≡ fine → length (critical_of b ws) ≤ room → critical_fault b ws room ≡ fine
-  unfolding critical_fault
-  critical_fine e h = then_roomy (table_fault b ws) _ room e h
+  pub counted_next : (here : Bool) (x : ℕ) {next : List ℕ} → (here ≡ true → next ≡ l ++ (x ∷ [])) → (here ≡ false → next ≡ l) → Counted held next (met_of m held here x)
+  counted_next true x more still = rw (more refl) (counted_more x)
+  counted_next false x more still = rw (still refl) (counted_still x)
 
 -- ---- the lag
 
 module _ (σ : ℕ → Bool) (P : ℕ) (per : Periodic σ P) where
   -- of a length t, as the code has A and the least supply
-  module _ (t least whole : ℕ) (f : least ≡ least_supply σ P t) (g : whole ≡ per_frame σ P) where
+  module _ (t : ℕ) {least whole : ℕ} (f : least ≡ least_supply σ P t) (g : whole ≡ per_frame σ P) where
     pub lag_order : P * least ≤ whole * t
     lag_order = rw (f, g) (least_average σ P per t)
 
@@ -265,6 +272,6 @@ module _ (σ : ℕ → Bool) (P : ℕ) (per : Periodic σ P) where
   unfolding greatest
   lag_first = omega (arith, lag_exact σ P per 0)
 
-  pub lag_all : greatest (lag σ P) (P + 1) ≡ delay σ P
+  pub lag_all : (t : ℕ) → t ≤ P → P ≤ t → greatest (lag σ P) (t + 1) ≡ delay σ P
   unfolding delay
-  lag_all = refl
+  lag_all t h l = let e : t ≡ P = omega arith in rw e

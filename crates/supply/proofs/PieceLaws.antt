@@ -19,9 +19,14 @@ use Rattle.theory.specs.Pieces as pieces
 use Rattle.theory.specs.Pieces.{ahead_on, ahead_off, ahead_still, piece_up, piece_flat}
 use Rattle.supply.specs.declared.row.Position.{Position}
 use Rattle.supply.specs.declared.row.Ticks.{Ticks}
+use Rattle.supply.specs.declared.row.Ticks.TheVariants.{On, Off}
 use Rattle.supply.specs.declared.pieces.Ahead.{Ahead}
 use Rattle.supply.specs.Positions.{opens, closes, ticks_from, Behind}
-use Rattle.supply.specs.Ahead.{joined_of, Foreseen, Told}
+use Rattle.supply.specs.Ahead.{far_of, joined_of, Foreseen, Told}
+
+abbrev on_of : Ticks → Bool
+on_of (On far) = true
+on_of (Off far) = false
 
 module _ (b : Board) (ws : List ℕ) where
   abbrev σ : ℕ → Bool
@@ -30,10 +35,10 @@ module _ (b : Board) (ws : List ℕ) where
   abbrev P : ℕ
   P = b.frame
 
-  -- the `far` ticks from x on are all supplied or all unsupplied
+  -- so many ticks from x on are all supplied or all unsupplied
   pub record After (x : ℕ) (k : Ticks) : Type 0 where
-    pub some : 0 < k.far
-    pub same : (y : ℕ) → y ≤ k.far → supply σ 0 (x + y) ≡ supply σ 0 x + when k.on y
+    pub some : 0 < far_of k
+    pub same : (y : ℕ) → y ≤ far_of k → supply σ 0 (x + y) ≡ supply σ 0 x + when (on_of k) y
 
   -- so are those up to the next edge, from the position of x
   pub ticks_alike : (p : Position) (x : ℕ) → Behind b ws p x → x < closes ws p → After x (ticks_from ws p x)
@@ -52,28 +57,35 @@ module _ (b : Board) (ws : List ℕ) where
             (record { some = omega arith; same = λ y m. omega (arith, inside x (omega arith) (omega arith), inside (x + y) (omega arith) (omega arith)) })
       ]
 
-  -- they are not many
-  pub ticks_near : (p : Position) (x : ℕ) → (ticks_from ws p x).far ≤ opens ws p + closes ws p
-  unfolding ticks_from
-  ticks_near p x =
-      elim (dec_lt x (opens ws p)) [ yes u ↦ rw (lt-ltb x (opens ws p) u) (omega arith) | no u ↦ rw (le-ltb x (opens ws p) (omega arith)) (omega arith) ]
+  -- as the code has read them from the position of the end of a stretch
+  module _ (from t : ℕ) {q : Position} (at : Behind b ws q (from + t) × (from + t < closes ws q)) {k : Ticks} (read : k ≡ ticks_from ws q (from + t)) where
+    pub ticks_here : After (from + t) k
+    ticks_here = rw read (ticks_alike q (from + t) at.0 at.1)
+
+    -- they are not many
+    pub ticks_near : far_of k ≤ opens ws q + closes ws q
+    unfolding ticks_from
+    ticks_near =
+        elim (dec_lt (from + t) (opens ws q)) [
+          | yes u ↦ rw (read, lt-ltb (from + t) (opens ws q) u) (omega arith)
+          | no u ↦ rw (read, le-ltb (from + t) (opens ws q) (omega arith)) (omega arith)
+        ]
 
   -- ---- one start more
 
   -- its stretch is in its length, and no shorter than the least supply
-  pub within_length : LegalTable b ws → (t i f least : ℕ) → least ≡ least_supply σ P t → f ≡ supply σ (end_of ws i) t → (least ≤ f) × (f ≤ t)
-  within_length ok t i f least low is =
+  pub within_length : LegalTable b ws → (i : ℕ) {t f least : ℕ} → least ≡ least_supply σ P t → f ≡ supply σ (end_of ws i) t → (least ≤ f) × (f ≤ t)
+  within_length ok i {t} low is =
       (omega (arith, low, is, least_over_all_starts σ P (table_row b ws ok).repeats (end_of ws i) t), omega (arith, is, supply_le σ (end_of ws i) t))
 
-  module _ (ok : LegalTable b ws) (t i f least : ℕ) (a : Ahead) (low : least ≡ least_supply σ P t) (is : f ≡ supply σ (end_of ws i) t)
+  module _ (ok : LegalTable b ws) {t i f least : ℕ} {a : Ahead} (low : least ≡ least_supply σ P t) (is : f ≡ supply σ (end_of ws i) t)
       (so_far : pieces.Ahead σ P (end_of ws) t i a.flat a.rise) (some : 0 < a.rise) where
-    straight : (v : Bool) (far : ℕ) → After (end_of ws i + t) (record { on = v; far = far }) →
-        (y : ℕ) → y ≤ far → supply σ (end_of ws i) (t + y) ≡ f + when v y
-    straight v far k y h =
+    straight : (k : Ticks) → After (end_of ws i + t) k → (y : ℕ) → y ≤ far_of k → supply σ (end_of ws i) (t + y) ≡ f + when (on_of k) y
+    straight k after y h =
         omega (
           arith,
           is,
-          k.same y h,
+          after.same y h,
           supply_between σ (end_of ws i) t,
           supply_between σ (end_of ws i) (t + y),
           ap (supply σ 0) (add_assoc (end_of ws i) t y),
@@ -85,19 +97,19 @@ module _ (b : Board) (ws : List ℕ) where
       pub rises : 0 < r.rise
       pub most : r.rise ≤ a.rise
 
-    joins_at : (v : Bool) (far : ℕ) → After (end_of ws i + t) (record { on = v; far = far }) → Joined (joined_of a (record { on = v; far = far }) (f - least))
+    pub joins : (k : Ticks) → After (end_of ws i + t) k → Joined (joined_of a k (f - least))
     unfolding joined_of
-    joins_at true far k =
+    joins (On far) after =
         record {
-          ahead = rw (add-one i, low) (ahead_on σ P (table_row b ws ok).repeats (end_of ws) t i a.flat a.rise far f is so_far (straight true far k));
-          rises = omega (arith, some, k.some);
+          ahead = rw (add-one i, low) (ahead_on σ P (table_row b ws ok).repeats (end_of ws) t i a.flat a.rise far f is so_far (straight (On far) after));
+          rises = omega (arith, some, after.some);
           most = omega arith;
         }
-    joins_at false far k =
+    joins (Off far) after =
         elim (ℕ_discrete (f - least) 0) [
           | yes z ↦ rw (eq-eqb (f - least) 0 z) (record {
-            ahead = rw (add-one i) (ahead_still σ P (table_row b ws ok).repeats (end_of ws) t i a.flat a.rise far f is so_far k.some
-                (omega (arith, z, low, within_length ok t i f least low is)) (λ y h. omega (arith, straight false far k y h)));
+            ahead = rw (add-one i) (ahead_still σ P (table_row b ws ok).repeats (end_of ws) t i a.flat a.rise far f is so_far after.some
+                (omega (arith, z, low, within_length ok i low is)) (λ y h. omega (arith, straight (Off far) after y h)));
             rises = some;
             most = omega arith;
           })
@@ -108,12 +120,9 @@ module _ (b : Board) (ws : List ℕ) where
           })
         ]
 
-    pub joins : (k : Ticks) → After (end_of ws i + t) k → Joined (joined_of a k (f - least))
-    joins k after = joins_at k.on k.far after
-
 -- ---- the piece that is foreseen
 
-module _ (b : Board) (ws : List ℕ) (t least : ℕ) (a : Ahead) (low : least ≡ least_supply (supplied_by b ws) b.frame t) (s : Foreseen b ws t a) where
+module _ {b : Board} {ws : List ℕ} {t least : ℕ} {a : Ahead} (low : least ≡ least_supply (supplied_by b ws) b.frame t) (s : Foreseen b ws t a) where
   pub least_within : least ≤ t
   least_within = omega (arith, low, least_over_all_starts _ _ (table_row b ws s.legal).repeats 0 t, supply_le (supplied_by b ws) 0 t)
 
@@ -126,7 +135,7 @@ module _ (b : Board) (ws : List ℕ) (t least : ℕ) (a : Ahead) (low : least �
         most = s.most;
       }
 
-  pub told_flat : (n : ℕ) → 0 < n → n ≤ a.flat → t + n ≤ b.frame → Told (supplied_by b ws) b.frame t (record { rising = false; end = t + n; least = least })
-  told_flat n some h fits =
+  pub told_flat : {n : ℕ} → 0 < n → n ≤ a.flat → t + n ≤ b.frame → Told (supplied_by b ws) b.frame t (record { rising = false; end = t + n; least = least })
+  told_flat {n} some h fits =
       let row = table_row b ws s.legal in
       record { piece = rw low (piece_flat _ _ row.repeats (end_of ws) t (length ws / 2) a.flat a.rise s.ahead n some h); most = fits }

@@ -1,5 +1,5 @@
 -- Positions in the endless row of windows, as the code moves them
-use mathlib.Core.Path.{◌≡◌}
+use mathlib.Core.Path.{◌≡◌, ap}
 use mathlib.Core.List.{List}
 use Prim.Native.Nat.{ℕ, ◌+◌, ◌-◌, ◌*◌, ◌/◌, ◌≤◌, ◌<◌}
 use native.Mathlib.Omega.{arith}
@@ -14,7 +14,31 @@ use Rattle.theory.specs.Ticks.{supply_up}
 use Rattle.theory.specs.Rows.{start_of, end_of, table_row, position_first, position_in, position_before}
 use Rattle.theory.specs.Rows.{position_past, position_most, position_next, position_round}
 use Rattle.supply.specs.declared.row.Position.{Position}
-use Rattle.supply.specs.Positions.{first, opens, closes, following, Stands, Behind}
+use Rattle.supply.specs.declared.row.Ticks.TheVariants.{On, Off}
+use Rattle.supply.specs.Positions.{first, opens, closes, following, ticks_from, Stands, Behind}
+
+-- where a window that is read starts and ends
+module _ (ws : List ℕ) (i : ℕ) (w : Window) (read : w ≡ window_at (windows_of ws) i) where
+  pub starts_at : w.start ≡ start_of ws i
+  starts_at = ap (λ (v : Window). v.start) read
+
+  pub ends_at : w.end ≡ end_of ws i
+  ends_at = ap (λ (v : Window). v.end) read
+
+-- the ticks up to the next edge, as the code has them where it has read the window w
+module _ (ws : List ℕ) (p : Position) (x : ℕ) (w : Window) (read : w ≡ window_at (windows_of ws) p.index) where
+  pub ticks_off : x < p.base + w.start → Off (p.base + w.start - x) ≡ ticks_from ws p x
+  unfolding ticks_from
+  ticks_off h =
+      let start : p.base + w.start ≡ opens ws p = omega (arith, starts_at ws p.index w read) in
+      rw (← start, lt-ltb x (p.base + w.start) h)
+
+  pub ticks_on : p.base + w.start ≤ x → On (p.base + w.end - x) ≡ ticks_from ws p x
+  unfolding ticks_from
+  ticks_on h =
+      let start : p.base + w.start ≡ opens ws p = omega (arith, starts_at ws p.index w read) in
+      let end : p.base + w.end ≡ closes ws p = omega (arith, ends_at ws p.index w read) in
+      rw (← start, ← end, le-ltb x (p.base + w.start) h)
 
 module _ (b : Board) (ws : List ℕ) where
   -- the numbers of a position are small
@@ -95,3 +119,6 @@ module _ (b : Board) (ws : List ℕ) where
   pub behind_first : LegalTable b ws → (p : Position) → p ≡ first → (x : ℕ) → Behind b ws p x
   behind_first ok p e x =
       rw e (record { stands = record { legal = ok; at = position_first _ _ _ _ _ (table_row b ws ok); near = omega arith }; fewer = omega arith })
+
+-- what is read at a position
+pub ruleset read_at = (starts_at, ends_at, small, next_here, next_round, ticks_off, ticks_on)

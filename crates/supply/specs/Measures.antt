@@ -1,5 +1,6 @@
 -- What the code knows of the critical partition and the delay that it finds by pieces, and of numbers that it holds against them
-use Rattle.std.specs.Prelude.{ℕ, zero, suc, ◌+◌, ◌≡◌, Bool, false, cond, ◌&&◌, List, [], ◌∷◌, eqb, length, drop}
+use Rattle.std.specs.Prelude.{ℕ, zero, suc, ◌+◌, ◌≡◌, Bool, false, cond, ◌&&◌, List, [], ◌∷◌, eqb, length}
+use Rattle.scope.specs.Ticks.{per_frame}
 use Rattle.scope.specs.Windows.{Board, supplied_by}
 use Rattle.scope.specs.Partition.{delay as delay_of}
 use Rattle.scope.specs.Answers.{critical_of}
@@ -14,10 +15,11 @@ has_at (y ∷ l) zero x = eqb x y
 has_at (y ∷ l) (suc k) x = has_at l k x
 
 -- one edge more at t, where there is one
-unfoldable pub met_of : Met → List ℕ → ℕ → Bool → ℕ → Met
-met_of m held from here t = cond here (record { count = m.count + 1; same = m.same && has_at held (from + m.count) t }) m
+unfoldable pub met_of : Met → List ℕ → Bool → ℕ → Met
+met_of m held here t = cond here (record { count = m.count + 1; same = m.same && has_at held m.count t }) m
 
-pub record Measured (b : Board) (ws held : List ℕ) (from : ℕ) (m : Measure) : Type 0 where
+pub record Measured (b : Board) (ws held : List ℕ) (m : Measure) : Type 0 where
+  pub whole : m.whole ≡ per_frame (supplied_by b ws) b.frame
   pub numbers : m.numbers ≡ length (critical_of b ws)
   pub delay : m.delay ≡ delay_of (supplied_by b ws) b.frame
-  pub same : m.same ≡ begins (critical_of b ws) (drop from held)
+  pub same : m.same ≡ begins (critical_of b ws) held

@@ -1,5 +1,5 @@
 -- What the code knows of its positions in the endless row of windows
-use Rattle.std.specs.Prelude.{ℕ, ◌+◌, ◌-◌, ◌*◌, ◌/◌, ◌≤◌, true, false, cond, List, ltb, length}
+use Rattle.std.specs.Prelude.{ℕ, ◌+◌, ◌-◌, ◌*◌, ◌/◌, ◌≤◌, cond, List, ltb, length}
 use Rattle.scope.specs.Limits.{most_frame}
 use Rattle.scope.specs.Ticks.{supply}
 use Rattle.scope.specs.Windows.{Board, supplied_by}
@@ -8,6 +8,7 @@ use Rattle.theory.specs.Rows as rows
 use Rattle.theory.specs.Rows.{start_of, end_of, table_row}
 use Rattle.supply.specs.declared.row.Position.{Position}
 use Rattle.supply.specs.declared.row.Ticks.{Ticks}
+use Rattle.supply.specs.declared.row.Ticks.TheVariants.{On, Off}
 
 -- the first window of the first frame
 abbrev pub first : Position
@@ -29,7 +30,7 @@ following b ws p =
 
 -- the ticks from x on up to the next edge: those before the window of a position, or those that are left of it
 unfoldable pub ticks_from : List ℕ → Position → ℕ → Ticks
-ticks_from ws p x = cond (ltb x (opens ws p)) (record { on = false; far = opens ws p - x }) (record { on = true; far = closes ws p - x })
+ticks_from ws p x = cond (ltb x (opens ws p)) (Off (opens ws p - x)) (On (closes ws p - x))
 
 -- a position in the row of a legal table, whose numbers are small
 pub record Stands (b : Board) (ws : List ℕ) (p : Position) : Type 0 where

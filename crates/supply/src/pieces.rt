@@ -3,13 +3,11 @@
 ghost use Rattle.std.specs.Prelude.{◌≡◌, ◌+◌, ◌<◌, ◌^◌};
 ghost use Rattle.scope.specs.Ticks.{least_supply};
 ghost use Rattle.scope.specs.Windows.{framed, supplied_by};
-ghost use Rattle.theory.specs.Answers.{LegalTable};
-ghost use Rattle.supply.specs.Ahead.{joined_of, Foreseen, Told};
+ghost use Rattle.supply.specs.Ahead.{joined_of, far_of, Foreseen, Told};
 
-use crate::row::{Position, Ticks, moved, ticks_after, upto};
+use crate::row::{Position, Ticks, moved, ticks_after, upto, window_of};
 use crate::supply::start_after;
-use tables::number::{larger, lesser};
-use tables::window::window_at;
+use tables::table::Table;
 
 // What lies ahead of a length: the least supply stays for `flat` lengths or, where that is none, rises at each of `rise`.
 #[derive(Clone, Copy)]
@@ -28,68 +26,63 @@ pub(crate) struct Piece {
 
 // One start more, whose stretch has `over` ticks more than the least supply. At the least, it keeps it there up to its next supplied tick; else the least can
 // rise until it meets this start.
+#[tactic(auto, unfolding(crate::specs::Ahead::joined_of))]
 fn joined(ahead: Ahead, ticks: Ticks, over: u32) -> Ahead
-    requires { ticks.far + over < 2 ^ 32 }
+    requires { far_of ticks + over < 2 ^ 32 }
     ensures { result ≡ joined_of ahead ticks over }
 {
-    if ticks.on {
-        let rise = lesser(ahead.rise, ticks.far + over);
-        return Ahead {
+    match ticks {
+        Ticks::On(far) => Ahead {
             flat: ahead.flat,
-            rise,
-        };
-    }
-    if over == 0 {
-        let flat = larger(ahead.flat, ticks.far);
-        return Ahead {
-            flat,
-            rise: ahead.rise,
-        };
-    }
-    let rise = lesser(ahead.rise, over);
-    Ahead {
-        flat: ahead.flat,
-        rise,
+            rise: ahead.rise.min(far + over),
+        },
+        Ticks::Off(far) => {
+            if over == 0 {
+                return Ahead {
+                    flat: ahead.flat.max(far),
+                    rise: ahead.rise,
+                };
+            }
+            Ahead {
+                flat: ahead.flat,
+                rise: ahead.rise.min(over),
+            }
+        }
     }
 }
 
-// What lies ahead of length t, whose least supply is `least`, over the starts where a window ends.
-fn ahead_of(frame: u32, windows: &[u32], t: u32, least: u32) -> Ahead
-    requires { LegalTable (framed frame) windows.now × (t < frame)
-        × (least ≡ least_supply (supplied_by (framed frame) windows.now) frame t) }
-    ensures { Foreseen (framed frame) windows.now t result }
+// What lies ahead of length t, whose least supply is `least`, over the starts where a window ends. It goes over them as `least_at_ends` does: each step of the
+// walk needs the sum and the position of the one before, and what the two gather of a start differs.
+fn ahead_of(table: Table<'_>, t: u32, least: u32) -> Ahead
+    requires { (t < table.frame) × (least ≡ least_supply (supplied_by (framed table.frame) table.windows.now) table.frame t) }
+    ensures { Foreseen (framed table.entry.frame) table.entry.windows.now t result }
 {
-    let count = windows.len() / 2;
     let mut ahead = Ahead {
         flat: 0,
-        rise: frame - t,
+        rise: table.frame - t,
     };
     let mut earlier = 0;
     let mut position = Position::first();
-    let mut i = 0;
-    while i < count {
-        let window = window_at(windows, i);
+    for i in 0..table.windows.len() / 2 {
+        let window = window_of(table, i);
         let start = start_after(window, earlier);
         let end = start.tick + t;
-        position = moved(frame, windows, position, end);
-        let ticks = ticks_after(windows, position, end);
-        let supply = upto(windows, position, end) - start.before;
+        position = moved(table, position, end);
+        let ticks = ticks_after(table, position, end);
+        let supply = upto(table, position, end) - start.before;
         ahead = joined(ahead, ticks, supply - least);
         earlier = start.before;
-        i += 1;
     }
     ahead
 }
 
 // The piece from length t on, whose least supply is `least`.
-pub(crate) fn piece_from(frame: u32, windows: &[u32], t: u32, least: u32) -> Piece
-    requires { LegalTable (framed frame) windows.now × (t < frame)
-        × (least ≡ least_supply (supplied_by (framed frame) windows.now) frame t) }
-    ensures { Told (supplied_by (framed frame) windows.now) frame t result }
+pub(crate) fn piece_from(table: Table<'_>, t: u32, least: u32) -> Piece
+    requires { (t < table.frame) × (least ≡ least_supply (supplied_by (framed table.frame) table.windows.now) table.frame t) }
+    ensures { Told (supplied_by (framed table.entry.frame) table.entry.windows.now) table.entry.frame t result }
 {
-    let ahead = ahead_of(frame, windows, t, least);
-    let flat = ahead.flat;
-    if flat == 0 {
+    let ahead = ahead_of(table, t, least);
+    if ahead.flat == 0 {
         let n = ahead.rise;
         return Piece {
             rising: true,
@@ -97,7 +90,7 @@ pub(crate) fn piece_from(frame: u32, windows: &[u32], t: u32, least: u32) -> Pie
             least: least + n,
         };
     }
-    let n = lesser(flat, frame - t);
+    let n = ahead.flat.min(table.frame - t);
     Piece {
         rising: false,
         end: t + n,

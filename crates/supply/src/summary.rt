@@ -2,95 +2,68 @@
 // Document 02, request 6.
 ghost use Rattle.std.specs.Prelude.{◌≡◌, ◌∷◌, ◌≤◌, length, drop};
 ghost use Rattle.scope.specs.Windows.{framed};
-ghost use Rattle.scope.specs.Answers.{Fault.fine, table_fault, ◌or_else◌};
+ghost use Rattle.scope.specs.Answers.{table_fault, ◌or_else◌};
 ghost use Rattle.scope.specs.Summary.{summary_of, make_answer, make_out, begins, summary_fault};
-ghost use Rattle.theory.specs.Answers.{LegalTable};
 ghost use Rattle.tables.specs.Told.{fault_of, told_amount};
 
-use crate::partition::{has_at, measured, write_edges};
-use crate::supply::least_at_ends;
-use tables::answer::{Amount, Checked, Refusal, refuse};
-use tables::window::check_table;
+use crate::partition::{measured, write_edges};
+use tables::answer::Refusal;
+use tables::list::check_room;
+use tables::table::Table;
 
-// Writes the first three numbers of a summary.
-fn write_head(out: &mut [u32], whole: u32, delay: u32, count: u32)
-    requires { 3 ≤ length out.old }
-    ensures { out.new ≡ whole ∷ delay ∷ count ∷ drop 3 out.old }
+// The summary of a table that was checked: how many numbers; these at the front of out, the rest of out kept. Refusal 8.
+#[tactic(auto, using(crate::proofs::TableLaws::answered, crate::proofs::SummaryLaws::summary_numbers), unfolding(scope::specs::Summary::make_fault, scope::specs::Summary::make_answer, scope::specs::Summary::make_out))]
+pub fn make_of(table: Table<'_>, out: &mut [u32]) -> Result<u64, Refusal>
+    ensures answer { told_amount result ≡ make_answer (framed table.entry.frame) table.entry.windows.now (length out.old) }
+    ensures buffer { out.new ≡ make_out (framed table.entry.frame) table.entry.windows.now out.old }
 {
-    out[0] = whole;
-    out[1] = delay;
-    out[2] = count;
-}
-
-// The summary of a legal list of windows: how many numbers; these at the front of out, the rest of out kept. Refusal 8.
-fn make_on(frame: u32, windows: &[u32], out: &mut [u32]) -> Amount
-    requires { table_fault (framed frame) windows.now ≡ fine }
-    ensures answer { told_amount result ≡ make_answer (framed frame) windows.now (length out.old) }
-    ensures buffer { out.new ≡ make_out (framed frame) windows.now out.old }
-{
-    let whole = least_at_ends(frame, windows, 0).whole;
-    let measure = measured(frame, windows, whole, &windows[..0], 0);
-    let numbers = measure.numbers;
-    let needed = (numbers as u64) + 3;
-    if (out.len() as u64) < needed {
-        refuse(Refusal::Room(needed), out)
-    } else {
-        write_head(out, whole, measure.delay, numbers / 2);
-        write_edges(frame, windows, 3, out);
-        Amount::Of(needed)
-    }
+    let measure = measured(table, &[]);
+    let needed = measure.numbers as usize + 3;
+    check_room(needed, out.len())?;
+    let (head, windows) = out.split_at_mut(3);
+    head.copy_from_slice(&[measure.whole, measure.delay, measure.numbers / 2]);
+    write_edges(table, windows);
+    Ok(needed as u64)
 }
 
 // The summary of a list of windows in pairs, as one owner has it. Refusals 1 2 3 8.
-pub fn make_in(frame: u32, windows: &[u32], out: &mut [u32]) -> Amount
+#[tactic(auto, using(crate::proofs::TableLaws::answered), unfolding(scope::specs::Summary::make_fault, scope::specs::Summary::make_answer, scope::specs::Summary::make_out, tables::specs::Lent::table_answer))]
+pub fn make_in(frame: u32, windows: &[u32], out: &mut [u32]) -> Result<u64, Refusal>
     ensures answer { told_amount result ≡ make_answer (framed frame) windows.now (length out.old) }
     ensures buffer { out.new ≡ make_out (framed frame) windows.now out.old }
 {
-    match check_table(frame, windows) {
-        Checked::Bad(r) => refuse(r, out),
-        Checked::Fine => make_on(frame, windows, out),
-    }
+    let table = Table::new(frame, windows)?;
+    make_of(table, out)
 }
 
-// Whether memory begins with the summary of a legal list of windows: what a fresh making would write is held against it number by number.
-fn belongs(frame: u32, windows: &[u32], summary: &[u32]) -> bool
-    requires { LegalTable (framed frame) windows.now }
-    ensures { result ≡ begins (summary_of (framed frame) windows.now) summary.now }
+// Whether memory begins with the summary of a table that was checked: what a fresh making would write is held against it number by number.
+#[tactic(auto, using(crate::proofs::SummaryLaws::begun))]
+fn belongs(table: Table<'_>, summary: &[u32]) -> bool
+    ensures { result ≡ begins (summary_of (framed table.entry.frame) table.entry.windows.now) summary.now }
 {
-    let whole = least_at_ends(frame, windows, 0).whole;
-    let measure = measured(frame, windows, whole, summary, 3);
-    let count = measure.numbers / 2;
-    let delay = measure.delay;
-    let same = measure.same;
-    if !has_at(summary, 0, whole) {
+    let [whole, delay, count, windows @ ..] = summary else {
         return false;
-    }
-    if !has_at(summary, 1, delay) {
-        return false;
-    }
-    if !has_at(summary, 2, count) {
-        return false;
-    }
-    same
+    };
+    let measure = measured(table, windows);
+    [measure.whole, measure.delay, measure.numbers / 2] == [*whole, *delay, *count] && measure.same
 }
 
-// Refusal 14 of a summary that does not belong to a legal list of windows.
-fn check_belongs(frame: u32, windows: &[u32], summary: &[u32]) -> Checked
-    requires { table_fault (framed frame) windows.now ≡ fine }
-    ensures { fault_of result ≡ summary_fault (framed frame) windows.now summary.now }
+// Refusal 14 of a summary that does not belong to a table that was checked.
+#[tactic(auto, unfolding(scope::specs::Summary::summary_fault))]
+pub fn check_belongs(table: Table<'_>, summary: &[u32]) -> Result<(), Refusal>
+    ensures { fault_of result ≡ summary_fault (framed table.entry.frame) table.entry.windows.now summary.now }
 {
-    if belongs(frame, windows, summary) {
-        return Checked::Fine;
+    if belongs(table, summary) {
+        return Ok(());
     }
-    Checked::Bad(Refusal::Summary)
+    Err(Refusal::Summary)
 }
 
 // The same of a list of windows in pairs, as one owner has it. Refusals 1 2 3 14.
-pub fn check_summary(frame: u32, windows: &[u32], summary: &[u32]) -> Checked
+#[tactic(auto, using(crate::proofs::TableLaws::answered), unfolding(tables::specs::Lent::table_answer))]
+pub fn check_summary(frame: u32, windows: &[u32], summary: &[u32]) -> Result<(), Refusal>
     ensures { fault_of result ≡ (table_fault (framed frame) windows.now or_else summary_fault (framed frame) windows.now summary.now) }
 {
-    match check_table(frame, windows) {
-        Checked::Bad(r) => Checked::Bad(r),
-        Checked::Fine => check_belongs(frame, windows, summary),
-    }
+    let table = Table::new(frame, windows)?;
+    check_belongs(table, summary)
 }

@@ -2,18 +2,17 @@ ghost use Rattle.std.specs.Prelude.{◌≡◌, ◌+◌, ◌-◌, ◌≤◌};
 ghost use Rattle.scope.specs.Limits.{most_frame, most_length};
 ghost use Rattle.scope.specs.Ticks.{per_frame, least_supply};
 ghost use Rattle.scope.specs.Windows.{framed, supplied_by};
-ghost use Rattle.scope.specs.Answers.{Fault.fine, table_fault, least_supply_answer};
+ghost use Rattle.scope.specs.Answers.{least_supply_answer};
 ghost use Rattle.scope.specs.Shared.{supplied_for, least_supply_for};
-ghost use Rattle.theory.specs.Answers.{LegalTable};
 ghost use Rattle.tables.specs.Told.{board_of, told_supplied, told_amount};
 
-use crate::row::{Position, moved, upto};
-use shared::table::{Owned, own_windows};
-use tables::answer::{Amount, Checked, Supplied};
+use crate::row::{Position, moved, upto, window_of};
+use shared::table::own_table;
+use tables::answer::Refusal;
 use tables::board::Board;
 use tables::length::check_length;
-use tables::number::lesser;
-use tables::window::{Window, check_table, is_on, window_at};
+use tables::table::Table;
+use tables::window::{Window, is_on};
 
 // The least supply of a length, and A, which is the whole frame's.
 #[derive(Clone, Copy)]
@@ -41,24 +40,21 @@ pub(crate) fn start_after(window: Window, earlier: u32) -> Start
 
 // The least supply of a length of at most a frame, over the starts where a window ends. Both ends of the stretch only move forward: what is supplied
 // before its start is the sum of the windows so far, what is supplied before its end is told by a position in the row.
-pub(crate) fn least_at_ends(frame: u32, windows: &[u32], length: u32) -> Least
-    requires { LegalTable (framed frame) windows.now × (length ≤ frame) }
-    ensures { (result.supply ≡ least_supply (supplied_by (framed frame) windows.now) frame length)
-        × (result.whole ≡ per_frame (supplied_by (framed frame) windows.now) frame) }
+pub(crate) fn least_at_ends(table: Table<'_>, length: u32) -> Least
+    requires { length ≤ table.frame }
+    ensures { (result.supply ≡ least_supply (supplied_by (framed table.entry.frame) table.entry.windows.now) table.entry.frame length)
+        × (result.whole ≡ per_frame (supplied_by (framed table.entry.frame) table.entry.windows.now) table.entry.frame) }
 {
-    let count = windows.len() / 2;
     let mut least = length;
     let mut earlier = 0;
     let mut position = Position::first();
-    let mut i = 0;
-    while i < count {
-        let window = window_at(windows, i);
+    for i in 0..table.windows.len() / 2 {
+        let window = window_of(table, i);
         let start = start_after(window, earlier);
         let end = start.tick + length;
-        position = moved(frame, windows, position, end);
-        least = lesser(least, upto(windows, position, end) - start.before);
-        earlier += window.end - window.start;
-        i += 1;
+        position = moved(table, position, end);
+        least = least.min(upto(table, position, end) - start.before);
+        earlier = start.before;
     }
     Least {
         supply: least,
@@ -66,57 +62,46 @@ pub(crate) fn least_at_ends(frame: u32, windows: &[u32], length: u32) -> Least
     }
 }
 
-// The least supply of a length: A for each whole frame, and the least supply of the rest.
-fn least_of(frame: u32, windows: &[u32], length: u32) -> u32
-    requires { LegalTable (framed frame) windows.now × (length ≤ most_length) }
-    ensures { result ≡ least_supply (supplied_by (framed frame) windows.now) frame length }
+// The least supply of a length on a table that was checked, as what is asked over and over: A for each whole frame, and the least supply of the rest.
+pub fn least_of(table: Table<'_>, length: u32) -> u32
+    ensures { result ≡ least_supply (supplied_by (framed table.entry.frame) table.entry.windows.now) table.entry.frame length }
 {
-    let rest = least_at_ends(frame, windows, length % frame);
-    length / frame * rest.whole + rest.supply
+    let rest = least_at_ends(table, length % table.frame);
+    length / table.frame * rest.whole + rest.supply
 }
 
-// The least supply of a length on a legal list of windows. Refusal 7.
-fn least_on(frame: u32, windows: &[u32], length: u32) -> Amount
-    requires { table_fault (framed frame) windows.now ≡ fine }
-    ensures { told_amount result ≡ least_supply_answer (framed frame) windows.now length }
+// The least supply of a length on a table that was checked. Refusal 7.
+#[tactic(auto, using(crate::proofs::TableLaws::answered), unfolding(scope::specs::Answers::least_supply_answer))]
+fn least_on(table: Table<'_>, length: u32) -> Result<u64, Refusal>
+    ensures { told_amount result ≡ least_supply_answer (framed table.entry.frame) table.entry.windows.now length }
 {
-    match check_length(length) {
-        Checked::Bad(r) => Amount::Refused(r),
-        Checked::Fine => {
-            let least = least_of(frame, windows, length);
-            Amount::Of(least as u64)
-        }
-    }
+    check_length(length)?;
+    Ok(u64::from(least_of(table, length)))
 }
 
-// The least supply of a length on a list of windows in pairs, as one owner has it: what is asked over and over is asked so. Refusals 1 2 3 7.
-pub fn least_in(frame: u32, windows: &[u32], length: u32) -> Amount
+// The least supply of a length on a list of windows in pairs, as one owner has it. Refusals 1 2 3 7.
+#[tactic(auto, using(crate::proofs::TableLaws::answered), unfolding(scope::specs::Answers::least_supply_answer, tables::specs::Lent::table_answer))]
+pub fn least_in(frame: u32, windows: &[u32], length: u32) -> Result<u64, Refusal>
     ensures { told_amount result ≡ least_supply_answer (framed frame) windows.now length }
 {
-    match check_table(frame, windows) {
-        Checked::Bad(r) => Amount::Refused(r),
-        Checked::Fine => least_on(frame, windows, length),
-    }
+    let table = Table::new(frame, windows)?;
+    least_on(table, length)
 }
 
 // Whether a tick is supplied to the asked owner. Refusals: a table's.
-pub fn supplied(board: Board, windows: &[u32], tick: u32) -> Supplied
+pub fn supplied(board: Board, windows: &[u32], tick: u32) -> Result<bool, Refusal>
     ensures { told_supplied result ≡ supplied_for (board_of board) windows.now tick }
 {
-    let mut own = [0; 2 * Window::MOST];
-    match own_windows(Owned::TEAMS, board, windows, &mut own) {
-        Amount::Refused(r) => Supplied::Refused(r),
-        Amount::Of(n) => Supplied::Is(is_on(board.frame, &own[..n as usize], tick as u64)),
-    }
+    let mut room = [0; 2 * Window::MOST];
+    let table = own_table(board, windows, &mut room)?;
+    Ok(is_on(table.frame, table.windows, u64::from(tick)))
 }
 
 // The least supply of a length. Refusals: a table's, then 7.
-pub fn least_supply(board: Board, windows: &[u32], length: u32) -> Amount
+pub fn least_supply(board: Board, windows: &[u32], length: u32) -> Result<u64, Refusal>
     ensures { told_amount result ≡ least_supply_for (board_of board) windows.now length }
 {
-    let mut own = [0; 2 * Window::MOST];
-    match own_windows(Owned::TEAMS, board, windows, &mut own) {
-        Amount::Refused(r) => Amount::Refused(r),
-        Amount::Of(n) => least_on(board.frame, &own[..n as usize], length),
-    }
+    let mut room = [0; 2 * Window::MOST];
+    let table = own_table(board, windows, &mut room)?;
+    least_on(table, length)
 }

@@ -1,13 +1,16 @@
 -- Faults as the code meets them: one check after the other, then the value
-use mathlib.Core.Path.{◌≡◌, refl, sym, ap, ◌∙◌}
-use mathlib.Core.Bool.{Bool, true, false, not, cond}
+use mathlib.Core.Path.{◌≡◌, refl, sym, ap}
+use mathlib.Core.Bool.{Bool, true, false, not, cond, ◌&&◌, ◌||◌}
 use mathlib.Core.List.{List}
-use Prim.Native.Nat.{ℕ, ◌≤◌, ◌<◌}
+use Prim.Native.Nat.{ℕ, ◌<◌}
 use native.Mathlib.Omega.{arith}
+use native.Mathlib.Decide.{ℕ_discrete, dec_lt}
+use lib.Dec.{ltb, leb, eqb}
+use borrow.Author.Tests.{lt-ltb, le-ltb, lt-leb, le-leb, eq-eqb, ne_eqb}
 use Rattle.scope.specs.Numbers.{first}
-use Rattle.scope.specs.Answers.{Fault, Fault.fine, Fault.fault, Answer.given, Answer.refused, fault_if, fault_at, ◌or_else◌, unless, unless_kept, room_fault}
+use Rattle.scope.specs.Answers.{Fault, Fault.fine, Fault.fault, Answer.given, Answer.refused, fault_if, fault_at, ◌or_else◌, unless, unless_kept}
 use Rattle.theory.specs.Numbers.{some_first, none_first}
-use Rattle.theory.specs.Answers.{unless_given, unless_refused_lem, fine_room, room_fault_lem}
+use Rattle.theory.specs.Answers.{unless_given, unless_refused_lem}
 
 pub if_true : (b : Bool) (n p : ℕ) → b ≡ true → fault n p ≡ fault_if b n p
 if_true b n p e = rw e
@@ -15,17 +18,21 @@ if_true b n p e = rw e
 pub if_false : (b : Bool) (n p : ℕ) → b ≡ false → fine ≡ fault_if b n p
 if_false b n p e = rw e
 
+-- a number that is not 1 to m
+pub outside : (n m : ℕ) → (eqb n 0 || ltb m n) ≡ not (leb 1 n && leb n m)
+outside n m =
+    elim (ℕ_discrete n 0) [
+      | yes e ↦ rw (eq-eqb n 0 e, lt-leb 1 n (omega arith))
+      | no u ↦ elim (dec_lt m n) [
+        | yes l ↦ rw (ne_eqb n 0 u, lt-ltb m n l, lt-leb n m l, le-leb 1 n (omega arith))
+        | no h ↦ rw (ne_eqb n 0 u, le-ltb m n (omega arith), le-leb n m (omega arith), le-leb 1 n (omega arith))
+      ]
+    ]
+
 module _ {n p : ℕ} where
   -- the first fault of two
   pub or_fault : (f g : Fault) → f ≡ fault n p → (f or_else g) ≡ fault n p
   or_fault f g e = rw e
-
-  -- a fault is answered, and nothing is written
-  pub refused_by : {A : Type 0} (f : Fault) (a : A) → f ≡ fault n p → refused n p ≡ unless f a
-  refused_by f a e = rw e
-
-  pub kept_by : {A : Type 0} (f : Fault) (new old : List A) → f ≡ fault n p → old ≡ unless_kept f new old
-  kept_by f new old e = rw e
 
   -- a refusal was this fault, and of a value that was given there was none
   pub fault_of_lem : {A : Type 0} (f : Fault) (a : A) → refused n p ≡ unless f a → fault n p ≡ f
@@ -38,20 +45,9 @@ none_of f a v e = sym (unless_given f a v (sym e)).0
 pub or_fine : (f g : Fault) → f ≡ fine → (f or_else g) ≡ g
 or_fine f g e = rw e
 
--- room for what is written is the last thing that is checked
-module _ (f : Fault) (needed room : ℕ) (e : f ≡ fine) where
-  pub then_short : room < needed → (f or_else room_fault needed room) ≡ fault 8 needed
-  then_short h = or_fine f _ e ∙ room_fault_lem needed room h
-
-  pub then_roomy : needed ≤ room → (f or_else room_fault needed room) ≡ fine
-  then_roomy h = or_fine f _ e ∙ fine_room needed room h
-
 -- no fault: the value, and the buffer as it is to be
 pub given_by : {A : Type 0} (f : Fault) (a : A) → f ≡ fine → given a ≡ unless f a
 given_by f a e = rw e
-
-pub written_by : {A : Type 0} (f : Fault) (new old : List A) → f ≡ fine → new ≡ unless_kept f new old
-written_by f new old e = rw e
 
 -- ---- a constructor answers the value, or refuses it: which of the two says whether the value keeps its rule
 
@@ -86,18 +82,29 @@ module _ (number : ℕ) (rule : ℕ → Bool) (n : ℕ) where
   pub breaks_nowhere : ((k : ℕ) → k < n → rule k ≡ true) → fine ≡ fault_at number (first (λ k. not (rule k)) n)
   breaks_nowhere kept = found_nowhere number (λ k. not (rule k)) n (λ k h. ap not (kept k h))
 
--- ---- two checks made together, then a third, then the value
-
 pub or_assoc : (f g h : Fault) → ((f or_else g) or_else h) ≡ (f or_else g or_else h)
 or_assoc fine g h = refl
 or_assoc (fault n p) g h = refl
 
-module _ {A : Type 0} (f g h : Fault) (a : A) where
-  pub refused_first : {n p : ℕ} → (f or_else g) ≡ fault n p → refused n p ≡ unless (f or_else g or_else h) a
-  refused_first e = refused_by (f or_else g or_else h) a (sym (or_assoc f g h) ∙ or_fault (f or_else g) h e)
+-- ---- `?`: a check that refuses ends the checks, and one that passes leaves them to the next
 
-  pub refused_then : {n p : ℕ} → (f or_else g) ≡ fine → h ≡ fault n p → refused n p ≡ unless (f or_else g or_else h) a
-  refused_then e e' = refused_by (f or_else g or_else h) a (sym (or_assoc f g h) ∙ or_fine (f or_else g) h e ∙ e')
+pub stopped : {n p : ℕ} {f : Fault} (g : Fault) → fault n p ≡ f → fault n p ≡ (f or_else g)
+stopped g e = rw (← e)
 
-  pub given_then : (f or_else g) ≡ fine → h ≡ fine → given a ≡ unless (f or_else g or_else h) a
-  given_then e e' = given_by (f or_else g or_else h) a (sym (or_assoc f g h) ∙ or_fine (f or_else g) h e ∙ e')
+pub passed : {h f g : Fault} → fine ≡ f → h ≡ g → h ≡ (f or_else g)
+passed {h} e k = rw (← e) k
+
+pub refused_there : {A : Type 0} {n p : ℕ} {f : Fault} (a : A) → fault n p ≡ f → refused n p ≡ unless f a
+refused_there a e = rw (← e)
+
+pub given_there : {A : Type 0} {f : Fault} (a : A) → fine ≡ f → given a ≡ unless f a
+given_there a e = rw (← e)
+
+pub kept_there : {A : Type 0} {n p : ℕ} {f : Fault} (new old : List A) → fault n p ≡ f → old ≡ unless_kept f new old
+kept_there new old e = rw (← e)
+
+pub written_there : {A : Type 0} {f : Fault} (new old : List A) → fine ≡ f → new ≡ unless_kept f new old
+written_there new old e = rw (← e)
+
+-- what an answer is by: checks one after the other, then the value, and the lent memory
+pub ruleset answered = (stopped, passed, refused_there, given_there, kept_there, written_there)

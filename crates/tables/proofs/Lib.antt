@@ -1,4 +1,3 @@
-pub mod Signs
 pub mod FaultLaws
 pub mod WindowLaws
 pub mod TaskLaws

@@ -10,11 +10,17 @@ use borrow.Author.Tests.{lt-ltb, le-ltb}
 use Rattle.scope.specs.Numbers.{first_by, bad_count}
 use Rattle.scope.specs.Limits.{most_tasks}
 use Rattle.scope.specs.Tasks.{Task, task, tasks_of, task_at, task_legal, bad_task, task_demand}
-use Rattle.scope.specs.Answers.{Fault.fine, Fault.fault, Answer.given, Answer.refused, fault_if, task_list_fault, task_fault, task_answer}
+use Rattle.scope.specs.Answers.{Fault.fault, Answer.given, Answer.refused, fault_if, task_list_fault, task_fault, task_answer}
 use Rattle.theory.specs.Lists.{pieces_length, over_count}
 use Rattle.theory.specs.Answers.{LegalGroup}
 use Rattle.theory.specs.Tasks.{TaskRule}
-use Rattle.tables.proofs.FaultLaws.{keeps, breaks, breaks_at_lem, breaks_nowhere}
+use Rattle.std.specs.Prelude.{is_ok}
+use Rattle.std.specs.declared.result.Result.{Result}
+use Rattle.std.specs.declared.result.Result.TheVariants.{Ok, Err}
+use Rattle.tables.specs.declared.answer.Refusal.{Refusal}
+use Rattle.tables.specs.declared.task.Task as task_record
+use Rattle.tables.specs.Told.{task_of, told_task}
+use Rattle.tables.proofs.FaultLaws.{keeps, breaks}
 
 -- ---- a && b as the code makes it: b where a holds, else a
 
@@ -43,6 +49,10 @@ taken_legal x y e = sym (keeps (task_legal x) x 5 0 y (e ∙ sym (task_alone_lem
 pub refused_illegal : (x : Task) (n p : ℕ) → refused n p ≡ task_answer x → false ≡ task_legal x
 refused_illegal x n p e = sym (breaks (task_legal x) x 5 0 n p (e ∙ sym (task_alone_lem x (task_legal x) refl)))
 
+pub made_legal : (r : Result task_record.Task Refusal) (x : Task) → told_task r ≡ task_answer x → is_ok r ≡ task_legal x
+made_legal (Ok y) x e = taken_legal x (task_of y) e
+made_legal (Err r) x e = refused_illegal x _ _ e
+
 -- ---- the demand of a task
 
 pub demand_short : (x : Task) (t : ℕ) → t < x.D → 0 ≡ task_demand x t
@@ -57,7 +67,7 @@ demand_long x t h = rw (le-ltb t x.D h)
 pub work_most : (a b w : ℕ) → a < 4294967296 → w < 4294967296 → (a / b + 1) * w ≤ 4294967296 * 4294967295
 work_most a b w h k = mul-le-mul {n₁ = a / b + 1} {m₁ = w} {n₂ = 4294967296} {m₂ = 4294967295} (omega (arith, div-le_self a b)) (omega arith)
 
--- ---- a list of tasks: in threes and not too many, then each by its rule
+-- ---- a list of tasks: in threes and not too many
 
 module _ (ts : List ℕ) where
   pub list_by : (t : Bool) → bad_count 3 most_tasks ts ≡ t → fault_if t 4 0 ≡ task_list_fault ts
@@ -66,16 +76,3 @@ module _ (ts : List ℕ) where
 
   pub too_many : most_tasks < length ts / 3 → fault 4 0 ≡ task_list_fault ts
   too_many h = list_by true (over_count 3 most_tasks ts h)
-
-  -- whether task k keeps its rule
-  abbrev pub kept : ℕ → Bool
-  kept k = task_legal (task_at (tasks_of ts) k)
-
-  -- the first that does not is at fault
-  pub task_bad : (i : ℕ) → i < length ts / 3 → ((k : ℕ) → k < i → kept k ≡ true) → kept i ≡ false → fault 5 i ≡ task_fault (tasks_of ts)
-  unfolding task_fault bad_task
-  task_bad i l low e = breaks_at_lem 5 kept (length (tasks_of ts)) i (omega (arith, pieces_length _ 3 task ts)) low e
-
-  pub tasks_fine : ((k : ℕ) → k < length ts / 3 → kept k ≡ true) → fine ≡ task_fault (tasks_of ts)
-  unfolding task_fault bad_task
-  tasks_fine all = breaks_nowhere 5 kept (length (tasks_of ts)) (λ k l. all k (omega (arith, pieces_length _ 3 task ts)))

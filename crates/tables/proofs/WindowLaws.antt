@@ -1,24 +1,24 @@
 -- The rule of windows, by the cases that the code tells apart; and what windows cover, one after the other
-use mathlib.Core.Path.{◌≡◌, refl, sym, ap, ◌∙◌}
+use mathlib.Core.Path.{◌≡◌, refl, sym, ap, ap₂, ◌∙◌}
 use mathlib.Core.Bool.{Bool, true, false, not, cond, ◌&&◌, ◌||◌}
 use mathlib.Core.Option.{none, some}
 use mathlib.Core.List.{List, [], ◌∷◌}
-use Prim.Native.Nat.{ℕ, ◌+◌, ◌-◌, ◌≤◌, ◌<◌}
+use Prim.Native.Nat.{ℕ, suc, ◌+◌, ◌-◌, ◌<◌}
 use native.Mathlib.Omega.{arith}
-use native.Mathlib.Numerals.{add-one}
-use lib.Dec.{ltb, eqb}
-use lib.ListN.{length, drop, length-drop}
-use lib.Seq.{drop-cons}
+use lib.Dec.{ltb}
+use lib.ListN.{length}
 use borrow.Author.Tests.{eq-eqb, ne_eqb}
-use Rattle.scope.specs.Numbers.{first_by, bad_count}
-use Rattle.scope.specs.Limits.{most_windows}
-use Rattle.scope.specs.Windows.{Board, Window, window, window_at, gives, covers, window_fits, window_legal, bad_window}
-use Rattle.scope.specs.Answers.{Answer.given, Answer.refused, fault_if, fault_at, unless, list_fault, window_fault, window_answer}
+use Rattle.scope.specs.Numbers.{first_by}
+use Rattle.scope.specs.Windows.{Board, Window, window_at, gives, covers, window_fits, window_legal, bad_window}
+use Rattle.scope.specs.Answers.{Answer.given, Answer.refused, fault_at, unless, window_fault, window_answer}
+use Rattle.std.specs.List.{range_with_len, list_any}
+use Rattle.std.specs.Result.{is_ok}
+use Rattle.std.specs.declared.result.Result.{Result}
+use Rattle.std.specs.declared.result.Result.TheVariants.{Ok, Err}
+use Rattle.tables.specs.declared.answer.Refusal.{Refusal}
+use Rattle.tables.specs.declared.window.Window as window_record
+use Rattle.tables.specs.Told.{window_of, told_window}
 use Rattle.tables.proofs.FaultLaws.{keeps, breaks}
-
--- the list: how its numbers are counted, and whether there are any
-pub list_by : (k : ℕ) (ws : List ℕ) (t u : Bool) → bad_count k most_windows ws ≡ t → eqb (length ws) 0 ≡ u → fault_if (t || u) 1 0 ≡ list_fault k ws
-list_by k ws t u e e' = rw (e, e')
 
 module _ (b : Board) (ws : List Window) (i : ℕ) where
   pub misfit : window_fits b (window_at ws i) ≡ false → false ≡ window_legal b ws i
@@ -51,30 +51,26 @@ fitting b w v e = keeps (window_fits b w) w 3 0 v (e ∙ sym (window_alone_lem b
 pub unfitting : (b : Board) (w : Window) (n p : ℕ) → refused n p ≡ window_answer b w → window_fits b w ≡ false
 unfitting b w n p e = breaks (window_fits b w) w 3 0 n p (e ∙ sym (window_alone_lem b w (window_fits b w) refl))
 
--- ---- from window i on
+-- what is made of it tells whether it fits
+made_fits : (b : Board) (w : Window) (r : Result window_record.Window Refusal) → told_window r ≡ window_answer b w → is_ok r ≡ window_fits b w
+made_fits b w (Ok v) e = sym (fitting b w (window_of v) e).0
+made_fits b w (Err r) e = sym (unfitting b w _ _ e)
 
--- window i, or one after it, gives tick k of a frame
-abbrev pub covers_from : ℕ → List Window → ℕ → ℕ → Bool
-covers_from q ws i k = covers q (drop i ws) k
+-- a window of the list that was read
+pub read_fits : (b : Board) {w v : Window} (r : Result window_record.Window Refusal) {t u : Bool} → told_window r ≡ window_answer b w → w ≡ v → t ≡ is_ok r → t ≡ u → window_fits b v ≡ u
+read_fits b {w} {v} r made read ok is = ap (window_fits b) (sym read) ∙ sym (made_fits b w r made) ∙ sym ok ∙ is
 
-module _ (q : ℕ) (ws : List Window) (i k : ℕ) where
-  -- window i, and then the windows after it
-  covers_step : i < length ws → covers_from q ws i k ≡ (gives q (window_at ws i) k || covers_from q ws (i + 1) k)
+-- ---- the windows one after the other
+
+module _ (q k : ℕ) where
+  -- read from index a on
+  covers_from : (ws : List Window) (a : ℕ) (read : ℕ → Bool) → ((i : ℕ) → i < length ws → read (a + i) ≡ gives q (window_at ws i) k) → list_any read (range_with_len a (length ws)) ≡ covers q ws k
   unfolding covers
-  covers_step h = rw (add-one i, drop-cons ws i (window 0 0) h)
+  covers_from [] a read r = refl
+  covers_from (w ∷ ws) a read r =
+      let e : a + 0 ≡ a = omega arith in
+      ap₂ ◌||◌ (ap read (sym e) ∙ r 0 (omega arith)) (covers_from ws (a + 1) read (λ i h. let f : a + 1 + i ≡ a + suc i = omega arith in ap read f ∙ r (suc i) (omega arith)))
 
-  -- a window w, read at i, gives the tick or does not
-  pub covers_hit : {w : Window} → i < length ws → w ≡ window_at ws i → gives q w k ≡ true → covers_from q ws i k ≡ true
-  covers_hit h r e = covers_step h ∙ rw (← r, e)
-
-  pub covers_skip : {w : Window} → i < length ws → w ≡ window_at ws i → gives q w k ≡ false → covers_from q ws i k ≡ covers_from q ws (i + 1) k
-  covers_skip h r e = covers_step h ∙ rw (← r, e)
-
-  -- past the last window
-  pub covers_end : length ws ≤ i → covers_from q ws i k ≡ false
-  unfolding covers
-  covers_end h = none (drop i ws) (length-drop i ws ∙ omega arith)
-    where
-      none : (rest : List Window) → length rest ≡ 0 → covers q rest k ≡ false
-      none [] e = refl
-      none (w ∷ rest) e = absurd (omega arith)
+-- all of them
+pub covers_read : (q : ℕ) (ws : List Window) (k : ℕ) → list_any (λ i. gives q (window_at ws i) k) (range_with_len 0 (length ws)) ≡ covers q ws k
+covers_read q ws k = covers_from q k ws 0 (λ i. gives q (window_at ws i) k) (λ i h. let e : 0 + i ≡ i = omega arith in ap (λ (i : ℕ). gives q (window_at ws i) k) e)

@@ -8,13 +8,13 @@ use Rattle.scope.specs.Answers.{Answer, Answer.refused}
 use Rattle.scope.specs.Shared.{asked_for, kept}
 use Rattle.theory.specs.Refused.{asked_kept}
 use Rattle.tables.specs.declared.answer.Refusal.{Refusal}
-use Rattle.tables.specs.declared.answer.Amount.{Amount}
-use Rattle.tables.specs.declared.answer.Amount.TheVariants.{Refused}
+use Rattle.std.specs.declared.result.Result.{Result}
+use Rattle.std.specs.declared.result.Result.TheVariants.{Err}
 use Rattle.tables.specs.Told.{number, place, no, told_amount}
 
-pub amount_refused : {B : Type 0} (b : Board) (ws : List ℕ) (entry : List ℕ → Answer ℕ) (leaves : List ℕ → List B) (out left : List B) (r : Amount) →
+pub amount_refused : {B : Type 0} (b : Board) (ws : List ℕ) (entry : List ℕ → Answer ℕ) (leaves : List ℕ → List B) (out left : List B) (r : Result ℕ Refusal) →
     ((n p : ℕ) (windows : List ℕ) → entry windows ≡ refused n p → leaves windows ≡ out) →
-    told_amount r ≡ asked_for teams b ws refused entry → left ≡ asked_for teams b ws (kept out) leaves → (e : Refusal) → r ≡ Refused e → left ≡ out
+    told_amount r ≡ asked_for teams b ws refused entry → left ≡ asked_for teams b ws (kept out) leaves → (e : Refusal) → r ≡ Err e → left ≡ out
 amount_refused b ws entry leaves out left r keeps told wrote e is =
     wrote ∙ asked_kept (number e) (place e) teams b ws entry leaves out (keeps (number e) (place e)) (sym told ∙ ap told_amount is)
 

@@ -1,5 +1,5 @@
 -- What the code's types say, in the words of `scope`: the documents' number, place and values for every case of every answer
-use Rattle.std.specs.Prelude.{ℕ, Bool, ℤ}
+use Rattle.std.specs.Prelude.{ℕ, Bool, ℤ, List, ◌++◌, codes, decimal}
 use Rattle.scope.specs.Windows as Windows
 use Rattle.scope.specs.Tasks as Tasks
 use Rattle.scope.specs.Verdict as Verdicts
@@ -7,24 +7,19 @@ use Rattle.scope.specs.Bound as Bounds
 use Rattle.scope.specs.Summary as Summaries
 use Rattle.scope.specs.Answers as Answers
 use Rattle.scope.specs.Answers.{Fault, Fault.fine, Fault.fault, Answer, Answer.given, Answer.refused}
+use Rattle.std.specs.declared.option.Option.{Option}
+use Rattle.std.specs.declared.option.Option.TheVariants.{Some, None}
+use Rattle.std.specs.declared.result.Result.{Result}
+use Rattle.std.specs.declared.result.Result.TheVariants.{Ok, Err}
 use Rattle.tables.specs.declared.answer.Refusal.{Refusal}
 use Rattle.tables.specs.declared.answer.Refusal.TheVariants.{WindowList, Frame, Window, TaskList, Task, Cycle, Asked, Room, Bytes, JobList, Job, Sliver, Loss, Summary}
-use Rattle.tables.specs.declared.answer.Checked.{Checked}
-use Rattle.tables.specs.declared.answer.Checked.TheVariants.{Fine, Bad}
-use Rattle.tables.specs.declared.answer.Supplied as supplied
-use Rattle.tables.specs.declared.answer.Amount as amount
 use Rattle.tables.specs.declared.answer.Delay as delay
-use Rattle.tables.specs.declared.answer.Margin as margin
 use Rattle.tables.specs.declared.answer.Verdict as verdict
-use Rattle.tables.specs.declared.answer.Bound as bound
 use Rattle.tables.specs.declared.answer.Edited as edited
 use Rattle.tables.specs.declared.board.Board as board
-use Rattle.tables.specs.declared.board.MadeBoard as madeBoard
 use Rattle.tables.specs.declared.window.Window as window
-use Rattle.tables.specs.declared.window.MadeWindow as madeWindow
 use Rattle.tables.specs.declared.task.Task as task
-use Rattle.tables.specs.declared.task.MadeTask as madeTask
-use Rattle.tables.specs.declared.length.MadeLength as madeLength
+use Rattle.tables.specs.declared.length.Length as lengths
 
 -- ---- values
 
@@ -71,59 +66,69 @@ place (Sliver i) = i
 place Loss = 0
 place Summary = 0
 
-abbrev pub fault_of : Checked → Fault
-fault_of Fine = fine
-fault_of (Bad r) = fault (number r) (place r)
+-- the text that a refusal is printed as
+abbrev pub refusal_text : Refusal → List ℕ
+refusal_text r = codes "REFUSED " ++ decimal (number r) ++ codes " at " ++ decimal (place r)
+
+abbrev pub fault_of : Result (Unit {0}) Refusal → Fault
+fault_of (Ok u) = fine
+fault_of (Err r) = fault (number r) (place r)
 
 abbrev pub no : {A : Type 0} → Refusal → Answer A
 no r = refused (number r) (place r)
 
--- ---- answers
+-- ---- answers: the value in the words of `scope`, or the refusal's number and place
 
-abbrev pub told_supplied : supplied.Supplied → Answer Bool
-told_supplied (supplied.TheVariants.Is b) = given b
-told_supplied (supplied.TheVariants.Refused r) = no r
+abbrev pub told : {A B : Type 0} → (A → B) → Result A Refusal → Answer B
+told says (Ok a) = given (says a)
+told says (Err r) = no r
 
-abbrev pub told_amount : amount.Amount → Answer ℕ
-told_amount (amount.TheVariants.Of n) = given n
-told_amount (amount.TheVariants.Refused r) = no r
+abbrev pub told_supplied : Result Bool Refusal → Answer Bool
+told_supplied = told (λ b. b)
 
-abbrev pub told_delay : delay.Delay → Answer Answers.Delay
-told_delay (delay.TheVariants.Of d a) = given (record { delay = d; A = a })
-told_delay (delay.TheVariants.Refused r) = no r
+abbrev pub told_amount : Result ℕ Refusal → Answer ℕ
+told_amount = told (λ n. n)
 
-abbrev pub told_margin : margin.Margin → Answer ℤ
-told_margin (margin.TheVariants.Of z) = given z
-told_margin (margin.TheVariants.Refused r) = no r
+abbrev pub delay_of : delay.Delay → Answers.Delay
+delay_of d = record { delay = d.delay; A = d.per_frame }
 
-abbrev pub told_verdict : verdict.Verdict → Answer Verdicts.Verdict
-told_verdict (verdict.TheVariants.Meets h) = given (Verdicts.meets h)
-told_verdict (verdict.TheVariants.Miss t s d p) = given (Verdicts.miss t s d p)
-told_verdict (verdict.TheVariants.Refused r) = no r
+abbrev pub told_delay : Result delay.Delay Refusal → Answer Answers.Delay
+told_delay = told delay_of
 
-abbrev pub told_bound : bound.Bound → Answer Bounds.Bound
-told_bound (bound.TheVariants.Of t) = given (Bounds.bound t)
-told_bound bound.TheVariants.NoBound = given Bounds.no_bound
-told_bound (bound.TheVariants.Refused r) = no r
+abbrev pub told_margin : Result ℤ Refusal → Answer ℤ
+told_margin = told (λ z. z)
 
-abbrev pub told_edited : edited.Edited → Answer Summaries.Edited
-told_edited (edited.TheVariants.Is w n) = given (record { windows = w; numbers = n })
-told_edited (edited.TheVariants.Refused r) = no r
+abbrev pub verdict_of : verdict.Verdict → Verdicts.Verdict
+verdict_of (verdict.TheVariants.Meets h) = Verdicts.meets h
+verdict_of (verdict.TheVariants.Miss t s d p) = Verdicts.miss t s d p
+
+abbrev pub told_verdict : Result verdict.Verdict Refusal → Answer Verdicts.Verdict
+told_verdict = told verdict_of
+
+-- no bound is none
+abbrev pub bound_of : Option ℕ → Bounds.Bound
+bound_of (Some t) = Bounds.bound t
+bound_of None = Bounds.no_bound
+
+abbrev pub told_bound : Result (Option ℕ) Refusal → Answer Bounds.Bound
+told_bound = told bound_of
+
+abbrev pub edited_of : edited.Edited → Summaries.Edited
+edited_of e = record { windows = e.windows; numbers = e.numbers }
+
+abbrev pub told_edited : Result edited.Edited Refusal → Answer Summaries.Edited
+told_edited = told edited_of
 
 -- ---- constructors' answers
 
-abbrev pub told_board : madeBoard.MadeBoard → Answer Windows.Board
-told_board (madeBoard.TheVariants.Is b) = given (board_of b)
-told_board (madeBoard.TheVariants.Refused r) = no r
+abbrev pub told_board : Result board.Board Refusal → Answer Windows.Board
+told_board = told board_of
 
-abbrev pub told_window : madeWindow.MadeWindow → Answer Windows.Window
-told_window (madeWindow.TheVariants.Is w) = given (window_of w)
-told_window (madeWindow.TheVariants.Refused r) = no r
+abbrev pub told_window : Result window.Window Refusal → Answer Windows.Window
+told_window = told window_of
 
-abbrev pub told_task : madeTask.MadeTask → Answer Tasks.Task
-told_task (madeTask.TheVariants.Is x) = given (task_of x)
-told_task (madeTask.TheVariants.Refused r) = no r
+abbrev pub told_task : Result task.Task Refusal → Answer Tasks.Task
+told_task = told task_of
 
-abbrev pub told_length : madeLength.MadeLength → Answer ℕ
-told_length (madeLength.TheVariants.Is t) = given t.ticks
-told_length (madeLength.TheVariants.Refused r) = no r
+abbrev pub told_length : Result lengths.Length Refusal → Answer ℕ
+told_length = told (λ (t : lengths.Length). t.ticks)

@@ -1,10 +1,12 @@
 // What the entries answer. specs/Told.antt gives the documents' number, place and values for every case, and the promises go through it.
-ghost use Rattle.std.specs.Prelude.{◌≡◌, nat_abs};
-ghost use Rattle.scope.specs.Answers.{◌or_else◌};
-ghost use Rattle.tables.specs.Told.{number as number_of, place as place_of, no, fault_of, told_amount};
+ghost use Rattle.std.specs.Prelude.{◌≡◌, nat_abs, Some};
+ghost use Rattle.tables.specs.Told.{number as number_of, place as place_of, refusal_text};
+
+use std::error::Error;
+use std::fmt;
 
 // Why an input is refused.
-#[derive(Clone, Copy)]
+#[derive(Clone, Copy, Debug, PartialEq, Eq)]
 pub enum Refusal {
     WindowList,
     Frame,
@@ -50,99 +52,36 @@ impl Refusal {
         ensures { result ≡ place_of self }
     {
         match self {
-            Refusal::WindowList => 0,
-            Refusal::Frame => 0,
-            Refusal::Window(i) => i,
-            Refusal::TaskList => 0,
-            Refusal::Task(i) => i,
-            Refusal::Cycle => 0,
-            Refusal::Asked => 0,
-            Refusal::Room(n) => n,
-            Refusal::Bytes(o) => o,
-            Refusal::JobList => 0,
-            Refusal::Job(i) => i,
-            Refusal::Sliver(i) => i,
-            Refusal::Loss => 0,
-            Refusal::Summary => 0,
+            Refusal::Window(at)
+            | Refusal::Task(at)
+            | Refusal::Room(at)
+            | Refusal::Bytes(at)
+            | Refusal::Job(at)
+            | Refusal::Sliver(at) => at,
+            _ => 0,
         }
     }
 }
 
-// Whether a check passes.
-#[derive(Clone, Copy)]
-pub enum Checked {
-    Fine,
-    Bad(Refusal),
-}
+// As every printed line has it.
+impl fmt::Display for Refusal {
+    ghost output = { λ r. Some (refusal_text r) };
 
-impl Checked {
-    // The first fault of two: checks are made in the order in which they are written.
-    pub fn or_else(self, later: Checked) -> Checked
-        ensures { fault_of result ≡ (fault_of self or_else fault_of later) }
-    {
-        match self {
-            Checked::Fine => later,
-            Checked::Bad(r) => Checked::Bad(r),
-        }
+    fn fmt<W: fmt::Write>(&self, f: &mut fmt::Formatter<W>) -> fmt::Result {
+        write!(f, "REFUSED {} at {}", self.number(), self.place())
     }
 }
 
-// Whether a tick is supplied.
-#[derive(Clone, Copy)]
-pub enum Supplied {
-    Is(bool),
-    Refused(Refusal),
-}
-
-// A least supply, an outage, a demand, a number of windows, of bytes or of numbers.
-#[derive(Clone, Copy)]
-pub enum Amount {
-    Of(u64),
-    Refused(Refusal),
-}
-
-// A refusal leaves the lent memory as it was.
-pub fn refuse(r: Refusal, out: &mut [u32]) -> Amount
-    ensures answer { told_amount result ≡ no r }
-    ensures buffer { out.new ≡ out.old }
-{
-    Amount::Refused(r)
-}
-
-// The same of memory for signed numbers.
-pub fn refuse_signed(why: Refusal, out: &mut [i64]) -> Amount
-    ensures answer { told_amount result ≡ no why }
-    ensures buffer { out.new ≡ out.old }
-{
-    Amount::Refused(why)
-}
+impl Error for Refusal {}
 
 // The delay times A, with A beside it.
-#[derive(Clone, Copy)]
-pub enum Delay {
-    Of { delay: u64, per_frame: u32 },
-    Refused(Refusal),
+#[derive(Clone, Copy, Debug, PartialEq, Eq)]
+pub struct Delay {
+    pub delay: u64,
+    pub per_frame: u32,
 }
 
-#[derive(Clone, Copy)]
-pub enum Margin {
-    Of(i64),
-    Refused(Refusal),
-}
-
-// A signed number without its sign. -(m + 1) can be had of every negative m.
-pub fn magnitude(m: i64) -> u64
-    ensures { result ≡ nat_abs m }
-{
-    if m < 0 {
-        let below = 0 - (m + 1);
-        below as u64 + 1
-    } else {
-        m as u64
-    }
-}
-
-#[derive(Clone, Copy)]
+#[derive(Clone, Copy, Debug, PartialEq, Eq)]
 pub enum Verdict {
     Meets {
         cycle: u32,
@@ -153,19 +92,18 @@ pub enum Verdict {
         demand: u64,
         supply: u32,
     },
-    Refused(Refusal),
-}
-
-#[derive(Clone, Copy)]
-pub enum Bound {
-    Of(u32),
-    NoBound,
-    Refused(Refusal),
 }
 
 // What an edit leaves: how many windows, and how many numbers their summary has.
-#[derive(Clone, Copy)]
-pub enum Edited {
-    Is { windows: u64, numbers: u64 },
-    Refused(Refusal),
+#[derive(Clone, Copy, Debug, PartialEq, Eq)]
+pub struct Edited {
+    pub windows: u64,
+    pub numbers: u64,
+}
+
+// A signed number without its sign.
+pub fn magnitude(m: i64) -> u64
+    ensures { result ≡ nat_abs m }
+{
+    m.unsigned_abs()
 }

@@ -47,6 +47,6 @@ impl Cursor {
         ensures { result ≡ gives 0 (window_at (windows_of windows.now) self.window) self.tick }
     {
         let window = window_at(windows, self.window);
-        window.holds(self.tick as u64)
+        window.holds(u64::from(self.tick))
     }
 }

@@ -1,17 +1,25 @@
-use mathlib.Core.Path.{sym, ap, ◌∙◌}
+use mathlib.Core.Path.{sym, ◌∙◌}
 use Rattle.scope.specs.Summary.{index_fault}
-use Rattle.edits.specs.declared.edit.Edit.{Edit}
-use Rattle.edits.specs.Told.{edit_of}
+use Rattle.tables.proofs.FaultLaws.{if_true, if_false}
 use Rattle.edits.proofs.edit.check_index.Goals as goal
+use Rattle.edits.proofs.edit.check_index.Goals.{in-Move, in-Add, in-Remove}
 
-pub returns-in-Move : goal.returns-in-Move
+pub returns-then-absent : goal.returns-then-absent
 unfolding index_fault
-returns-in-Move c = c.check_present.ensures ∙ sym (ap (λ (e : Edit). index_fault (edit_of e) c.args.count) c.in-Move.is)
+returns-then-absent c =
+    let e = c.if-absent.true in
+    elim c.match-edit.branch [
+      | in-Move w ↦ rw w.in-Move.is (if_true _ 7 0 (sym w.absent-is ∙ e))
+      | in-Add w ↦ rw w.in-Add.is (if_true _ 7 0 (sym w.absent-is ∙ e))
+      | in-Remove w ↦ rw w.in-Remove.is (if_true _ 7 0 (sym w.absent-is ∙ e))
+    ]
 
-pub returns-in-Add : goal.returns-in-Add
+pub returns : goal.returns
 unfolding index_fault
-returns-in-Add c = c.check_present-in-Add.ensures ∙ sym (ap (λ (e : Edit). index_fault (edit_of e) c.args.count) c.in-Add.is)
-
-pub returns-in-Remove : goal.returns-in-Remove
-unfolding index_fault
-returns-in-Remove c = c.check_present-in-Remove.ensures ∙ sym (ap (λ (e : Edit). index_fault (edit_of e) c.args.count) c.in-Remove.is)
+returns c =
+    let e = c.if-absent.false in
+    elim c.match-edit.branch [
+      | in-Move w ↦ rw w.in-Move.is (if_false _ 7 0 (sym w.absent-is ∙ e))
+      | in-Add w ↦ rw w.in-Add.is (if_false _ 7 0 (sym w.absent-is ∙ e))
+      | in-Remove w ↦ rw w.in-Remove.is (if_false _ 7 0 (sym w.absent-is ∙ e))
+    ]

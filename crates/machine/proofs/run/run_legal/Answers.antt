@@ -1,41 +1,33 @@
-use mathlib.Core.Path.{refl, subst}
-use mathlib.Core.Bool.{Bool}
-use Prim.Native.Nat.{ℕ}
+use mathlib.Core.Path.{refl}
+use Prim.Native.Nat.{◌/◌, ◌≤◌}
 use native.Mathlib.Omega.{arith}
-use lib.ListN.{replicate}
-use Rattle.scope.specs.Windows.{framed, supplied_by}
-use Rattle.scope.specs.Tasks.{tasks_of}
-use Rattle.scope.specs.Jobs.{job, jobs_of}
-use Rattle.scope.specs.Run.{met, missed}
+use lib.ListN.{length}
+use Rattle.std.proofs.Common.{rules}
+use lib.Seq.{length-take-le}
+use Rattle.scope.specs.Jobs.{job}
 use Rattle.theory.specs.Lists.{pieces_length}
-use Rattle.machine.specs.Places.{all_places}
-use Rattle.machine.specs.Rule.{rule}
-use Rattle.machine.proofs.Running.{Ended, begins_run, run_ends}
+use Rattle.machine.proofs.Said.{begins_course, course_ends}
 use Rattle.machine.proofs.run.run_legal.Goals as goal
 
-pub clear-requires : goal.clear-requires
-clear-requires g c = omega (arith, c.requires.1.1.3, pieces_length _ 3 job c.args.jobs.now)
+pub slice_bounds-fill-end : goal.slice_bounds-fill-end
+slice_bounds-fill-end g c = omega (arith, c.requires.1, pieces_length _ 3 job c.args.course.jobs.now)
+
+pub slice_bounds-fill-end-2 : goal.slice_bounds-fill-end-2
+slice_bounds-fill-end-2 g c =
+    let room : length c.args.course.jobs.now / 3 ≤ length c.args.counts.now = omega (arith, c.requires.1, pieces_length _ 3 job c.args.course.jobs.now) in
+    search (rules, length-take-le)
 
 pub advance-s-requires : goal.advance-s-requires
-advance-s-requires g c = (c.requires.1.0, begins_run _ c.args.jobs.now _ _ _ _ c.requires.1.1 c.clear.ensures refl)
+advance-s-requires g c = begins_course c.args.course _ _ c.requires.1 (c.fill.ensures.after (λ y e. e))
 
--- what the run ends with under the machine's rule holds under the ghost rule, which is the same
-pub returns-then-job-lt-NO_JOB : goal.returns-then-job-lt-NO_JOB
-returns-then-job-lt-NO_JOB g c =
-    let a = c.args in
-    let σ = supplied_by (framed a.frame) a.windows.now in
-    let r = subst (λ (before : ℕ → ℕ → Bool). Ended σ before (tasks_of a.tasks.now) a.jobs.now a.n a.counts.now a.counts.now a.counts.now
-    c.advance-s.new.counts (missed c.advance-s.result.instant c.late-job.result) c.advance-s.result.backlog) c.requires.0
-    ((run_ends σ (rule (tasks_of a.tasks.now) (jobs_of a.jobs.now)) _ a.jobs.now _ _ _ (replicate all_places 0)
-    c.requires.1.1 c.clear.ensures refl _ _ _ c.advance-s.ensures _ c.late-job.ensures).1 c.if-job-lt-NO_JOB.true) in
+pub returns-in-None : goal.returns-in-None
+returns-in-None g c =
+    let e = course_ends c.args.course _ _ c.requires.1 (c.fill.ensures.after (λ y e. e)) _ c.requires.0 _ _ _ c.advance-s.ensures _ c.in-None.ensures in
+    let r = e.0 refl in
     record { answer = r.0; buffer = r.1 }
 
-pub returns : goal.returns
-returns g c =
-    let a = c.args in
-    let σ = supplied_by (framed a.frame) a.windows.now in
-    let r = subst (λ (before : ℕ → ℕ → Bool). Ended σ before (tasks_of a.tasks.now) a.jobs.now a.n a.counts.now a.counts.now a.counts.now
-    c.advance-s.new.counts met c.advance-s.result.backlog) c.requires.0
-    ((run_ends σ (rule (tasks_of a.tasks.now) (jobs_of a.jobs.now)) _ a.jobs.now _ _ _ (replicate all_places 0)
-    c.requires.1.1 c.clear.ensures refl _ _ _ c.advance-s.ensures _ c.late-job.ensures).0 c.if-job-lt-NO_JOB.false) in
+pub returns-in-Some : goal.returns-in-Some
+returns-in-Some g c =
+    let e = course_ends c.args.course _ _ c.requires.1 (c.fill.ensures.after (λ y e. e)) _ c.requires.0 _ _ _ c.advance-s.ensures _ c.in-Some.ensures in
+    let r = e.1 _ refl in
     record { answer = r.0; buffer = r.1 }

@@ -1,5 +1,5 @@
 use mathlib.Core.Path.{◌≡◌}
-use Prim.Native.Nat.{◌+◌, ◌-◌, ◌^◌, ◌≤◌, ◌<◌}
+use Prim.Native.Nat.{◌+◌, ◌^◌, ◌≤◌, ◌<◌}
 use lib.ListN.{length, drop}
 use Rattle.scope.specs.Plan.{groups}
 use Rattle.plan.proofs.NumberLaws.{after}
@@ -7,8 +7,5 @@ use Rattle.plan.proofs.number.read_number.Given as goal
 
 abbrev pub invariant-loop-size : goal.invariant-loop-size
 invariant-loop-size l =
-    (l.size ≤ 5) × (l.at + l.size ≤ length l.bytes) × (l.weight ≡ 128 ^ l.size) × (l.value < l.weight)
+    (l.at + l.size ≤ length l.bytes) × (l.weight ≡ 128 ^ l.size) × (l.value < l.weight)
     × (groups (drop l.at l.bytes) ≡ after l.value l.size (groups (drop (l.at + l.size) l.bytes)))
-
-abbrev pub decreases-loop-size : goal.decreases-loop-size
-decreases-loop-size l = 5 - l.size

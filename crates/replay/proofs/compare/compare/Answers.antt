@@ -1,31 +1,23 @@
-use Rattle.replay.specs.Compared.{is_difference}
-use Rattle.replay.proofs.CompareLaws.{comparing_first, comparing_found, comparing_next, comparing_nearer, comparing_end}
-use Rattle.std.proofs.Common.{sym, ap, ◌∙◌}
+use Rattle.replay.proofs.CompareLaws.{comparing_first, comparing_found, comparing_next, comparing_pass, comparing_end}
+use Rattle.std.proofs.Common.{◌∙◌}
 use Rattle.replay.proofs.compare.compare.Goals as goal
 
-pub loop-r-init : goal.loop-r-init
-loop-r-init c = rw c.start-r.ensures (comparing_first _ _ _ _ c.requires.0)
+pub loop-record-init : goal.loop-record-init
+loop-record-init c = rw c.into_iter-record-iterator.ensures.into_iter_gives (comparing_first _ _ _ _ _ c.records-record-items.ensures)
 
-pub returns-then-differs : goal.returns-then-differs
-returns-then-differs c =
-    c.hold-held.ensures ∙ rw c.next-r.ensures (comparing_found _ _ _ _ _ _
-    c.loop-r.invariant c.loop-r-test.true (rw (←
-    c.next-r.ensures) (ap is_difference (sym c.hold-held.ensures) ∙ sym c.differs.ensures ∙
-    c.if-differs.true)))
+pub returns-in-Some-between : goal.returns-in-Some-between
+returns-in-Some-between c =
+    comparing_found _ _ _ _ _ _ _ _ c.loop-record.invariant c.in-Some.ensures.steps _ c.in-Completion.is _
+    (rw c.completion_after-machine.ensures at c.in-Some-between.ensures)
 
-pub loop-r-smaller : goal.loop-r-smaller
-loop-r-smaller c =
-    rw c.next-r.ensures (comparing_nearer _ _ _ _ _ _
-    c.loop-r.invariant c.loop-r-test.true)
+pub loop-record-preserved-in-Completion : goal.loop-record-preserved-in-Completion
+loop-record-preserved-in-Completion c =
+    comparing_next _ _ _ _ _ _ _ _ c.loop-record.invariant c.in-Some.ensures.steps _ c.in-Completion.is
+    (rw c.completion_after-machine.ensures at c.in_default-between.ensures)
 
-pub loop-r-preserved : goal.loop-r-preserved
-loop-r-preserved c =
-    rw (c.held_to-after.ensures, c.next-r.ensures) (comparing_next _ _ _ _ _ _
-    c.loop-r.invariant c.loop-r-test.true (rw (←
-    c.next-r.ensures) (ap is_difference (sym c.hold-held.ensures) ∙ sym
-    c.differs.ensures ∙ c.if-differs.false)))
+pub loop-record-preserved : goal.loop-record-preserved
+loop-record-preserved c = comparing_pass _ _ _ _ _ _ _ _ c.loop-record.invariant c.in-Some.ensures.steps _ _ c.in_default.is
 
 pub returns : goal.returns
 returns c =
-    c.at_end.ensures ∙ rw c.completion_after.ensures (comparing_end _ _ _ _ _ _ c.loop-r.invariant
-    c.loop-r-test.false)
+    c.between-2.ensures ∙ rw c.completion_after.ensures (comparing_end _ _ _ _ _ _ c.loop-record.invariant c.in-None.ensures.steps.0)

@@ -1,9 +1,9 @@
+use Rattle.replay.specs.Reading.{record_before}
+use Rattle.replay.specs.Rebuilt.{records_of}
+use Rattle.replay.specs.Records.{records_left}
 use Rattle.replay.proofs.OrderLaws.{Passing}
-use Rattle.std.proofs.Common.{◌-◌, length}
 use Rattle.replay.proofs.order.first_bad.Given as goal
 
-abbrev pub invariant-loop-r : goal.invariant-loop-r
-invariant-loop-r l = Passing l.bytes l.illegal l.r l.i l.j
-
-abbrev pub decreases-loop-r : goal.decreases-loop-r
-decreases-loop-r l = length l.bytes - l.r.at
+abbrev pub invariant-loop-i : goal.invariant-loop-i
+invariant-loop-i l =
+    Passing (records_of l.trace.bytes.now) l.illegal (records_left l.i-iterator.iter) (record_before l.previous) l.i-iterator.count l.j

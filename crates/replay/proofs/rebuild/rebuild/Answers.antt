@@ -1,23 +1,15 @@
-use Rattle.replay.proofs.RebuildLaws.{rebuilding_first, rebuilding_room, rebuilding_next, rebuilding_nearer, rebuilding_end}
+use Rattle.replay.proofs.RebuildLaws.{rebuilding_room, rebuilding_put, rebuilding_pass, rebuilding_end}
 use Rattle.replay.proofs.rebuild.rebuild.Goals as goal
 
-pub loop-r-init : goal.loop-r-init
-loop-r-init c = rw c.start-r.ensures (rebuilding_first _ _ c.requires.0 c.requires.1)
+pub put_job-requires : goal.put_job-requires
+put_job-requires c = rebuilding_room _ _ _ _ _ _ _ c.loop-record.invariant c.in-Some.ensures.steps _ _ c.in-Release.is
 
-pub put-requires : goal.put-requires
-put-requires c =
-    rw c.next-r.ensures (rebuilding_room _ _ _ _ _ c.loop-r.invariant c.loop-r-test.true)
+pub loop-record-preserved-in-Release : goal.loop-record-preserved-in-Release
+loop-record-preserved-in-Release c =
+    rw c.put_job.ensures (rebuilding_put _ _ _ _ _ _ _ c.loop-record.invariant c.in-Some.ensures.steps _ _ c.in-Release.is)
 
-pub loop-r-smaller : goal.loop-r-smaller
-loop-r-smaller c =
-    rw c.next-r.ensures (rebuilding_nearer _ _ _ _ _
-    c.loop-r.invariant c.loop-r-test.true)
-
-pub loop-r-preserved : goal.loop-r-preserved
-loop-r-preserved c =
-    rw (c.counted-j.ensures, c.put.ensures, c.next-r.ensures) (rebuilding_next _ _ _
-    _ _ c.loop-r.invariant
-    c.loop-r-test.true)
+pub loop-record-preserved : goal.loop-record-preserved
+loop-record-preserved c = rebuilding_pass _ _ _ _ _ _ _ c.loop-record.invariant c.in-Some.ensures.steps _ c.in_default.is
 
 pub returns : goal.returns
-returns c = rebuilding_end _ _ _ _ _ c.loop-r.invariant c.loop-r-test.false
+returns c = rebuilding_end _ _ _ _ _ c.loop-record.invariant c.in-None.ensures.steps.0

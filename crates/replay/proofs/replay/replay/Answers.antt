@@ -1,33 +1,33 @@
 use Rattle.replay.proofs.ReplayLaws.{damaged_refused, extends_is, extent_refused, fitting}
-use Rattle.replay.specs.Surveyed.{told_extent}
-use Rattle.tables.specs.Told.{fault_of}
-use Rattle.std.proofs.Common.{sym, ap, ◌∙◌}
+use Rattle.tables.specs.Told.{board_of}
+use Rattle.tables.proofs.FaultLaws.{stopped, passed}
+use Rattle.std.proofs.Common.{sym, ◌∙◌, rules}
 use Rattle.replay.proofs.replay.replay.Goals as goal
+
+pub returns-in_err-extent : goal.returns-in_err-extent
+returns-in_err-extent c = search (rules, damaged_refused (board_of c.args.board) c.args.windows.now c.args.tasks.now _ _ c.in_err-extent.ensures)
+
+pub returns-in_err-check_group : goal.returns-in_err-check_group
+returns-in_err-check_group c =
+    search (rules, extent_refused _ _ _ _ _ _ (extends_is _ _ _ _ _ _ c.in_ok-extent.ensures) _ _ (stopped _ c.in_err-check_group.ensures))
+
+pub returns-in_err-check : goal.returns-in_err-check
+returns-in_err-check c =
+    search (
+      rules,
+      extent_refused _ _ _ _ _ _ (extends_is _ _ _ _ _ _ c.in_ok-extent.ensures) _ _
+          (passed c.in_ok-check_group.ensures c.in_err-check.ensures),
+    )
+
+pub invariant_of-trace : goal.invariant_of-trace
+invariant_of-trace c = record {
+  fits = (fitting _ _ _ _ _ _ (extends_is _ _ _ _ _ _ c.in_ok-extent.ensures) (passed c.in_ok-check_group.ensures c.in_ok-check.ensures)).0;
+}
 
 pub replay_fitting-requires : goal.replay_fitting-requires
 replay_fitting-requires c =
-    fitting _ _ _ _ _ _ (extends_is _ _ _ _ _ _ (sym (ap told_extent c.in-Is.is) ∙
-    c.survey.ensures)) (sym (ap fault_of c.in-Fine.is) ∙
-    c.or_else.ensures ∙ rw (
-      c.check_group-group.ensures,
-      c.check_extent.ensures,
-    ))
+    let f = fitting _ _ _ _ _ _ (extends_is _ _ _ _ _ _ c.in_ok-extent.ensures) (passed c.in_ok-check_group.ensures c.in_ok-check.ensures) in
+    (f.1, f.2, f.3, f.4)
 
-pub returns-in-Bad : goal.returns-in-Bad
-returns-in-Bad c = damaged_refused _ _ _ _ _ (sym (ap told_extent c.in-Bad.is) ∙ c.survey.ensures)
-
-pub returns-in-Bad-or_else : goal.returns-in-Bad-or_else
-returns-in-Bad-or_else c =
-    extent_refused _ _ _ _ _ _ (extends_is _ _ _ _ _ _ (sym (ap told_extent
-    c.in-Is.is) ∙
-    c.survey.ensures)) _ _ (sym (ap fault_of c.in-Bad-or_else.is) ∙
-    c.or_else.ensures ∙ rw (
-      c.check_group-group.ensures,
-      c.check_extent.ensures,
-    ))
-
-pub returns-in-Fine : goal.returns-in-Fine
-returns-in-Fine c =
-    c.replay_fitting.ensures ∙ sym (extends_is _ _ _ _ _ _ (sym (ap told_extent
-    c.in-Is.is) ∙
-    c.survey.ensures)).answer
+pub returns : goal.returns
+returns c = c.replay_fitting.ensures ∙ sym (extends_is _ _ _ _ _ _ c.in_ok-extent.ensures).answer

@@ -1,31 +1,23 @@
-use Rattle.replay.proofs.SurveyLaws.{going_first, going_next, going_less, survey_bad, survey_none, survey_some}
-use Rattle.std.proofs.Common.{arith, rules}
+use Rattle.replay.proofs.SurveyLaws.{going_first, going_damaged, going_next, going_early, going_less, going_end}
+use Rattle.std.proofs.Common.{rules}
 use Rattle.replay.proofs.survey.survey.Goals as goal
 
-pub loop-r-init : goal.loop-r-init
-loop-r-init c = rw c.start-r.ensures (going_first _)
+pub loop-reader-init : goal.loop-reader-init
+loop-reader-init c = rw c.new-reader.ensures (going_first _)
 
-pub counted-releases-requires : goal.counted-releases-requires
-counted-releases-requires c = omega (arith, c.loop-r.invariant.few)
+pub returns-in_err-record : goal.returns-in_err-record
+returns-in_err-record c = search (rules, going_damaged _ _ _ _ c.loop-reader.invariant c.loop-reader-test.true _ c.in_err-record.ensures)
 
-pub loop-r-smaller : goal.loop-r-smaller
-loop-r-smaller c = rw c.next-r.ensures (going_less _ _ _ c.loop-r.invariant c.loop-r-test.true)
+pub overflow_add-ticks : goal.overflow_add-ticks
+overflow_add-ticks c = search (rules, going_early _ _ _ _ c.loop-reader.invariant c.loop-reader-test.true _ _ _ c.in_ok-record.ensures)
 
-pub loop-r-preserved : goal.loop-r-preserved
-loop-r-preserved c =
-    rw (c.counted-releases.ensures, c.next-r.ensures) (going_next _ _ _ c.loop-r.invariant
-    c.loop-r-test.true)
+pub loop-reader-smaller : goal.loop-reader-smaller
+loop-reader-smaller c = going_less _ _ _ _ c.loop-reader.invariant c.loop-reader-test.true _ _ _ c.in_ok-record.ensures
 
-pub returns-then-r : goal.returns-then-r
-returns-then-r c = survey_bad _ _ _ c.loop-r.invariant c.loop-r-test.false c.if-r.true
-
-pub returns-then-bytes-eq0 : goal.returns-then-bytes-eq0
-returns-then-bytes-eq0 c = survey_none _ _ _ c.loop-r.invariant c.loop-r-test.false c.if-r.false c.if-bytes-eq0.true
-
-pub overflow_add-result : goal.overflow_add-result
-overflow_add-result c = let z = c.loop-r.invariant.instant in search rules
+pub loop-reader-preserved : goal.loop-reader-preserved
+loop-reader-preserved c =
+    rw (c.from-releases.ensures, c.is_release.ensures) (going_next _ _ _ _ c.loop-reader.invariant c.loop-reader-test.true _ _ _
+    c.in_ok-record.ensures)
 
 pub returns : goal.returns
-returns c =
-    survey_some _ _ _ c.loop-r.invariant c.loop-r-test.false c.if-r.false
-    c.if-bytes-eq0.false
+returns c = going_end _ _ _ _ c.loop-reader.invariant c.loop-reader-test.false

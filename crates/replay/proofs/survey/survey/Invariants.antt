@@ -2,8 +2,8 @@ use Rattle.replay.proofs.SurveyLaws.{Going}
 use Rattle.std.proofs.Common.{◌-◌, length}
 use Rattle.replay.proofs.survey.survey.Given as goal
 
-abbrev pub invariant-loop-r : goal.invariant-loop-r
-invariant-loop-r l = Going l.bytes l.r l.releases
+abbrev pub invariant-loop-reader : goal.invariant-loop-reader
+invariant-loop-reader l = Going l.bytes l.reader l.ticks l.releases
 
-abbrev pub decreases-loop-r : goal.decreases-loop-r
-decreases-loop-r l = length l.bytes - l.r.at
+abbrev pub decreases-loop-reader : goal.decreases-loop-reader
+decreases-loop-reader l = length l.bytes - l.reader.at

@@ -1,45 +1,29 @@
-use mathlib.Core.Path.{◌≡◌, refl, sym, ap, ◌∙◌}
+use mathlib.Core.Bool.{true, false}
+use mathlib.Core.Path.{◌≡◌}
+use Prim.Native.Nat.{ℕ, ◌/◌, ◌≤◌, ◌<◌}
+use lib.ListN.{length}
 use native.Mathlib.Omega.{arith}
-use borrow.Author.Count.{below_none, below_more}
+use Rattle.std.proofs.Common.{rules}
+use Rattle.std.specs.declared.option.Option.TheVariants.{Some, None}
+use Rattle.std.proofs.lemmas.Iterator.{first_from_Range}
 use Rattle.scope.specs.Shared.{owned, owned_of, owned_at, sliver, first_sliver}
 use Rattle.theory.specs.Lists.{pieces_length}
 use Rattle.tables.specs.Told.{board_of}
 use Rattle.tables.proofs.FaultLaws.{found_at, found_nowhere}
-use Rattle.shared.proofs.table.first_sliver.Lts as lts
-use Rattle.shared.proofs.table.first_sliver.Tie as tie
-use Rattle.shared.proofs.table.first_sliver.Reads as reads
 use Rattle.shared.proofs.table.first_sliver.Goals as goal
 
-abbrev After-is_sliver : Type 0
-After-is_sliver = lts.After-is_sliver tie.the-claims reads.Pre reads.Post goal.the-invariant-loop-i goal.the-decreases-loop-i
-
--- the test of the window that was read
-here : (c : After-is_sliver) → let a = c.args in
-    c.is_sliver.result ≡ sliver (board_of a.board) (owned_at (owned_of a.windows.now) c.loop-i.i)
-here c =
-    let a = c.args in
-    c.is_sliver.ensures ∙ ap (sliver (board_of a.board)) c.owned_at-window.ensures
-
-pub loop-i-init : goal.loop-i-init
-loop-i-init c = (omega arith, refl, below_none _)
-
-pub returns-then-is_sliver : goal.returns-then-is_sliver
+pub returns-in-Some : goal.returns-in-Some
 unfolding first_sliver
-returns-then-is_sliver c =
+returns-in-Some c =
     let a = c.args in
-    let l = c.loop-i in
-    found_at 12 (λ k. sliver (board_of a.board) (owned_at (owned_of a.windows.now) k)) _ l.i
-    (omega (arith, pieces_length _ 3 owned a.windows.now)) l.invariant.2
-    (sym (here c.before.before) ∙ c.if-is_sliver.true)
+    let short = λ (i : ℕ). sliver (board_of a.board) (owned_at (owned_of a.windows.now) i) in
+    let f : (0 ≤ c.in-Some.i) × (c.in-Some.i < length a.windows.now / 3) × (short c.in-Some.i ≡ true) × ((k : ℕ) → 0 ≤ k → k < c.in-Some.i → short k ≡ false) = first_from_Range (record { start = 0; end = length a.windows.now / 3 }) _ _ (Some c.in-Some.i) (λ i. short i ≡ true) (λ i. short i ≡ false) c.in-Some.ensures.ran (λ x q k. search rules) (λ x q k. (search rules, search rules)) in
+    found_at 12 short _ c.in-Some.i (omega (arith, f, pieces_length _ 3 owned a.windows.now)) (λ k h. f.3 k (omega arith) h) f.2
 
-pub loop-i-preserved : goal.loop-i-preserved
-loop-i-preserved c =
-    (omega arith, refl, below_more _ _ c.loop-i.invariant.2 (sym (here c.before.before) ∙ c.if-is_sliver.false))
-
-pub returns : goal.returns
+pub returns-in-None : goal.returns-in-None
 unfolding first_sliver
-returns c =
+returns-in-None c =
     let a = c.args in
-    let l = c.loop-i in
-    found_nowhere 12 (λ k. sliver (board_of a.board) (owned_at (owned_of a.windows.now) k)) _
-    (λ k h. l.invariant.2 k (omega (arith, pieces_length _ 3 owned a.windows.now)))
+    let short = λ (i : ℕ). sliver (board_of a.board) (owned_at (owned_of a.windows.now) i) in
+    let f : (k : ℕ) → 0 ≤ k → k < length a.windows.now / 3 → short k ≡ false = first_from_Range (record { start = 0; end = length a.windows.now / 3 }) _ _ None (λ i. short i ≡ true) (λ i. short i ≡ false) c.in-None.ensures.ran (λ x q k. search rules) (λ x q k. (search rules, search rules)) in
+    found_nowhere 12 short _ (λ k h. f k (omega arith) (omega (arith, pieces_length _ 3 owned a.windows.now)))

@@ -25,8 +25,6 @@ pub loop-i-init : goal.loop-i-init
 loop-i-init c =
     let a = c.args in
     let e = front_none _ (gathers_left (board_of a.board)) (owned_of a.windows.now) in (
-      omega arith,
-      sym (pieces_length _ 3 owned a.windows.now),
       sym (ap length e),
       c.requires,
       refl,
@@ -47,12 +45,12 @@ room c =
     let a = c.args in
     let l = c.loop-i in
     let ws = owned_of a.windows.now in
-    let h : l.i < length ws = omega (arith, l.invariant.1) in
+    let h : l.i < length ws = omega (arith, pieces_length _ 3 owned a.windows.now) in
     omega (
       arith,
+      l.invariant.0,
+      l.invariant.1,
       l.invariant.2,
-      l.invariant.3,
-      l.invariant.4,
       count_hit _ (gathers_left (board_of a.board)) ws l.i h c.owned_at-here.ensures _ _ (hit c),
       front_few _ (gathers_left (board_of a.board)) ws (l.i + 1),
     )
@@ -62,29 +60,25 @@ pub overflow_add-out : goal.overflow_add-out
 overflow_add-out c =
     let a = c.args in
     let moved = left_moved (board_of a.board) (owned_by c.owned_at-here.result) (sym c.is_left.ensures ∙ c.if-is_left.true) in
-    let small = c.struct_known-1.given in
     omega (arith, moved)
 
 pub offset_bounds-out-at : goal.offset_bounds-out-at
-offset_bounds-out-at c = let h = room c.before.before in omega arith
+offset_bounds-out-at c = let h = room c.before.before.before in omega arith
 
 pub bounds-out-at : goal.bounds-out-at
-bounds-out-at c = let h = room c.before.before in omega arith
+bounds-out-at c = let h = room c.before.before.before in omega arith
 
 pub overflow_add-out-then-is_left : goal.overflow_add-out-then-is_left
-overflow_add-out-then-is_left c = let h = room c.before.before in omega arith
+overflow_add-out-then-is_left c = let h = room c.before.before.before in omega arith
 
 pub offset_bounds-out-at-then-is_left : goal.offset_bounds-out-at-then-is_left
-offset_bounds-out-at-then-is_left c = let h = room c.before.before in omega arith
+offset_bounds-out-at-then-is_left c = let h = room c.before.before.before in omega arith
 
 pub bounds-out-at-then-is_left : goal.bounds-out-at-then-is_left
-bounds-out-at-then-is_left c =
-    let h = room c.before.before in
-    let l = c.loop-i in
-    omega (arith, length-set l.out l.at (c.args.board.lost + c.owned_at-here.result.window.start))
+bounds-out-at-then-is_left c = let h = room c.before.before.before in omega (arith, length-set {A = ℕ})
 
 pub overflow_add-at : goal.overflow_add-at
-overflow_add-at c = let h = room c.before.before in omega arith
+overflow_add-at c = let h = room c.before.before.before in omega arith
 
 pub loop-i-preserved : goal.loop-i-preserved
 loop-i-preserved c =
@@ -92,26 +86,22 @@ loop-i-preserved c =
     let l = c.loop-i in
     let ws = owned_of a.windows.now in
     let read = c.owned_at-here.ensures in
-    let h : l.i < length ws = omega (arith, l.invariant.1) in
+    let h : l.i < length ws = omega (arith, pieces_length _ 3 owned a.windows.now) in
     elim (c.if-is_left.branch) [
       | then-is_left t ↦ let e = left_hit (board_of a.board) _ (sym c.is_left.ensures ∙ t.if-is_left.true) in
           let n = count_hit _ (gathers_left (board_of a.board)) ws l.i h read _ _ e in
-          let fits : l.at + 1 < length a.out.now = omega (arith, l.invariant.2, l.invariant.3, n, front_few _ (gathers_left (board_of a.board)) ws (l.i + 1)) in
-          let two = written_two _ a.out.now l.at _ _ l.out l.invariant.2 l.invariant.5 fits in (
-            omega arith,
+          let fits : l.at + 1 < length a.out.now = omega (arith, l.invariant.0, l.invariant.1, n, front_few _ (gathers_left (board_of a.board)) ws (l.i + 1)) in
+          let two = written_two _ a.out.now l.at _ _ l.out l.invariant.0 l.invariant.3 fits in (
+            t.at-is ∙ omega (arith, l.invariant.0, n),
             l.invariant.1,
-            t.at-is ∙ omega (arith, l.invariant.2, n),
-            l.invariant.3,
-            ap length t.out-is ∙ length_two l.out l.at (l.at + 1) _ _ ∙ l.invariant.4,
+            ap length t.out-is ∙ length_two l.out l.at (l.at + 1) _ _ ∙ l.invariant.2,
             t.out-is ∙ two ∙ ap (λ (m : List ℕ). written m a.out.now) (sym (front_hit _ (gathers_left (board_of a.board)) ws l.i h read _ _ e)),
           )
       | else-is_left f ↦ let z = sym (front_miss _ (gathers_left (board_of a.board)) ws l.i h read (left_miss (board_of a.board) _ (sym c.is_left.ensures ∙ f.if-is_left.false))) in (
-        omega arith,
+        f.at-is ∙ l.invariant.0 ∙ ap length z,
         l.invariant.1,
-        f.at-is ∙ l.invariant.2 ∙ ap length z,
-        l.invariant.3,
-        ap length f.out-is ∙ l.invariant.4,
-        f.out-is ∙ l.invariant.5 ∙ ap (λ (m : List ℕ). written m a.out.now) z,
+        ap length f.out-is ∙ l.invariant.2,
+        f.out-is ∙ l.invariant.3 ∙ ap (λ (m : List ℕ). written m a.out.now) z,
       )
     ]
 
@@ -119,5 +109,6 @@ pub returns : goal.returns
 returns c =
     let a = c.args in
     let l = c.loop-i in
-    let all = front_all _ (gathers_left (board_of a.board)) (owned_of a.windows.now) l.i (omega (arith, l.invariant.1)) (omega (arith, l.invariant.1)) in
-    record { answer = l.invariant.2 ∙ ap length all; buffer = l.invariant.5 ∙ ap (λ (m : List ℕ). written m a.out.now) all }
+    let n = pieces_length _ 3 owned a.windows.now in
+    let all = front_all _ (gathers_left (board_of a.board)) (owned_of a.windows.now) l.i (omega (arith, n)) (omega (arith, n)) in
+    record { answer = l.invariant.0 ∙ ap length all; buffer = l.invariant.3 ∙ ap (λ (m : List ℕ). written m a.out.now) all }

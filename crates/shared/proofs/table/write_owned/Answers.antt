@@ -1,6 +1,6 @@
 use mathlib.Core.Path.{◌≡◌, refl, sym, ap, ap₂, ◌∙◌}
 use mathlib.Core.List.{List}
-use Prim.Native.Nat.{ℕ, suc, ◌+◌, ◌*◌, ◌<◌}
+use Prim.Native.Nat.{ℕ, suc, ◌+◌, ◌*◌, ◌/◌, ◌<◌}
 use native.Mathlib.Omega.{arith}
 use lib.ListN.{length, get_or, set, length-set}
 use Rattle.scope.specs.Numbers.{written}
@@ -22,12 +22,12 @@ room : (c : After-shared_slice_known) → 3 * c.loop-i.i + 2 < length c.loop-i.o
 room c =
     let a = c.args in
     let l = c.loop-i in
-    omega (arith, l.invariant.1, l.invariant.2, l.invariant.3, owned_length a.owner a.windows.now, c.loop-i-test.true)
+    omega (arith, l.invariant.0, l.invariant.1, owned_length a.owner a.windows.now, c.loop-i-test.true)
 
 pub loop-i-init : goal.loop-i-init
 loop-i-init c =
     let a = c.args in
-    (omega arith, refl, c.requires, refl, sym (ap (λ (l : List ℕ). written l a.out.now) (threes_none a.owner a.windows.now) ∙ written_none _))
+    (c.requires, refl, sym (ap (λ (l : List ℕ). written l a.out.now) (threes_none a.owner a.windows.now) ∙ written_none _))
 
 pub bounds-out-i : goal.bounds-out-i
 bounds-out-i c = let h = room c.before in omega arith
@@ -51,14 +51,12 @@ loop-i-preserved c =
     let l = c.loop-i in
     let ws = a.windows.now in
     let h = room c.before.before in
-    let low : 2 * l.i + 1 < length ws = omega (arith, l.invariant.1, c.loop-i-test.true) in
+    let low : 2 * l.i + 1 < length ws = omega (arith, c.loop-i-test.true) in
     let three = written_three _ a.out.now (3 * l.i) (get_or ws (2 * l.i) 0) (get_or ws (2 * l.i + 1) 0) a.owner l.out
-    (sym (threes_length a.owner ws l.i (omega arith))) l.invariant.4 (omega (arith, l.invariant.3)) in (
-      omega arith,
-      l.invariant.1,
-      l.invariant.2,
+    (sym (threes_length a.owner ws l.i (omega arith))) l.invariant.2 (omega (arith, l.invariant.1)) in (
+      l.invariant.0,
       length-set (set (set l.out (3 * l.i) (get_or ws (2 * l.i) 0)) (3 * l.i + 1) (get_or ws (2 * l.i + 1) 0)) (3 * l.i + 2) a.owner
-          ∙ length_two l.out (3 * l.i) (3 * l.i + 1) (get_or ws (2 * l.i) 0) (get_or ws (2 * l.i + 1) 0) ∙ l.invariant.3,
+          ∙ length_two l.out (3 * l.i) (3 * l.i + 1) (get_or ws (2 * l.i) 0) (get_or ws (2 * l.i + 1) 0) ∙ l.invariant.1,
       three ∙ ap (λ (m : List ℕ). written m a.out.now) (sym (threes_more a.owner ws l.i low)),
     )
 
@@ -71,11 +69,11 @@ left_room c =
     let l = c.loop-i in
     let odd = c.if-windows-eq1.true in
     let done = c.loop-i-test.false in
-    let e : length a.windows.now ≡ suc (2 * l.i) = omega (arith, l.invariant.0, l.invariant.1) in
-    (e, omega (arith, l.invariant.2, l.invariant.3, owned_length a.owner a.windows.now))
+    let e : length a.windows.now ≡ suc (2 * l.i) = omega arith in
+    (e, omega (arith, l.invariant.0, l.invariant.1, owned_length a.owner a.windows.now))
 
-pub bounds-out-i-then-windows-eq1 : goal.bounds-out-i-then-windows-eq1
-bounds-out-i-then-windows-eq1 c = let h = left_room c.before in omega arith
+pub bounds-out-count : goal.bounds-out-count
+bounds-out-count c = let h = left_room c.before in omega arith
 
 pub returns-then-windows-eq1 : goal.returns-then-windows-eq1
 returns-then-windows-eq1 c =
@@ -83,13 +81,14 @@ returns-then-windows-eq1 c =
     let l = c.loop-i in
     let r = left_room c.before in
     let front = threes_length a.owner a.windows.now l.i (omega (arith, r.0)) in
-    ap₂ (λ (m : List ℕ) (n : ℕ). set m n (get_or a.windows.now (2 * l.i) 0)) l.invariant.4 (sym front)
-    ∙ written_more _ a.out.now (get_or a.windows.now (2 * l.i) 0) (omega (arith, front, l.invariant.3, r.1))
-    ∙ ap (λ (m : List ℕ). written m a.out.now) (sym (threes_left a.owner a.windows.now l.i r.0))
+    let past : length a.windows.now / 2 ≡ l.i = omega arith in
+    rw past (ap₂ (λ (m : List ℕ) (n : ℕ). set m n (get_or a.windows.now (2 * l.i) 0)) l.invariant.2 (sym front)
+    ∙ written_more _ a.out.now (get_or a.windows.now (2 * l.i) 0) (omega (arith, front, l.invariant.1, r.1))
+    ∙ ap (λ (m : List ℕ). written m a.out.now) (sym (threes_left a.owner a.windows.now l.i r.0)))
 
 pub returns-else-windows-eq1 : goal.returns-else-windows-eq1
 returns-else-windows-eq1 c =
     let a = c.args in
     let l = c.loop-i in
-    let whole : length a.windows.now ≡ 2 * l.i = omega (arith, l.invariant.0, l.invariant.1, c.loop-i-test.false, c.if-windows-eq1.false) in
-    l.invariant.4 ∙ ap (λ (m : List ℕ). written m a.out.now) (threes_all a.owner a.windows.now l.i whole)
+    let whole : length a.windows.now ≡ 2 * l.i = omega (arith, l.invariant.0, c.loop-i-test.false, c.if-windows-eq1.false) in
+    l.invariant.2 ∙ ap (λ (m : List ℕ). written m a.out.now) (threes_all a.owner a.windows.now l.i whole)

@@ -1,5 +1,5 @@
 use mathlib.Core.Path.{◌≡◌}
-use Prim.Native.Nat.{◌-◌, ◌/◌, ◌≤◌}
+use Prim.Native.Nat.{◌≤◌}
 use lib.ListN.{length}
 use Rattle.scope.specs.Numbers.{written}
 use Rattle.scope.specs.Shared.{as_owned}
@@ -8,11 +8,6 @@ use Rattle.shared.proofs.table.write_owned.Given as goal
 
 abbrev pub invariant-loop-i : goal.invariant-loop-i
 invariant-loop-i l =
-    (l.i ≤ l.count)
-    × (l.count ≡ length l.windows / 2)
-    × (length (as_owned l.owner l.windows) ≤ length l.initial.out)
+    (length (as_owned l.owner l.windows) ≤ length l.initial.out)
     × (length l.out ≡ length l.initial.out)
     × (l.out ≡ written (threes l.owner l.windows l.i) l.initial.out)
-
-abbrev pub decreases-loop-i : goal.decreases-loop-i
-decreases-loop-i l = l.count - l.i

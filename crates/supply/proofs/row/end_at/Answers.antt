@@ -1,10 +1,6 @@
-use mathlib.Core.Path.{ap}
 use native.Mathlib.Omega.{arith}
-use Rattle.scope.specs.Windows.{Window}
+use Rattle.supply.proofs.PositionLaws.{ends_at, small}
 use Rattle.supply.proofs.row.end_at.Goals as goal
 
 pub overflow_add-result : goal.overflow_add-result
-overflow_add-result c = omega (arith, ap (λ (w : Window). w.end) c.window_of-window.ensures)
-
-pub returns : goal.returns
-returns c = omega (arith, ap (λ (w : Window). w.end) c.window_of-window.ensures)
+overflow_add-result c = omega (arith, small _ _ c.args.position c.requires, ends_at _ _ _ c.window_of.ensures)

@@ -1,16 +1,9 @@
-use mathlib.Core.Path.{ap}
 use native.Mathlib.Omega.{arith}
-use Rattle.scope.specs.Windows.{Window}
+use Rattle.supply.proofs.PositionLaws.{starts_at, small}
 use Rattle.supply.proofs.row.upto.Goals as goal
 
 pub overflow_add-start : goal.overflow_add-start
-overflow_add-start c = omega (arith, ap (λ (w : Window). w.start) c.window_of-window.ensures)
-
-pub returns-then-x-start : goal.returns-then-x-start
-returns-then-x-start c = omega (arith, ap (λ (w : Window). w.start) c.window_of-window.ensures)
+overflow_add-start c = omega (arith, small _ _ c.args.position c.requires.0, starts_at _ _ _ c.window_of.ensures)
 
 pub overflow_add-result : goal.overflow_add-result
-overflow_add-result c = omega (arith, ap (λ (w : Window). w.start) c.window_of-window.ensures)
-
-pub returns : goal.returns
-returns c = omega (arith, ap (λ (w : Window). w.start) c.window_of-window.ensures)
+overflow_add-result c = omega (arith, small _ _ c.args.position c.requires.0)

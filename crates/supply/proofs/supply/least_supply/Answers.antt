@@ -1,43 +1,20 @@
-use mathlib.Core.Path.{sym, ap, ◌∙◌}
+use mathlib.Core.Path.{◌∙◌}
 use native.Mathlib.Omega.{arith}
-use lib.Seq.{length-take-le}
 use Rattle.scope.specs.Limits.{teams}
 use Rattle.scope.specs.Shared.{least_supply_for}
 use Rattle.theory.specs.Alone.{least_supply_entry}
-use Rattle.theory.specs.Lent.{Taken, taken, asked_taken, asked_not}
-use Rattle.tables.specs.Told.{board_of, told_amount}
-use Rattle.supply.proofs.supply.least_supply.Lts as lts
-use Rattle.supply.proofs.supply.least_supply.Tie as tie
-use Rattle.supply.proofs.supply.least_supply.Reads as reads
+use Rattle.tables.specs.Told.{board_of}
+use Rattle.shared.specs.Lent.{asked_table, asked_no_table}
 use Rattle.supply.proofs.supply.least_supply.Goals as goal
 
-abbrev Past-After-known_told2 : Type 0
-Past-After-known_told2 = lts.Past-After-known_told2 tie.the-claims reads.Pre reads.Post tie.handed_clauses
-
--- the owner's windows stand in the memory
-own_at : (c : Past-After-known_told2) →
+pub returns-in_err-table : goal.returns-in_err-table
+unfolding least_supply_for
+returns-in_err-table c =
     let a = c.args in
-    let r = c.own_windows in
-    Taken teams (board_of a.board) a.windows.now c.in-Of.n r.new.out
-own_at c =
-    let r = c.own_windows in
-    taken _ _ _ _ _ _ (sym r.ensures.answer ∙ ap told_amount c.in-Of.is) r.ensures.buffer
+    let r = asked_no_table (least_supply_entry a.length) teams (board_of a.board) a.windows.now c.in_err-table.ensures in
+    grind (arith, r)
 
-pub slice_bounds-own-end : goal.slice_bounds-own-end
-slice_bounds-own-end c = let t = own_at c.before in omega (arith, t.few)
-
-pub slice_bounds-least_on-end : goal.slice_bounds-least_on-end
-slice_bounds-least_on-end c = sym (length-take-le _ _ (let t = own_at c.before.before in omega (arith, t.few)))
-
-pub least_on-requires : goal.least_on-requires
-least_on-requires c = (own_at c.before.before).fine_front
-
-pub returns-in-Refused : goal.returns-in-Refused
+pub returns : goal.returns
 unfolding least_supply_for
-returns-in-Refused c =
-    let r = c.own_windows in
-    asked_not _ _ _ (least_supply_entry _) _ _ _ (omega arith) (sym r.ensures.answer ∙ ap told_amount c.in-Refused.is)
-
-pub returns-in-Of : goal.returns-in-Of
-unfolding least_supply_for
-returns-in-Of c = c.least_on.ensures ∙ asked_taken _ _ _ (least_supply_entry _) (own_at c.before.before.before)
+returns c =
+    let a = c.args in c.least_on.ensures ∙ asked_table (least_supply_entry a.length) teams (board_of a.board) a.windows.now c.in_ok-table.ensures

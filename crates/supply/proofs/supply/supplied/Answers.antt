@@ -1,44 +1,25 @@
-use mathlib.Core.Path.{sym, ap, ◌∙◌}
+use mathlib.Core.Path.{ap, ◌∙◌}
 use native.Mathlib.Omega.{arith}
-use lib.Seq.{length-take-le}
 use Rattle.scope.specs.Limits.{teams}
-use Rattle.scope.specs.Answers.{Answer.given, table_fault, supplied_answer}
+use Rattle.scope.specs.Answers.{Answer.given, supplied_answer}
 use Rattle.scope.specs.Shared.{supplied_for}
 use Rattle.theory.specs.Alone.{supplied_entry}
-use Rattle.theory.specs.Lent.{Taken, taken, asked_taken, asked_not}
-use Rattle.tables.specs.Told.{board_of, told_amount}
-use Rattle.tables.proofs.FaultLaws.{given_by}
-use Rattle.supply.proofs.supply.supplied.Lts as lts
-use Rattle.supply.proofs.supply.supplied.Tie as tie
-use Rattle.supply.proofs.supply.supplied.Reads as reads
+use Rattle.tables.specs.Told.{board_of}
+use Rattle.tables.proofs.FaultLaws.{given_there}
+use Rattle.shared.specs.Lent.{asked_table, asked_no_table}
+use Rattle.supply.proofs.TableLaws.{table_fine}
 use Rattle.supply.proofs.supply.supplied.Goals as goal
 
-abbrev Past-After-known_told2 : Type 0
-Past-After-known_told2 = lts.Past-After-known_told2 tie.the-claims reads.Pre reads.Post tie.handed_clauses
-
--- the owner's windows stand in the memory
-own_at : (c : Past-After-known_told2) →
-    let a = c.args in
-    let r = c.own_windows in
-    Taken teams (board_of a.board) a.windows.now c.in-Of.n r.new.out
-own_at c =
-    let r = c.own_windows in
-    taken _ _ _ _ _ _ (sym r.ensures.answer ∙ ap told_amount c.in-Of.is) r.ensures.buffer
-
-pub slice_bounds-own-end : goal.slice_bounds-own-end
-slice_bounds-own-end c = let t = own_at c.before in omega (arith, t.few)
-
-pub slice_bounds-is_on-end : goal.slice_bounds-is_on-end
-slice_bounds-is_on-end c = sym (length-take-le _ _ (let t = own_at c.before.before in omega (arith, t.few)))
-
-pub returns-in-Refused : goal.returns-in-Refused
+pub returns-in_err-table : goal.returns-in_err-table
 unfolding supplied_for
-returns-in-Refused c =
-    let r = c.own_windows in
-    asked_not _ _ _ (supplied_entry _) _ _ _ (omega arith) (sym r.ensures.answer ∙ ap told_amount c.in-Refused.is)
+returns-in_err-table c =
+    let a = c.args in
+    let r = asked_no_table (supplied_entry a.tick) teams (board_of a.board) a.windows.now c.in_err-table.ensures in
+    grind (arith, r)
 
-pub returns-in-Of : goal.returns-in-Of
+pub returns : goal.returns
 unfolding supplied_for supplied_answer
-returns-in-Of c =
-    let t = own_at c.before.before.before in
-    ap given c.is_on.ensures ∙ given_by (table_fault _ _) _ t.fine_front ∙ asked_taken _ _ _ (supplied_entry _) t
+returns c =
+    let a = c.args in
+    ap given (rw c.from.ensures at c.is_on.ensures) ∙ given_there _ (table_fine _ _ c.in_ok-table.table.legal)
+    ∙ asked_table (supplied_entry a.tick) teams (board_of a.board) a.windows.now c.in_ok-table.ensures

@@ -1,35 +1,34 @@
-use Rattle.scope.specs.Tasks.{task_legal}
-use Rattle.theory.specs.Numbers.{below_suc}
-use Rattle.tables.proofs.TaskLaws.{kept, task_bad, tasks_fine}
+use mathlib.Core.Bool.{true, false}
+use mathlib.Core.Path.{◌≡◌}
+use Prim.Native.Nat.{ℕ, ◌/◌, ◌≤◌, ◌<◌}
+use lib.ListN.{length}
 use native.Mathlib.Omega.{arith}
-use mathlib.Core.Path.{◌≡◌, refl, sym, ap, ◌∙◌}
-use mathlib.Core.Bool.{true}
-use Rattle.tables.proofs.task.check_each_task.Lts as lts
-use Rattle.tables.proofs.task.check_each_task.Tie as tie
-use Rattle.tables.proofs.task.check_each_task.Reads as reads
+use Rattle.std.proofs.Common.{rules}
+use Rattle.std.specs.declared.option.Option.TheVariants.{Some, None}
+use Rattle.std.proofs.lemmas.Iterator.{first_from_Range}
+use Rattle.scope.specs.Tasks.{task, tasks_of, task_at, task_legal, bad_task}
+use Rattle.scope.specs.Answers.{task_fault}
+use Rattle.theory.specs.Lists.{pieces_length}
+use Rattle.tables.proofs.FaultLaws.{breaks_at_lem, breaks_nowhere}
 use Rattle.tables.proofs.task.check_each_task.Goals as goal
 
-abbrev After-is_task : Type 0
-After-is_task = lts.After-is_task tie.the-claims reads.Pre reads.Post goal.the-invariant-loop-i goal.the-decreases-loop-i
+pub returns-in-Some : goal.returns-in-Some
+unfolding task_fault bad_task
+returns-in-Some c =
+    let a = c.args in
+    let i = c.in-Some.i in
+    let legal = λ (i : ℕ). task_legal (task_at (tasks_of a.tasks.now) i) in
+    let f : (0 ≤ i) × (i < length a.tasks.now / 3) × (legal i ≡ false) × ((k : ℕ) → 0 ≤ k → k < i → legal k ≡ true) =
+    first_from_Range (record { start = 0; end = length a.tasks.now / 3 }) _ _ (Some i) (λ i. legal i ≡ false) (λ i. legal i ≡ true) c.in-Some.ensures.ran
+    (λ x q k. search rules) (λ x q k. (search rules, search rules)) in
+    breaks_at_lem 5 legal _ i (omega (arith, f, pieces_length _ 3 task a.tasks.now)) (λ k h. f.3 k (omega arith) h) f.2
 
-pub loop-i-init : goal.loop-i-init
-loop-i-init c = (omega arith, refl, λ k l. absurd (omega arith))
-
-pub task_at-task-requires : goal.task_at-task-requires
-task_at-task-requires c = omega arith
-
--- the code's test of task i
-tested : (c : After-is_task) →
-    kept c.args.tasks.now c.loop-i.i ≡ c.is_task.result
-tested c = ap task_legal (sym c.task_at-task.ensures) ∙ sym c.is_task.ensures
-
-pub returns-then-not-is_task : goal.returns-then-not-is_task
-returns-then-not-is_task c = let l = c.loop-i in
-    task_bad _ l.i (omega arith) l.invariant.2 (tested c.before.before ∙ c.if-not-is_task.true)
-
-pub loop-i-preserved : goal.loop-i-preserved
-loop-i-preserved c = let l = c.loop-i in
-    (omega arith, refl, λ k h. below_suc (λ k. kept _ k ≡ true) l.i l.invariant.2 (tested c.before.before ∙ c.if-not-is_task.false) k (omega arith))
-
-pub returns : goal.returns
-returns c = tasks_fine _ (λ k h. c.loop-i.invariant.2 k (omega arith))
+pub returns-in-None : goal.returns-in-None
+unfolding task_fault bad_task
+returns-in-None c =
+    let a = c.args in
+    let legal = λ (i : ℕ). task_legal (task_at (tasks_of a.tasks.now) i) in
+    let f : (k : ℕ) → 0 ≤ k → k < length a.tasks.now / 3 → legal k ≡ true =
+    first_from_Range (record { start = 0; end = length a.tasks.now / 3 }) _ _ None (λ i. legal i ≡ false) (λ i. legal i ≡ true) c.in-None.ensures.ran
+    (λ x q k. search rules) (λ x q k. (search rules, search rules)) in
+    breaks_nowhere 5 legal _ (λ k h. f k (omega arith) (omega (arith, pieces_length _ 3 task a.tasks.now)))

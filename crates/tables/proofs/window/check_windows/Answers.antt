@@ -1,35 +1,34 @@
-use Rattle.tables.proofs.FaultLaws.{breaks_at_lem, breaks_nowhere}
-use Rattle.theory.specs.Lists.{pieces_length}
-use Rattle.scope.specs.Answers.{window_fault}
-use Rattle.scope.specs.Windows.{framed, window, windows_of, window_legal, bad_window}
-use borrow.Author.Count.{below_none, below_more}
-use mathlib.Core.Path.{refl, sym, ◌∙◌}
+use mathlib.Core.Bool.{true, false}
+use mathlib.Core.Path.{◌≡◌}
+use Prim.Native.Nat.{ℕ, ◌/◌, ◌≤◌, ◌<◌}
+use lib.ListN.{length}
 use native.Mathlib.Omega.{arith}
+use Rattle.std.proofs.Common.{rules}
+use Rattle.std.specs.declared.option.Option.TheVariants.{Some, None}
+use Rattle.std.proofs.lemmas.Iterator.{first_from_Range}
+use Rattle.scope.specs.Windows.{framed, window, windows_of, window_legal, bad_window}
+use Rattle.scope.specs.Answers.{window_fault}
+use Rattle.theory.specs.Lists.{pieces_length}
+use Rattle.tables.proofs.FaultLaws.{breaks_at_lem, breaks_nowhere}
 use Rattle.tables.proofs.window.check_windows.Goals as goal
 
-pub loop-i-init : goal.loop-i-init
-loop-i-init c = (omega arith, refl, below_none _)
-
-pub window_legal-requires : goal.window_legal-requires
-window_legal-requires c = omega arith
-
-pub returns-then-not-window_legal : goal.returns-then-not-window_legal
+pub returns-in-Some : goal.returns-in-Some
 unfolding window_fault bad_window
-returns-then-not-window_legal c =
+returns-in-Some c =
     let a = c.args in
-    let l = c.loop-i in
-    breaks_at_lem 3 (window_legal (framed a.frame) (windows_of a.windows.now)) _ l.i
-    (omega (arith, pieces_length _ 2 window a.windows.now)) l.invariant.2
-    (sym c.window_legal.ensures ∙ c.if-not-window_legal.true)
+    let i = c.in-Some.i in
+    let legal = window_legal (framed a.frame) (windows_of a.windows.now) in
+    let f : (0 ≤ i) × (i < length a.windows.now / 2) × (legal i ≡ false) × ((k : ℕ) → 0 ≤ k → k < i → legal k ≡ true) =
+    first_from_Range (record { start = 0; end = length a.windows.now / 2 }) _ _ (Some i) (λ i. legal i ≡ false) (λ i. legal i ≡ true) c.in-Some.ensures.ran
+    (λ x q k. search rules) (λ x q k. (search rules, search rules)) in
+    breaks_at_lem 3 legal _ i (omega (arith, f, pieces_length _ 2 window a.windows.now)) (λ k h. f.3 k (omega arith) h) f.2
 
-pub loop-i-preserved : goal.loop-i-preserved
-loop-i-preserved c =
-    (omega arith, omega arith, below_more _ _ c.loop-i.invariant.2 (sym c.window_legal.ensures ∙ c.if-not-window_legal.false))
-
-pub returns : goal.returns
+pub returns-in-None : goal.returns-in-None
 unfolding window_fault bad_window
-returns c =
+returns-in-None c =
     let a = c.args in
-    let l = c.loop-i in
-    breaks_nowhere 3 (window_legal (framed a.frame) (windows_of a.windows.now)) _
-    (λ k h. l.invariant.2 k (omega (arith, pieces_length _ 2 window a.windows.now)))
+    let legal = window_legal (framed a.frame) (windows_of a.windows.now) in
+    let f : (k : ℕ) → 0 ≤ k → k < length a.windows.now / 2 → legal k ≡ true =
+    first_from_Range (record { start = 0; end = length a.windows.now / 2 }) _ _ None (λ i. legal i ≡ false) (λ i. legal i ≡ true) c.in-None.ensures.ran
+    (λ x q k. search rules) (λ x q k. (search rules, search rules)) in
+    breaks_nowhere 3 legal _ (λ k h. f k (omega arith) (omega (arith, pieces_length _ 2 window a.windows.now)))

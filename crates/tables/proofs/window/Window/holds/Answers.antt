@@ -5,8 +5,8 @@ use Rattle.tables.proofs.window.Window.holds.Goals as goal
 
 pub returns-then-start-k : goal.returns-then-start-k
 unfolding gives
-returns-then-start-k c = rw (zero-add, le-leb _ _ c.if-start-k.true)
+returns-then-start-k c = rw (zero-add, ← c.from-start.ensures, ← c.from-end.ensures, le-leb _ _ c.if-start-k.true)
 
 pub returns-else-start-k : goal.returns-else-start-k
 unfolding gives
-returns-else-start-k c = rw (zero-add, lt-leb _ _ c.if-start-k.false)
+returns-else-start-k c = rw (zero-add, ← c.from-start.ensures, lt-leb _ _ c.if-start-k.false)

@@ -1,6 +1,0 @@
-use mathlib.Core.Path.{ap, ◌∙◌}
-use Rattle.host.specs.Told.{c_amount}
-use Rattle.host.proofs.demand.palikudyom_demand.Goals as goal
-
-pub returns : goal.returns
-returns c = c.amount_answer.ensures ∙ ap c_amount c.demand.ensures

@@ -1,4 +1,0 @@
-use Rattle.machine.proofs.state.RunState.counted.Goals as goal
-
-pub returns : goal.returns
-returns c = rw (c.larger.ensures, c.count.ensures)

@@ -1,8 +1,0 @@
-use Rattle.std.proofs.Common.{arith, eq-eqb, ne_eqb}
-use Rattle.replay.proofs.survey.counted.Goals as goal
-
-pub returns-then-kind-eq0 : goal.returns-then-kind-eq0
-returns-then-kind-eq0 c = rw (eq-eqb _ _ c.if-kind-eq0.true)
-
-pub returns : goal.returns
-returns c = rw (ne_eqb _ _ c.if-kind-eq0.false) (omega arith)
