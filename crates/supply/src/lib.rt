@@ -6,3 +6,4 @@ mod pieces;
 mod row;
 pub mod summary;
 pub mod supply;
+mod walk;

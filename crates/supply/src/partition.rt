@@ -8,8 +8,8 @@ ghost use Rattle.scope.specs.Shared.{critical_for, critical_out_for, delay_for};
 ghost use Rattle.tables.specs.Told.{board_of, delay_of, told_amount, told_delay};
 ghost use Rattle.supply.specs.Measures.{has_at, met_of, Measured};
 
-use crate::pieces::piece_from;
 use crate::supply::least_at_ends;
+use crate::walk::Pieces;
 use shared::table::own_table;
 use tables::answer::{Delay, Refusal};
 use tables::board::Board;
@@ -76,16 +76,10 @@ pub(crate) fn measured(table: Table<'_>, held: &[u32]) -> Measure
     };
     let mut delay: u64 = 0;
     let mut before = false;
-    let mut least = 0;
-    let mut t = 0;
-    while t < table.frame {
-        let piece = piece_from(table, t, least);
-        let rising = piece.rising;
-        met = edge_met(met, held, rising != before, t);
-        before = rising;
-        least = piece.least;
-        t = piece.end;
-        delay = delay.max(lag_with(whole, t, table.frame, least));
+    for (t, piece) in Pieces::new(table) {
+        met = edge_met(met, held, piece.rising != before, t);
+        before = piece.rising;
+        delay = delay.max(lag_with(whole, piece.end, table.frame, piece.least));
     }
     let all = edge_met(met, held, before, table.frame);
     Measure {
@@ -96,26 +90,19 @@ pub(crate) fn measured(table: Table<'_>, held: &[u32]) -> Measure
     }
 }
 
-// Writes the critical partition at the front of out. It walks as `measured` does: with an iterator of pieces that both go through, the iterator was
-// written and the two loops over it did not close.
+// Writes the critical partition at the front of out.
 pub(crate) fn write_edges(table: Table<'_>, out: &mut [u32])
     requires { length (critical_of (framed table.frame) table.windows.now) ≤ length out.old }
     ensures { out.new ≡ written (critical_of (framed table.entry.frame) table.entry.windows.now) out.old }
 {
     let mut at = 0;
     let mut before = false;
-    let mut least = 0;
-    let mut t = 0;
-    while t < table.frame {
-        let piece = piece_from(table, t, least);
-        let rising = piece.rising;
-        if rising != before {
+    for (t, piece) in Pieces::new(table) {
+        if piece.rising != before {
             out[at] = t;
             at += 1;
         }
-        before = rising;
-        least = piece.least;
-        t = piece.end;
+        before = piece.rising;
     }
     if before {
         out[at] = table.frame;
