@@ -1,10 +1,8 @@
 // One function for each entry: it reads the entry's arguments, calls it and prints its line; where an argument is bad, it prints nothing. The
 // stream stands after the query then, or the error names the bad number.
-ghost use Rattle.std.specs.Prelude.{◌≤◌};
-
 use crate::asked::{Asked, LATER_NUMBERS};
 use crate::lines;
-use crate::stream::{BYTES, JOBS, List, Stream, TRACE};
+use crate::stream::{BYTES, JOBS, Stream, TRACE};
 use gaps::outage;
 use machine::run::Ran;
 use plan::check::{Form, check_plan};
@@ -15,38 +13,49 @@ use tables::answer::{Refusal, Verdict};
 use tables::board::Board;
 
 // The longest list of pairs has so many numbers in threes.
-const THREES: usize = LATER_NUMBERS / 2 * 3;
+pub(crate) const THREES: usize = LATER_NUMBERS / 2 * 3;
+
+// What the memory holds that is lent for an entry to write to, so that what is written shows.
+pub(crate) const UNWRITTEN: u32 = 7;
 
 // ---- entries over a table
 
-#[derive(Drop)]
-pub(crate) struct Table {
+#[derive(Clone, Copy)]
+pub(crate) struct Table<'m> {
     pub board: Board,
-    pub windows: List<u32, THREES>,
+    pub windows: &'m [u32],
 }
 
 // Pairs as threes of one owner. There is room for the longest list, so that none is refused.
 #[tactic(auto, using(crate::proofs::Room::owned_fits))]
-fn owned(owner: u32, pairs: &[u32]) -> List<u32, THREES> {
-    let mut threes = [0; THREES];
-    let count = as_owned(owner, pairs, &mut threes).unwrap_or(0);
-    List::new(threes, count as usize)
+fn owned<'m>(owner: u32, pairs: &[u32], room: &'m mut [u32; THREES]) -> &'m [u32] {
+    let count = as_owned(owner, pairs, room).unwrap_or(0);
+    &room[..count as usize]
 }
 
 // The windows, in threes however they are asked.
-fn windows(stream: &mut Stream<'_>, asked: Asked) -> Result<List<u32, THREES>, Damaged> {
+fn windows<'m>(
+    stream: &mut Stream<'_>,
+    asked: Asked,
+    room: &'m mut [u32; THREES],
+) -> Result<&'m [u32], Damaged> {
     if asked.threes {
-        return stream.list(asked.most());
+        return Ok(stream.list(asked.most(), room)?);
     }
-    let pairs: List<u32, LATER_NUMBERS> = stream.list(asked.most())?;
-    Ok(owned(asked.owner, pairs.as_slice()))
+    let mut memory = [0; LATER_NUMBERS];
+    let pairs = stream.list(asked.most(), &mut memory)?;
+    Ok(owned(asked.owner, pairs, room))
 }
 
-impl Table {
+impl<'m> Table<'m> {
     // P and the windows.
-    pub(crate) fn read(stream: &mut Stream<'_>, asked: Asked) -> Result<Table, Damaged> {
+    pub(crate) fn read(
+        stream: &mut Stream<'_>,
+        asked: Asked,
+        room: &'m mut [u32; THREES],
+    ) -> Result<Table<'m>, Damaged> {
         let board = asked.board(stream.any()?);
-        let windows = windows(stream, asked)?;
+        let windows = windows(stream, asked, room)?;
         Ok(Table { board, windows })
     }
 }
@@ -56,10 +65,11 @@ pub(crate) fn least_supply(
     stream: &mut Stream<'_>,
     asked: Asked,
 ) -> Result<(), Damaged> {
-    let table = Table::read(stream, asked)?;
+    let mut threes = [0; THREES];
+    let table = Table::read(stream, asked, &mut threes)?;
     let length = stream.any()?;
-    let supply = supply::supply::least_supply(table.board, table.windows.as_slice(), length);
-    lines::amount(rt, "AMOUNT", supply);
+    let supply = supply::supply::least_supply(table.board, table.windows, length);
+    lines::amount(rt, "AMOUNT ", supply);
     Ok(())
 }
 
@@ -68,16 +78,19 @@ pub(crate) fn critical(
     stream: &mut Stream<'_>,
     asked: Asked,
 ) -> Result<(), Damaged> {
-    let table = Table::read(stream, asked)?;
-    let mut out = stream.room()?;
-    let found = partition::critical(table.board, table.windows.as_slice(), out.as_mut_slice());
-    lines::filled(rt, "WINDOWS", found, out.as_slice());
+    let mut threes = [0; THREES];
+    let table = Table::read(stream, asked, &mut threes)?;
+    let mut memory = [UNWRITTEN; JOBS];
+    let out = stream.room(&mut memory)?;
+    let found = partition::critical(table.board, table.windows, out);
+    lines::filled(rt, "WINDOWS ", found, out);
     Ok(())
 }
 
 pub(crate) fn delay(rt: &impl Print, stream: &mut Stream<'_>, asked: Asked) -> Result<(), Damaged> {
-    let table = Table::read(stream, asked)?;
-    lines::delay(rt, partition::delay(table.board, table.windows.as_slice()));
+    let mut threes = [0; THREES];
+    let table = Table::read(stream, asked, &mut threes)?;
+    lines::delay(rt, partition::delay(table.board, table.windows));
     Ok(())
 }
 
@@ -86,12 +99,9 @@ pub(crate) fn outage(
     stream: &mut Stream<'_>,
     asked: Asked,
 ) -> Result<(), Damaged> {
-    let table = Table::read(stream, asked)?;
-    lines::amount(
-        rt,
-        "OUTAGE",
-        outage::outage(table.board, table.windows.as_slice()),
-    );
+    let mut threes = [0; THREES];
+    let table = Table::read(stream, asked, &mut threes)?;
+    lines::amount(rt, "OUTAGE ", outage::outage(table.board, table.windows));
     Ok(())
 }
 
@@ -99,7 +109,11 @@ pub(crate) fn outage(
 
 // How a group is lent, and the entries that take it so.
 pub(crate) trait Lent {
-    fn read(stream: &mut Stream<'_>, asked: Asked) -> Result<List<u32, LATER_NUMBERS>, Damaged>;
+    fn read<'m>(
+        stream: &mut Stream<'_>,
+        asked: Asked,
+        memory: &'m mut [u32; LATER_NUMBERS],
+    ) -> Result<&'m [u32], Damaged>;
 
     fn demand(tasks: &[u32], length: u32) -> Result<u64, Refusal>;
 
@@ -128,8 +142,12 @@ pub(crate) trait Lent {
 pub(crate) struct Numbers;
 
 impl Lent for Numbers {
-    fn read(stream: &mut Stream<'_>, asked: Asked) -> Result<List<u32, LATER_NUMBERS>, Damaged> {
-        stream.list(asked.most())
+    fn read<'m>(
+        stream: &mut Stream<'_>,
+        asked: Asked,
+        memory: &'m mut [u32; LATER_NUMBERS],
+    ) -> Result<&'m [u32], Damaged> {
+        Ok(stream.list(asked.most(), memory)?)
     }
 
     fn demand(tasks: &[u32], length: u32) -> Result<u64, Refusal> {
@@ -169,8 +187,12 @@ impl Lent for Numbers {
 pub(crate) struct Records;
 
 impl Lent for Records {
-    fn read(stream: &mut Stream<'_>, _asked: Asked) -> Result<List<u32, LATER_NUMBERS>, Damaged> {
-        stream.records()
+    fn read<'m>(
+        stream: &mut Stream<'_>,
+        _asked: Asked,
+        memory: &'m mut [u32; LATER_NUMBERS],
+    ) -> Result<&'m [u32], Damaged> {
+        Ok(stream.records(memory)?)
     }
 
     fn demand(tasks: &[u32], length: u32) -> Result<u64, Refusal> {
@@ -211,9 +233,10 @@ pub(crate) fn demand<L: Lent>(
     stream: &mut Stream<'_>,
     asked: Asked,
 ) -> Result<(), Damaged> {
-    let tasks = L::read(stream, asked)?;
+    let mut numbers = [0; LATER_NUMBERS];
+    let tasks = L::read(stream, asked, &mut numbers)?;
     let length = stream.any()?;
-    lines::amount(rt, "DEMAND", L::demand(tasks.as_slice(), length));
+    lines::amount(rt, "DEMAND ", L::demand(tasks, length));
     Ok(())
 }
 
@@ -222,18 +245,12 @@ pub(crate) fn margin<L: Lent>(
     stream: &mut Stream<'_>,
     asked: Asked,
 ) -> Result<(), Damaged> {
-    let table = Table::read(stream, asked)?;
-    let tasks = L::read(stream, asked)?;
+    let mut threes = [0; THREES];
+    let table = Table::read(stream, asked, &mut threes)?;
+    let mut numbers = [0; LATER_NUMBERS];
+    let tasks = L::read(stream, asked, &mut numbers)?;
     let length = stream.any()?;
-    lines::margin(
-        rt,
-        L::margin(
-            table.board,
-            table.windows.as_slice(),
-            tasks.as_slice(),
-            length,
-        ),
-    );
+    lines::margin(rt, L::margin(table.board, table.windows, tasks, length));
     Ok(())
 }
 
@@ -242,12 +259,11 @@ pub(crate) fn verdict<L: Lent>(
     stream: &mut Stream<'_>,
     asked: Asked,
 ) -> Result<(), Damaged> {
-    let table = Table::read(stream, asked)?;
-    let tasks = L::read(stream, asked)?;
-    let _ = lines::verdict(
-        rt,
-        L::verdict(table.board, table.windows.as_slice(), tasks.as_slice()),
-    );
+    let mut threes = [0; THREES];
+    let table = Table::read(stream, asked, &mut threes)?;
+    let mut numbers = [0; LATER_NUMBERS];
+    let tasks = L::read(stream, asked, &mut numbers)?;
+    let _ = lines::verdict(rt, L::verdict(table.board, table.windows, tasks));
     Ok(())
 }
 
@@ -256,18 +272,12 @@ pub(crate) fn bound<L: Lent>(
     stream: &mut Stream<'_>,
     asked: Asked,
 ) -> Result<(), Damaged> {
-    let table = Table::read(stream, asked)?;
-    let tasks = L::read(stream, asked)?;
+    let mut threes = [0; THREES];
+    let table = Table::read(stream, asked, &mut threes)?;
+    let mut numbers = [0; LATER_NUMBERS];
+    let tasks = L::read(stream, asked, &mut numbers)?;
     let index = stream.any()?;
-    lines::bound(
-        rt,
-        L::bound(
-            table.board,
-            table.windows.as_slice(),
-            tasks.as_slice(),
-            index,
-        ),
-    );
+    lines::bound(rt, L::bound(table.board, table.windows, tasks, index));
     Ok(())
 }
 
@@ -276,36 +286,34 @@ pub(crate) fn run<L: Lent>(
     stream: &mut Stream<'_>,
     asked: Asked,
 ) -> Result<(), Damaged> {
-    let table = Table::read(stream, asked)?;
-    let tasks = L::read(stream, asked)?;
+    let mut threes = [0; THREES];
+    let table = Table::read(stream, asked, &mut threes)?;
+    let mut numbers = [0; LATER_NUMBERS];
+    let tasks = L::read(stream, asked, &mut numbers)?;
     let ticks = stream.any()?;
-    let jobs: List<u32, JOBS> = stream.list(JOBS)?;
-    let mut counts = stream.room()?;
-    let ran = L::run(
-        table.board,
-        table.windows.as_slice(),
-        tasks.as_slice(),
-        ticks,
-        jobs.as_slice(),
-        counts.as_mut_slice(),
-    );
-    lines::ran(rt, ran, counts.as_slice());
+    let mut listed = [0; JOBS];
+    let jobs = stream.list(JOBS, &mut listed)?;
+    let mut memory = [UNWRITTEN; JOBS];
+    let counts = stream.room(&mut memory)?;
+    let ran = L::run(table.board, table.windows, tasks, ticks, jobs, counts);
+    lines::ran(rt, ran, counts);
     Ok(())
 }
 
 // ---- a plan
 
 pub(crate) fn plan(rt: &impl Print, stream: &mut Stream<'_>, form: Form) -> Result<(), Damaged> {
-    let plan: List<u8, BYTES> = stream.list(BYTES)?;
-    let _ = lines::verdict(rt, check_plan(plan.as_slice(), form));
+    let mut bytes = [0; BYTES];
+    let plan = stream.list(BYTES, &mut bytes)?;
+    let _ = lines::verdict(rt, check_plan(plan, form));
     Ok(())
 }
 
 // ---- a trace
 
 // A replay of a trace's bytes, wherever they come from.
-fn replay_trace(rt: &impl Print, table: &Table, tasks: &[u32], trace: &[u8]) {
-    let replayed = replay::replay::replay(table.board, table.windows.as_slice(), tasks, trace);
+fn replay_trace(rt: &impl Print, table: Table<'_>, tasks: &[u32], trace: &[u8]) {
+    let replayed = replay::replay::replay(table.board, table.windows, tasks, trace);
     lines::replayed(rt, replayed);
 }
 
@@ -315,10 +323,13 @@ pub(crate) fn replay(
     stream: &mut Stream<'_>,
     asked: Asked,
 ) -> Result<(), Damaged> {
-    let table = Table::read(stream, asked)?;
-    let tasks = Numbers::read(stream, asked)?;
-    let trace: List<u8, TRACE> = stream.list(TRACE)?;
-    replay_trace(rt, &table, tasks.as_slice(), trace.as_slice());
+    let mut threes = [0; THREES];
+    let table = Table::read(stream, asked, &mut threes)?;
+    let mut numbers = [0; LATER_NUMBERS];
+    let tasks = Numbers::read(stream, asked, &mut numbers)?;
+    let mut bytes = [0; TRACE];
+    let trace = stream.list(TRACE, &mut bytes)?;
+    replay_trace(rt, table, tasks, trace);
     Ok(())
 }
 
@@ -328,8 +339,10 @@ pub(crate) fn replay_rest(
     stream: &mut Stream<'_>,
     asked: Asked,
 ) -> Result<(), Damaged> {
-    let table = Table::read(stream, asked)?;
-    let tasks = Numbers::read(stream, asked)?;
-    replay_trace(rt, &table, tasks.as_slice(), stream.rest());
+    let mut threes = [0; THREES];
+    let table = Table::read(stream, asked, &mut threes)?;
+    let mut numbers = [0; LATER_NUMBERS];
+    let tasks = Numbers::read(stream, asked, &mut numbers)?;
+    replay_trace(rt, table, tasks, stream.rest());
     Ok(())
 }

@@ -1,10 +1,29 @@
-// The printed lines, one for each answer: its value, or its refusal. Where a write fails, the rest of that line is left out, and the next is still tried.
+// The printed lines, one for each answer: its value, or its refusal. What can't be written is left out, and what follows it is still tried.
 use machine::run::Ran;
-use print::line::{MOST, line};
+use print::line::{MOST, line as line_of};
 use replay::ending::Completion;
 use replay::replay::Replayed;
+use std::fmt::Write;
 use std::{fmt, io};
 use tables::answer::{Delay, Edited, Refusal, Verdict};
+
+// Standard output, piece by piece: of a line that can't be written whole the pieces that can be are.
+#[derive(Drop)]
+struct Pieces<'a, P>(&'a P);
+
+impl<P: Print> fmt::Write for Pieces<'_, P> {
+    fn write_str(&mut self, piece: &str) -> fmt::Result {
+        let _ = self.0.write_all(piece.as_bytes());
+        Ok(())
+    }
+}
+
+// A text, and the end of the line.
+fn line(rt: &impl Print, text: impl fmt::Display + Drop) {
+    let mut out = Pieces(rt);
+    let _ = write!(out, "{text}");
+    let _ = out.write_str("\n");
+}
 
 // Lent memory after a call: each number after a space.
 #[derive(Drop)]
@@ -27,18 +46,18 @@ struct Side(Option<Completion>);
 impl fmt::Display for Side {
     fn fmt<W: fmt::Write>(&self, f: &mut fmt::Formatter<W>) -> fmt::Result {
         match self.0 {
-            Some(Completion { instant, task }) => write!(f, "instant {instant} task {task}"),
-            None => write!(f, "none"),
+            Some(Completion { instant, task }) => write!(f, " instant {instant} task {task}"),
+            None => write!(f, " none"),
         }
     }
 }
 
 // An amount after its word.
 pub(crate) fn amount(rt: &impl Print, word: &str, amount: Result<u64, Refusal>) {
-    let _ = match amount {
-        Ok(n) => println!(rt; "{word} {n}"),
-        Err(refusal) => println!(rt; "{refusal}"),
-    };
+    match amount {
+        Ok(n) => line(rt, format_args!("{word}{n}")),
+        Err(refusal) => line(rt, refusal),
+    }
 }
 
 // An amount after its word, and the buffer that it was filled to.
@@ -49,24 +68,24 @@ pub(crate) fn filled<T: fmt::Display + Drop>(
     out: &[T],
 ) {
     let out = Buffer(out);
-    let _ = match amount {
-        Ok(n) => println!(rt; "{word} {n}{out}"),
-        Err(refusal) => println!(rt; "{refusal}{out}"),
-    };
+    match amount {
+        Ok(n) => line(rt, format_args!("{word}{n}{out}")),
+        Err(refusal) => line(rt, format_args!("{refusal}{out}")),
+    }
 }
 
 pub(crate) fn delay(rt: &impl Print, delay: Result<Delay, Refusal>) {
-    let _ = match delay {
-        Ok(Delay { delay, per_frame }) => println!(rt; "DELAY {delay} of {per_frame}"),
-        Err(refusal) => println!(rt; "{refusal}"),
-    };
+    match delay {
+        Ok(Delay { delay, per_frame }) => line(rt, format_args!("DELAY {delay} of {per_frame}")),
+        Err(refusal) => line(rt, refusal),
+    }
 }
 
 pub(crate) fn margin(rt: &impl Print, margin: Result<i64, Refusal>) {
-    let _ = match margin {
-        Ok(m) => println!(rt; "MARGIN {m}"),
-        Err(refusal) => println!(rt; "{refusal}"),
-    };
+    match margin {
+        Ok(m) => line(rt, format_args!("MARGIN {m}")),
+        Err(refusal) => line(rt, refusal),
+    }
 }
 
 // An edit's line has the windows memory and the summary memory.
@@ -78,58 +97,70 @@ pub(crate) fn edited(
 ) {
     let list = Buffer(windows);
     let kept = Buffer(summary);
-    let _ = match edited {
+    match edited {
         Ok(Edited { windows, numbers }) => {
-            println!(rt; "EDITED count {windows} summary {numbers}{list}{kept}")
+            line(
+                rt,
+                format_args!("EDITED count {windows} summary {numbers}{list}{kept}"),
+            )
         }
-        Err(refusal) => println!(rt; "{refusal}{list}{kept}"),
-    };
+        Err(refusal) => line(rt, format_args!("{refusal}{list}{kept}")),
+    }
 }
 
 // The line of a verdict, as `print` makes it; it is never longer than `MOST`. An error where not all of it was written.
 #[tactic(auto, using(crate::proofs::Room::line_written))]
 pub(crate) fn verdict(rt: &impl Print, verdict: Result<Verdict, Refusal>) -> io::Result<()> {
     let mut text = [0u8; MOST];
-    match line(verdict, &mut text) {
+    match line_of(verdict, &mut text) {
         Ok(n) => rt.write_all(&text[..n as usize]),
         Err(_) => Err(io::Error::from(io::ErrorKind::WriteZero)),
     }
 }
 
 pub(crate) fn bound(rt: &impl Print, bound: Result<Option<u32>, Refusal>) {
-    let _ = match bound {
-        Ok(Some(t)) => println!(rt; "BOUND {t}"),
-        Ok(None) => println!(rt; "NO BOUND"),
-        Err(refusal) => println!(rt; "{refusal}"),
-    };
+    match bound {
+        Ok(Some(t)) => line(rt, format_args!("BOUND {t}")),
+        Ok(None) => line(rt, "NO BOUND"),
+        Err(refusal) => line(rt, refusal),
+    }
 }
 
 pub(crate) fn ran(rt: &impl Print, ran: Result<Ran, Refusal>, counts: &[u32]) {
     let counts = Buffer(counts);
-    let _ = match ran {
-        Ok(Ran::Met { backlog }) => println!(rt; "MET backlog {backlog}{counts}"),
+    match ran {
+        Ok(Ran::Met { backlog }) => line(rt, format_args!("MET backlog {backlog}{counts}")),
         Ok(
             Ran::Missed {
                 instant,
                 job,
                 backlog,
             },
-        ) => println!(rt; "MISSED instant {instant} job {job} backlog {backlog}{counts}"),
-        Err(refusal) => println!(rt; "{refusal}{counts}"),
-    };
+        ) => line(
+            rt,
+            format_args!("MISSED instant {instant} job {job} backlog {backlog}{counts}"),
+        ),
+        Err(refusal) => line(rt, format_args!("{refusal}{counts}")),
+    }
 }
 
 pub(crate) fn replayed(rt: &impl Print, replayed: Result<Replayed, Refusal>) {
-    let _ = match replayed {
-        Ok(Replayed::Same) => println!(rt; "SAME"),
+    match replayed {
+        Ok(Replayed::Same) => line(rt, "SAME"),
         Ok(Replayed::Differs { trace, machine }) => {
-            println!(rt; "DIFFERS trace {} machine {}", Side(trace), Side(machine))
+            line(
+                rt,
+                format_args!("DIFFERS trace{} machine{}", Side(trace), Side(machine)),
+            )
         }
-        Ok(Replayed::Missed { instant, job }) => println!(rt; "MISSED instant {instant} job {job}"),
-        Err(refusal) => println!(rt; "{refusal}"),
-    };
+        Ok(Replayed::Missed { instant, job }) => line(
+            rt,
+            format_args!("MISSED instant {instant} job {job}"),
+        ),
+        Err(refusal) => line(rt, refusal),
+    }
 }
 
 pub(crate) fn bad_query(rt: &impl Print, at: usize) {
-    let _ = println!(rt; "BAD QUERY at {at}");
+    line(rt, format_args!("BAD QUERY at {at}"));
 }

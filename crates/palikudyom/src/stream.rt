@@ -21,41 +21,8 @@ pub(crate) const SUMMARY: usize = 9000;
 // Lengths are at most so many.
 pub(crate) const LENGTHS: usize = 1000;
 
-// A count of at most N.
-#[derive(Clone, Copy)]
-struct UpTo<const N: usize> {
-    count: usize,
-    ghost fits: { count ≤ N },
-}
-
-// A list at the front of fixed memory. Its count keeps its bound by itself, so that the memory can be lent to be written.
-#[derive(Drop)]
-pub(crate) struct List<T, const N: usize> {
-    memory: [T; N],
-    used: UpTo<N>,
-}
-
-impl<T: Copy, const N: usize> List<T, N> {
-    pub(crate) fn new(memory: [T; N], count: usize) -> List<T, N>
-        requires { count ≤ N }
-    {
-        List {
-            memory,
-            used: UpTo { count },
-        }
-    }
-
-    pub(crate) fn as_slice(&self) -> &[T] {
-        &self.memory[..self.used.count]
-    }
-
-    pub(crate) fn as_mut_slice(&mut self) -> &mut [T] {
-        &mut self.memory[..self.used.count]
-    }
-}
-
 // What a list of the stream has.
-pub(crate) trait Item: Copy + Default {
+pub(crate) trait Item: Copy {
     fn read(stream: &mut Stream<'_>) -> Result<Self, Damaged>;
 }
 
@@ -73,7 +40,7 @@ impl Item for u8 {
     }
 }
 
-// The bytes of a stream, and where the next number begins.
+// The bytes of a stream, and where the next number begins. Lists are read to memory that the caller lends: what is long is not moved.
 #[derive(Drop)]
 pub(crate) struct Stream<'a> {
     bytes: &'a [u8],
@@ -117,39 +84,46 @@ impl<'a> Stream<'a> {
         Ok(number)
     }
 
-    // So many items.
-    fn items<T: Item, const N: usize>(&mut self, count: usize) -> Result<List<T, N>, Damaged>
-        requires { count ≤ N }
+    // So many items, read to the front of lent memory.
+    fn items<'m, T: Item>(
+        &mut self,
+        count: usize,
+        memory: &'m mut [T],
+    ) -> Result<&'m mut [T], Damaged>
+        requires { count ≤ length memory.old }
     {
-        let mut memory = [T::default(); N];
-        for item in &mut memory[..count] {
+        let list = &mut memory[..count];
+        for item in list.iter_mut() {
             *item = T::read(self)?;
         }
-        Ok(List::new(memory, count))
+        Ok(list)
     }
 
     // A list: first how many items, at most `most`.
-    pub(crate) fn list<T: Item, const N: usize>(
+    pub(crate) fn list<'m, T: Item>(
         &mut self,
         most: usize,
-    ) -> Result<List<T, N>, Damaged>
-        requires { most ≤ N }
+        memory: &'m mut [T],
+    ) -> Result<&'m mut [T], Damaged>
+        requires { most ≤ length memory.old }
     {
         let count = self.at_most(most)?;
-        self.items(count)
+        self.items(count, memory)
     }
 
     // Task records: first how many, then three numbers each.
-    pub(crate) fn records<const N: usize>(&mut self) -> Result<List<u32, N>, Damaged>
-        requires { 3 * RECORDS ≤ N }
+    pub(crate) fn records<'m>(&mut self, memory: &'m mut [u32]) -> Result<&'m mut [u32], Damaged>
+        requires { 3 * RECORDS ≤ length memory.old }
     {
         let count = self.at_most(RECORDS)?;
-        self.items(3 * count)
+        self.items(3 * count, memory)
     }
 
-    // What is lent for an entry to write to: how many numbers. Each is 7, so that what is written shows.
-    pub(crate) fn room<T: Copy + From<u8>>(&mut self) -> Result<List<T, JOBS>, Damaged> {
+    // How much of the memory an entry is lent to write to: first how many numbers.
+    pub(crate) fn room<'m, T>(&mut self, memory: &'m mut [T]) -> Result<&'m mut [T], Damaged>
+        requires { JOBS ≤ length memory.old }
+    {
         let count = self.at_most(JOBS)?;
-        Ok(List::new([T::from(7); JOBS], count))
+        Ok(&mut memory[..count])
     }
 }

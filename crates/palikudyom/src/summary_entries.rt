@@ -1,18 +1,20 @@
 // The entries over a summary that is kept beside a table, as `entries` has the others.
 use crate::asked::{Asked, LATER_NUMBERS};
-use crate::entries::Table;
+use crate::entries::{THREES, Table, UNWRITTEN};
 use crate::lines;
-use crate::stream::{LENGTHS, List, SUMMARY, Stream};
+use crate::stream::{JOBS, LENGTHS, SUMMARY, Stream};
 use checker::margins;
 use edits::edit::{Edit, edit_table};
 use plan::number::Damaged;
 use summaries::summary;
 
 pub(crate) fn make(rt: &impl Print, stream: &mut Stream<'_>, asked: Asked) -> Result<(), Damaged> {
-    let table = Table::read(stream, asked)?;
-    let mut out = stream.room()?;
-    let made = summary::make_summary(table.board, table.windows.as_slice(), out.as_mut_slice());
-    lines::filled(rt, "SUMMARY", made, out.as_slice());
+    let mut threes = [0; THREES];
+    let table = Table::read(stream, asked, &mut threes)?;
+    let mut memory = [UNWRITTEN; JOBS];
+    let out = stream.room(&mut memory)?;
+    let made = summary::make_summary(table.board, table.windows, out);
+    lines::filled(rt, "SUMMARY ", made, out);
     Ok(())
 }
 
@@ -21,16 +23,13 @@ pub(crate) fn least_supply(
     stream: &mut Stream<'_>,
     asked: Asked,
 ) -> Result<(), Damaged> {
-    let table = Table::read(stream, asked)?;
-    let kept: List<u32, SUMMARY> = stream.list(SUMMARY)?;
+    let mut threes = [0; THREES];
+    let table = Table::read(stream, asked, &mut threes)?;
+    let mut held = [0; SUMMARY];
+    let kept = stream.list(SUMMARY, &mut held)?;
     let length = stream.any()?;
-    let supply = summary::least_supply(
-        table.board,
-        table.windows.as_slice(),
-        kept.as_slice(),
-        length,
-    );
-    lines::amount(rt, "AMOUNT", supply);
+    let supply = summary::least_supply(table.board, table.windows, kept, length);
+    lines::amount(rt, "AMOUNT ", supply);
     Ok(())
 }
 
@@ -39,20 +38,18 @@ pub(crate) fn margins(
     stream: &mut Stream<'_>,
     asked: Asked,
 ) -> Result<(), Damaged> {
-    let table = Table::read(stream, asked)?;
-    let kept: List<u32, SUMMARY> = stream.list(SUMMARY)?;
-    let tasks: List<u32, LATER_NUMBERS> = stream.list(LATER_NUMBERS)?;
-    let lengths: List<u32, LENGTHS> = stream.list(LENGTHS)?;
-    let mut out = stream.room()?;
-    let found = margins::margins(
-        table.board,
-        table.windows.as_slice(),
-        kept.as_slice(),
-        tasks.as_slice(),
-        lengths.as_slice(),
-        out.as_mut_slice(),
-    );
-    lines::filled(rt, "MARGINS", found, out.as_slice());
+    let mut threes = [0; THREES];
+    let table = Table::read(stream, asked, &mut threes)?;
+    let mut held = [0; SUMMARY];
+    let kept = stream.list(SUMMARY, &mut held)?;
+    let mut numbers = [0; LATER_NUMBERS];
+    let tasks = stream.list(LATER_NUMBERS, &mut numbers)?;
+    let mut asked_lengths = [0; LENGTHS];
+    let lengths = stream.list(LENGTHS, &mut asked_lengths)?;
+    let mut memory = [i64::from(UNWRITTEN); JOBS];
+    let out = stream.room(&mut memory)?;
+    let found = margins::margins(table.board, table.windows, kept, tasks, lengths, out);
+    lines::filled(rt, "MARGINS ", found, out);
     Ok(())
 }
 
@@ -81,16 +78,12 @@ fn read_edit(stream: &mut Stream<'_>) -> Result<Edit, Damaged> {
 pub(crate) fn edit(rt: &impl Print, stream: &mut Stream<'_>, asked: Asked) -> Result<(), Damaged> {
     let board = asked.board(stream.any()?);
     let count = stream.any()?;
-    let mut windows: List<u32, LATER_NUMBERS> = stream.list(LATER_NUMBERS)?;
-    let mut kept: List<u32, SUMMARY> = stream.list(SUMMARY)?;
+    let mut threes = [0; LATER_NUMBERS];
+    let windows = stream.list(LATER_NUMBERS, &mut threes)?;
+    let mut held = [0; SUMMARY];
+    let kept = stream.list(SUMMARY, &mut held)?;
     let edit = read_edit(stream)?;
-    let edited = edit_table(
-        board,
-        count,
-        windows.as_mut_slice(),
-        kept.as_mut_slice(),
-        edit,
-    );
-    lines::edited(rt, edited, windows.as_slice(), kept.as_slice());
+    let edited = edit_table(board, count, windows, kept, edit);
+    lines::edited(rt, edited, windows, kept);
     Ok(())
 }
