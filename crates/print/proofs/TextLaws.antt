@@ -3,9 +3,10 @@ use mathlib.Core.Path.{◌≡◌, sym, ap, ◌∙◌}
 use Prim.Native.Nat.{ℕ, ◌+◌, ◌*◌, ◌/◌, ◌%◌, ◌^◌, ◌≤◌, ◌<◌}
 use mathlib.Core.List.{List, [], ◌∷◌, ◌++◌, append_assoc}
 use native.Mathlib.Numerals.{add-one}
-use lib.ListN.{length, get_or, take, length-append}
+use lib.ListN.{length, get_or, set, take, length-append}
 use lib.Seq.{length-take-le, take-suc}
 use native.Mathlib.Omega.{arith}
+use Rattle.std.proofs.lemmas.List.{take_more_set}
 use Rattle.scope.specs.Limits.{most_windows, most_tasks}
 use Rattle.scope.specs.Answers.{Fault.fine, window_list_fault, task_list_fault}
 use Rattle.scope.specs.Line.{digit, decimal}
@@ -33,11 +34,16 @@ tasks_short ts e = (task_list_legal ts (sym e)).1
 pub longer : {a : List ℕ} (b c : List ℕ) → a ≡ b ++ c → length a ≡ length b + length c
 longer b c e = ap length e ∙ length-append b c
 
--- in two steps: a number's first group and the others, its first digits and the last, the numbers so far and the next
-module _ (old : List ℕ) {mid new : List ℕ} where
-  pub groups_then : (n : ℕ) → 128 ≤ n → mid ≡ old ++ ((128 + n % 128) ∷ []) → new ≡ mid ++ number_bytes (n / 128) → new ≡ old ++ number_bytes n
-  groups_then n h e is = rw (is, e, number_more n h, append_assoc)
+-- a number stored in a buffer: its one group, or its first group and then the others
+module _ (old : List ℕ) (at : ℕ) (room : at < length old) (n : ℕ) where
+  pub group_then : n < 128 → take (at + 1) (set old at n) ≡ take at old ++ number_bytes n
+  group_then h = rw (number_one n h) (take_more_set old at n room)
 
+  pub groups_then : {new : List ℕ} → 128 ≤ n → new ≡ take (at + 1) (set old at (128 + n % 128)) ++ number_bytes (n / 128) → new ≡ take at old ++ number_bytes n
+  groups_then h is = rw (is, take_more_set old at (128 + n % 128) room, number_more n h, append_assoc)
+
+-- in two steps: a number's first digits and the last, the numbers so far and the next
+module _ (old : List ℕ) {mid new : List ℕ} where
   pub digits_then : (n : ℕ) → 10 ≤ n → mid ≡ old ++ decimal (n / 10) → new ≡ mid ++ (digit (n % 10) ∷ []) → new ≡ old ++ decimal n
   digits_then n h e is = rw (is, e, decimal_more n h, append_assoc)
 
@@ -48,7 +54,7 @@ module _ (old : List ℕ) {mid new : List ℕ} where
 -- what a digit or a group, a part of a text, and the checks before it is delivered ask for
 pub ruleset by_digits = (longer, length-append, digits_then, decimal_one, decimal_longer)
 
-pub ruleset by_groups = (longer, length-append, groups_then, number_one, number_longer)
+pub ruleset by_groups = (group_then, groups_then, number_one, number_longer)
 
 pub ruleset part_by_part = (longer, length-append, numbers_then, decimal_most, number_most, number_least)
 

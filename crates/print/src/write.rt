@@ -1,5 +1,5 @@
 // The bytes of a plan. Document 01, "The plan file and its line".
-ghost use Rattle.std.specs.Prelude.{◌≡◌, [], ◌++◌, ◌+◌, ◌*◌, ◌/◌, ◌≤◌, ◌<◌, length};
+ghost use Rattle.std.specs.Prelude.{◌≡◌, [], ◌++◌, ◌+◌, ◌*◌, ◌/◌, ◌≤◌, ◌<◌, length, take};
 ghost use Rattle.scope.specs.Limits.{most_settings};
 ghost use Rattle.scope.specs.Plan.{number_bytes, numbers_bytes, plan_bytes, write_answer, write_out};
 ghost use Rattle.tables.specs.Told.{told_amount};
@@ -20,28 +20,40 @@ pub enum Settings {
     WithRule { shortest: u32, rule: u32, lost: u32 },
 }
 
-// Seven bits a byte, the low ones first, the top bit set on every byte but the last.
+// A number from an offset on, and the offset after it. Seven bits a byte, the low ones first, the top bit set on every byte but the last.
 #[tactic(auto, using(crate::proofs::TextLaws::by_groups))]
+fn number_at(bytes: &mut [u8; LONGEST], at: usize, n: u32) -> usize
+    requires { at + length (number_bytes n) ≤ LONGEST }
+    ensures text { take result bytes.new ≡ take at bytes.old ++ number_bytes n }
+    ensures end { result ≡ at + length (number_bytes n) }
+{
+    if n < 128 {
+        bytes[at] = n as u8;
+        return at + 1;
+    }
+    bytes[at] = (128 + n % 128) as u8;
+    number_at(bytes, at + 1, n / 128)
+}
+
 fn put_number(text: &mut Text<LONGEST>, n: u32)
     requires { length (shown text.old) + length (number_bytes n) ≤ LONGEST }
     ensures { shown text.new ≡ shown text.old ++ number_bytes n }
 {
-    if n < 128 {
-        return text.push(n as u8);
-    }
-    text.push((128 + n % 128) as u8);
-    put_number(text, n / 128)
+    text.end = number_at(&mut text.bytes, text.end, n);
 }
 
+// The offset is stored once, at the end: stored with each number it would be read back from memory for the next.
 #[tactic(auto, using(crate::proofs::TextLaws::part_by_part), unfolding(scope::specs::Plan::numbers_bytes))]
 fn put_numbers(text: &mut Text<LONGEST>, list: &[u32])
     requires { length (shown text.old) + 5 * length list.now ≤ LONGEST }
     ensures list { shown text.new ≡ shown text.old ++ numbers_bytes list.now }
     ensures most { length (shown text.new) ≤ length (shown text.old) + 5 * length list.now }
 {
+    let mut at = text.end;
     for n in list {
-        put_number(text, *n);
+        at = number_at(&mut text.bytes, at, *n);
     }
+    text.end = at;
 }
 
 // How many windows or tasks, in one byte, then their numbers.

@@ -8,6 +8,6 @@ use Rattle.print.proofs.write.put_numbers.Given as goal
 
 abbrev pub invariant-loop-n : goal.invariant-loop-n
 invariant-loop-n l = record {
-  list : shown l.text ≡ shown l.initial.text ++ numbers_bytes (take l.n-index l.list);
-  most : length (shown l.text) ≤ length (shown l.initial.text) + 5 * l.n-index;
+  list : take l.at l.text.bytes ≡ shown l.initial.text ++ numbers_bytes (take l.n-index l.list);
+  most : l.at ≤ length (shown l.initial.text) + 5 * l.n-index;
 }
