@@ -11,13 +11,12 @@ ghost use Rattle.tables.specs.Told.{board_of, verdict_of, told_verdict};
 use crate::cycle::Cycle;
 use crate::rise::Dues;
 use crate::stretch::Stretch;
-use shared::table::own_table;
+use shared::table::{Room, own_table};
 use supply::supply::least_of;
 use tables::answer::{Refusal, Verdict};
 use tables::board::Board;
 use tables::group::Group;
 use tables::table::Table;
-use tables::window::Window;
 
 // `known` where it is enough for the demand, else the least supply of the length.
 #[tactic(auto, using(std::proofs::lemmas::Bool::Decides::nat_tests))]
@@ -43,9 +42,9 @@ fn search(table: Table<'_>, group: Group<'_>, cycle: u32) -> Verdict
     let mut dues = Dues::new(group);
     let mut demand = 0;
     let mut supply = 0;
-    let mut length = dues.rise_at(0).next;
+    let mut length = dues.rise_at(group, 0).next;
     'search: while length <= cycle {
-        let risen = dues.rise_at(length);
+        let risen = dues.rise_at(group, length);
         demand += risen.by;
         supply = known_or_least(table, length, supply, demand);
         if u64::from(supply) < demand {
@@ -85,7 +84,7 @@ fn verdict_on(table: Table<'_>, tasks: &[u32]) -> Result<Verdict, Refusal>
 pub fn verdict(board: Board, windows: &[u32], tasks: &[u32]) -> Result<Verdict, Refusal>
     ensures { told_verdict result ≡ verdict_for (board_of board) windows.now tasks.now }
 {
-    let mut room = [0; 2 * Window::MOST];
+    let mut room = Room::new();
     let table = own_table(board, windows, &mut room)?;
     verdict_on(table, tasks)
 }

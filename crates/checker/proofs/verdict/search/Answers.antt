@@ -13,18 +13,16 @@ use Rattle.checker.proofs.verdict.search.Goals as goal
 pub search-init : goal.search-init
 search-init c =
     let a = c.args in
-    let e = c.new-dues.ensures.0 in
-    let risen = rw e at c.rise_at-length.ensures.risen in
-    (refl, c.rise_at-length.ensures.group ∙ e, reached_first _ _ (table_row _ _ a.table.legal).repeats _ a.group.legal.rules _ _ risen)
+    (refl, reached_first _ _ (table_row _ _ a.table.legal).repeats _ a.group.legal.rules _ _ c.rise_at-length.ensures)
 
 -- the demand of the length, which is small
 pub overflow_add-demand : goal.overflow_add-demand
 overflow_add-demand c =
     let g = c.args.group in
     let s = c.search in
-    let risen = rw s.invariant.1 at c.rise_at-risen.ensures.risen in
+    let risen = c.rise_at-risen.ensures in
     let small = demand_most g.tasks.now s.length g.legal (omega (arith, c.search-test.true, c.requires)) in
-    omega (arith, s.invariant.2.demanded, risen.by, small)
+    omega (arith, s.invariant.1.demanded, risen.by, small)
 
 pub loop-start-init : goal.loop-start-init
 loop-start-init c =
@@ -54,7 +52,7 @@ search-smaller c =
     let a = c.args in
     let s = c.search in
     let short : s.length < most_number = omega (arith, c.search-test.true, c.requires) in
-    let risen = rw s.invariant.1 at c.rise_at-risen.ensures.risen in
+    let risen = c.rise_at-risen.ensures in
     omega (arith, c.search-test.true, next_later _ _ (table_row _ _ a.table.legal).repeats _ a.group.legal.rules _ _ _ short risen)
 
 pub search-preserved : goal.search-preserved
@@ -63,17 +61,16 @@ search-preserved c =
     let s = c.search in
     let per = (table_row _ _ a.table.legal).repeats in
     let short : s.length < most_number = omega (arith, c.search-test.true, c.requires) in
-    let risen = rw s.invariant.1 at c.rise_at-risen.ensures.risen in
-    let at = judged _ _ per _ _ _ _ _ _ _ _ s.invariant.2 risen c.known_or_least-supply.ensures in (
+    let risen = c.rise_at-risen.ensures in
+    let at = judged _ _ per _ _ _ _ _ _ _ _ s.invariant.1 risen c.known_or_least-supply.ensures in (
       s.invariant.0,
-      c.rise_at-risen.ensures.group ∙ s.invariant.1,
       reached_next _ _ per _ a.group.legal.rules _ _ _ _ _ short at (omega (arith, c.from.ensures, c.if-from-demand.false)),
     )
 
 pub returns-after-search : goal.returns-after-search
 returns-after-search c =
     let s = c.search in
-    ap verdict_of s.invariant.0 ∙ search_meets _ _ (table_row _ _ c.args.table.legal).repeats _ _ s.length c.search-test.false s.invariant.2.past
+    ap verdict_of s.invariant.0 ∙ search_meets _ _ (table_row _ _ c.args.table.legal).repeats _ _ s.length c.search-test.false s.invariant.1.past
 
 pub returns-then-stretch-least : goal.returns-then-stretch-least
 returns-then-stretch-least c =
@@ -81,7 +78,7 @@ returns-then-stretch-least c =
     let l = c.loop-start in
     let ok = c.args.table.legal in
     let per = (table_row _ _ ok).repeats in
-    let risen = rw s.invariant.1 at c.rise_at-risen.ensures.risen in
-    let at = judged _ _ per _ _ _ _ _ _ _ _ s.invariant.2 risen c.known_or_least-supply.ensures in
+    let risen = c.rise_at-risen.ensures in
+    let at = judged _ _ per _ _ _ _ _ _ _ _ s.invariant.1 risen c.known_or_least-supply.ensures in
     let found = start_found _ _ ok _ _ _ l.invariant.2 c.least_of-least.ensures c.if-stretch-least.true in
     search_misses _ _ per _ _ _ _ _ _ _ _ c.search-test.true at (omega (arith, c.from.ensures, c.if-from-demand.true)) (l.invariant.1 ∙ found)

@@ -14,7 +14,6 @@ invariant-loop-start l =
 abbrev pub invariant-search : goal.invariant-search
 invariant-search l =
     (l.found ≡ Meets l.cycle)
-    × (l.dues.group ≡ l.group)
     × Reached (supplied_by (framed l.table.frame) l.table.windows.now) l.table.frame (tasks_of l.group.tasks.now) l.length l.demand l.supply l.dues.due
 
 abbrev pub decreases-search : goal.decreases-search
