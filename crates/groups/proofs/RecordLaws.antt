@@ -51,37 +51,20 @@ pub record_more : (ns : List ℕ) (xs : List Task) (i : ℕ) (x : Task) → i < 
 record_more ns xs i x h l e so =
     ap (λ (k : ℕ). take k (set xs i x)) (add-one i) ∙ take-suc-set xs i x l ∙ ap (λ (ys : List Task). ys ++ (x ∷ [])) so ∙ record_is ns i x h e
 
--- a check that is no error found no fault
-pub listed : {f : Fault} (r : Result (Unit {0}) Refusal) → fault_of r ≡ f → is_err r ≡ false → f ≡ fine
-listed (Ok u) e z = sym e
-listed (Err r) e z = absurd (true≢false z)
+-- how many are lent, by what the check of the list answers
+pub lent_passed : (ns : List ℕ) (r : Result (Unit {0}) Refusal) → fault_of r ≡ task_list_fault ns → is_err r ≡ false → length ns / 3 ≡ lent_records ns
+lent_passed ns (Ok u) e z = ap (λ (f : Fault). lent_of f (length ns / 3)) e
+lent_passed ns (Err r) e z = absurd (true≢false z)
 
--- all of them are, where the list is not refused
-pub all_made : (ns : List ℕ) (xs : List Task) (i : ℕ) → task_list_fault ns ≡ fine → i ≡ length ns / 3 → take i xs ≡ take i (records_of ns) →
-    Alike (numbers_of (take i xs)) ns
-all_made ns xs i f all so =
-    inl (ap numbers_of (so ∙ take_all i (records_of ns) (omega (arith, records_length ns)))
-    ∙ records_numbers ns (task_list_legal ns f).0)
+pub lent_refused : (ns : List ℕ) (r : Result (Unit {0}) Refusal) → fault_of r ≡ task_list_fault ns → is_err r ≡ true → enough_records ≡ lent_records ns
+lent_refused ns (Ok u) e z = absurd (true≢false (sym z))
+lent_refused ns (Err r) e z = ap (λ (f : Fault). lent_of f (length ns / 3)) e
 
-list_number : (ns : List ℕ) {n p : ℕ} → task_list_fault ns ≡ fault n p → task_list_fault ns ≡ fault 4 0
-unfolding task_list_fault
-list_number ns {n} {p} = go (bad_count 3 most_tasks ns)
-  where
-    go : (b : Bool) → fault_if b 4 0 ≡ fault n p → fault_if b 4 0 ≡ fault 4 0
-    go true e = refl
-    go false e = absurd (fault_not_fine (sym e))
-
--- where it is, more records than a group may have are refused as it is
-pub over_alike : (ns : List ℕ) (xs : List Task) (r : Result (Unit {0}) Refusal) → fault_of r ≡ task_list_fault ns → is_err r ≡ true →
-    length xs ≡ enough_records → Alike (numbers_of xs) ns
-over_alike ns xs (Ok u) f z long = absurd (true≢false (sym z))
-over_alike ns xs (Err e) f z long = inr (over (numbers_of xs) (omega (arith, numbers_length xs)), bad_list ns (list_number ns (sym f)))
-
--- ---- over any array of them: the records that are lent are those of the numbers, or both are refused
-
+-- what `Gathered::new` says of the records
 abbrev pub Gathered : List ℕ → List Task → Type 0
 Gathered ns xs = (length xs ≡ enough_records) × (take (made_records ns) xs ≡ take (made_records ns) (records_of ns))
 
+-- the records that are lent are those of the numbers, or both are refused
 pub lent_alike : (ns : List ℕ) (xs : List Task) (k : ℕ) → Gathered ns xs → k ≡ lent_records ns → Alike (numbers_of (take k xs)) ns
 lent_alike ns xs k made e = go (bad_count 3 most_tasks ns) refl
   where
@@ -100,3 +83,10 @@ lent_alike ns xs k made e = go (bad_count 3 most_tasks ns) refl
     go : (t : Bool) → bad_count 3 most_tasks ns ≡ t → Alike (numbers_of (take k xs)) ns
     go true bad = refused (list_by ns true bad)
     go false good = let c = count_fine 3 most_tasks ns good in inl (whole (list_by ns false good) c.0 c.1)
+
+pub lent_within : (ns : List ℕ) (k : ℕ) → k ≡ lent_records ns → k ≤ enough_records
+lent_within ns k e = go (task_list_fault ns) refl
+  where
+    go : (f : Fault) → task_list_fault ns ≡ f → k ≤ enough_records
+    go fine t = let m : k ≡ length ns / 3 = e ∙ ap (λ (f : Fault). lent_of f (length ns / 3)) t in omega (arith, (task_list_legal ns t).1)
+    go (fault n p) t = let m : k ≡ enough_records = e ∙ ap (λ (f : Fault). lent_of f (length ns / 3)) t in omega arith

@@ -1,5 +1,5 @@
 ghost use Rattle.std.specs.Prelude.{◌≡◌, ◌*◌, ◌≤◌, take};
-ghost use Rattle.records.specs.Numbers.{numbers_of, enough_records};
+ghost use Rattle.records.specs.Numbers.{numbers_of, enough_records, enough_numbers};
 ghost use Rattle.records.specs.Alike.{Alike};
 
 use tables::task::Task;
@@ -18,7 +18,8 @@ impl Flat {
 
     // The numbers of as many records as are enough.
     pub(crate) fn new(tasks: &[Task]) -> Flat
-        ensures { Alike (take (3 * result.records) result.numbers) (numbers_of tasks.now) }
+        ensures first { take (3 * result.records) result.numbers ≡ take enough_numbers (numbers_of tasks.now) }
+        ensures alike { Alike (take (3 * result.records) result.numbers) (numbers_of tasks.now) }
     {
         let mut numbers = [0; 3 * Flat::MOST];
         let records = tasks.len().min(Flat::MOST);

@@ -3,4 +3,4 @@ use Rattle.records.proofs.AlikeLaws.{alike_demand}
 use Rattle.groups.proofs.demand.demand.Goals as goal
 
 pub returns : goal.returns
-returns c = c.demand.ensures ∙ alike_demand _ _ (rw c.tasks.ensures c.new-gathered.ensures) _
+returns c = c.demand.ensures ∙ alike_demand _ _ (rw c.tasks.ensures c.new-gathered.ensures.alike) _

@@ -4,6 +4,6 @@ use Rattle.groups.proofs.run.run.Goals as goal
 
 pub returns : goal.returns
 returns c = record {
-  answer = c.run.ensures.answer ∙ alike_run _ _ (rw c.tasks.ensures c.new-gathered.ensures) _ _ _ _ _;
-  buffer = c.run.ensures.buffer ∙ alike_out _ _ (rw c.tasks.ensures c.new-gathered.ensures) _ _ _ _ _;
+  answer = c.run.ensures.answer ∙ alike_run _ _ (rw c.tasks.ensures c.new-gathered.ensures.alike) _ _ _ _ _;
+  buffer = c.run.ensures.buffer ∙ alike_out _ _ (rw c.tasks.ensures c.new-gathered.ensures.alike) _ _ _ _ _;
 }

@@ -4,6 +4,6 @@ use Rattle.records.proofs.run.run.Goals as goal
 
 pub returns : goal.returns
 returns c = record {
-  answer = c.run.ensures.answer ∙ alike_run _ _ (rw c.numbers.ensures c.new-flat.ensures) _ _ _ _ _;
-  buffer = c.run.ensures.buffer ∙ alike_out _ _ (rw c.numbers.ensures c.new-flat.ensures) _ _ _ _ _;
+  answer = c.run.ensures.answer ∙ alike_run _ _ (rw c.numbers.ensures c.new-flat.ensures.alike) _ _ _ _ _;
+  buffer = c.run.ensures.buffer ∙ alike_out _ _ (rw c.numbers.ensures c.new-flat.ensures.alike) _ _ _ _ _;
 }

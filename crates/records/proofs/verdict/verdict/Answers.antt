@@ -3,4 +3,4 @@ use Rattle.records.proofs.AlikeLaws.{alike_verdict}
 use Rattle.records.proofs.verdict.verdict.Goals as goal
 
 pub returns : goal.returns
-returns c = c.verdict.ensures ∙ alike_verdict _ _ (rw c.numbers.ensures c.new-flat.ensures) _ _
+returns c = c.verdict.ensures ∙ alike_verdict _ _ (rw c.numbers.ensures c.new-flat.ensures.alike) _ _

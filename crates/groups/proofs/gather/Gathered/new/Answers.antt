@@ -1,39 +1,30 @@
-use Prim.Native.Nat.{◌/◌}
-use lib.ListN.{length}
-use mathlib.Core.Path.{◌≡◌, refl, sym, ◌∙◌}
+use mathlib.Core.Path.{◌≡◌, sym, ap, ◌∙◌}
+use Prim.Native.Nat.{ℕ}
 use native.Mathlib.Omega.{arith}
 use borrow.Author.Rules.{rules}
-use Rattle.theory.specs.Answers.{task_list_legal}
-use Rattle.groups.proofs.RecordLaws.{listed, record_more, all_made, over_alike}
+use lib.ListN.{take}
+use Rattle.groups.specs.Records.{records_of, made_records}
+use Rattle.groups.proofs.RecordLaws.{record_more, lent_alike, lent_within}
 use Rattle.groups.proofs.gather.Gathered.new.Goals as goal
-
-pub returns-then-is_err : goal.returns-then-is_err
-returns-then-is_err c =
-    over_alike c.args.numbers.now _ c.check_task_list.result c.check_task_list.ensures (sym c.is_err.ensures.value ∙ c.if-is_err.true) refl
-
-pub bounds-tasks-i : goal.bounds-tasks-i
-bounds-tasks-i c =
-    let fine = listed c.check_task_list.result c.check_task_list.ensures (sym c.is_err.ensures.value ∙ c.if-is_err.false) in
-    omega (arith, (task_list_legal c.args.numbers.now fine).1)
 
 pub loop-i-preserved : goal.loop-i-preserved
 loop-i-preserved c =
+    let ns = c.args.numbers.now in
     let l = c.loop-i in
-    let fine = listed c.check_task_list.result c.check_task_list.ensures (sym c.is_err.ensures.value ∙ c.if-is_err.false) in
+    let n : c.min-made.result ≡ made_records ns = c.min-made.ensures in
     record {
       room = search rules;
-      made = record_more c.args.numbers.now l.tasks l.i c.task_at.result (omega arith)
-          (omega (arith, l.invariant.room, (task_list_legal c.args.numbers.now fine).1)) c.task_at.ensures l.invariant.made;
+      made = record_more ns l.tasks l.i c.task_at.result (omega arith) (omega (arith, l.invariant.room)) c.task_at.ensures l.invariant.made;
     }
 
-pub invariant_of-result-2 : goal.invariant_of-result-2
-invariant_of-result-2 c =
-    let fine = listed c.check_task_list.result c.check_task_list.ensures (sym c.is_err.ensures.value ∙ c.if-is_err.false) in
-    record { within = omega (arith, (task_list_legal c.args.numbers.now fine).1) }
+pub invariant_of-result : goal.invariant_of-result
+invariant_of-result c = record { within = lent_within _ _ c.lent.ensures }
 
-pub returns : goal.returns
-returns c =
+pub returns-clause-alike : goal.returns-clause-alike
+returns-clause-alike c =
+    let ns = c.args.numbers.now in
     let l = c.loop-i in
-    let fine = listed c.check_task_list.result c.check_task_list.ensures (sym c.is_err.ensures.value ∙ c.if-is_err.false) in
-    let at : l.i ≡ length c.args.numbers.now / 3 = omega arith in
-    rw (← at) (all_made c.args.numbers.now l.tasks l.i fine at l.invariant.made)
+    let n : c.min-made.result ≡ made_records ns = c.min-made.ensures in
+    let i : l.i ≡ made_records ns = omega arith in
+    let made = ap (λ (k : ℕ). take k l.tasks) (sym i) ∙ l.invariant.made ∙ ap (λ (k : ℕ). take k (records_of ns)) i in
+    lent_alike ns l.tasks c.lent.result (l.invariant.room, made) c.lent.ensures

@@ -32,4 +32,4 @@ returns c =
     let at : l.i ≡ n = omega (arith, length-take-le n c.args.tasks.now (omega arith)) in
     let front = ap (λ (k : ℕ). take (3 * k) l.numbers) (sym at) ∙ l.invariant.so_far ∙ ap (λ (k : ℕ). numbers_of (take k c.args.tasks.now)) at
     ∙ enough_is c.args.tasks.now n c.min-records.ensures in
-    rw front (enough_alike c.args.tasks.now)
+    record { first = front; alike = rw front (enough_alike c.args.tasks.now) }
