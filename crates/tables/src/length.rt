@@ -14,21 +14,21 @@ impl Length {
     // An asked length: at most 1,000,000.
     pub const LONGEST: u32 = 1000000;
 
-    #[tactic(auto, using(crate::proofs::FaultLaws::answered), unfolding(scope::specs::Answers::length_answer))]
     pub fn new(ticks: u32) -> Result<Length, Refusal>
         ensures { told_length result ≡ length_answer ticks }
     {
-        check_length(ticks)?;
+        if Length::LONGEST < ticks {
+            return Err(Refusal::Asked);
+        }
         Ok(Length { ticks })
     }
 }
 
 // Refusal 7 of a length.
+#[tactic(auto, using(crate::proofs::FaultLaws::answered), unfolding(scope::specs::Answers::length_answer))]
 pub fn check_length(ticks: u32) -> Result<(), Refusal>
     ensures { fault_of result ≡ length_fault ticks }
 {
-    if Length::LONGEST < ticks {
-        return Err(Refusal::Asked);
-    }
+    Length::new(ticks)?;
     Ok(())
 }

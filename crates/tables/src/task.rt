@@ -110,11 +110,19 @@ pub fn check_task_list(tasks: &[u32]) -> Result<(), Refusal>
     Ok(())
 }
 
+// Whether the numbers of task i are a task's.
+fn is_task_at(tasks: &[u32], i: usize) -> bool
+    ensures { result ≡ task_legal (task_at (tasks_of tasks.now) i) }
+{
+    let task = task_at(tasks, i);
+    is_task(task.work, task.period, task.deadline)
+}
+
 // Refusal 5, at the lowest index.
 fn check_each_task(tasks: &[u32]) -> Result<(), Refusal>
     ensures { fault_of result ≡ task_fault (tasks_of tasks.now) }
 {
-    match (0..tasks.len() / 3).find(|&i| !task_at(tasks, i).legal()) {
+    match (0..tasks.len() / 3).find(|&i| !is_task_at(tasks, i)) {
         Some(i) => Err(Refusal::Task(i as u64)),
         None => Ok(()),
     }
