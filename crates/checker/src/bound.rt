@@ -7,14 +7,13 @@ ghost use Rattle.scope.specs.Answers.{bound_answer};
 ghost use Rattle.scope.specs.Shared.{bound_for};
 ghost use Rattle.tables.specs.Told.{board_of, bound_of, told_bound};
 
-use shared::table::own_table;
+use shared::table::{Room, own_table};
 use supply::supply::least_of;
 use tables::answer::Refusal;
 use tables::board::Board;
 use tables::group::Group;
 use tables::table::Table;
 use tables::task::task_at;
-use tables::window::Window;
 
 // What task `index` and those above it ask for in `length` ticks.
 #[tactic(auto, using(crate::proofs::BoundLaws::asking))]
@@ -74,7 +73,7 @@ pub fn bound(
 ) -> Result<Option<u32>, Refusal>
     ensures { told_bound result ≡ bound_for (board_of board) windows.now tasks.now index }
 {
-    let mut room = [0; 2 * Window::MOST];
+    let mut room = Room::new();
     let table = own_table(board, windows, &mut room)?;
     bound_on(table, tasks, index)
 }

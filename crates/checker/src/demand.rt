@@ -6,7 +6,7 @@ ghost use Rattle.scope.specs.Answers.{demand_answer, margin_answer};
 ghost use Rattle.scope.specs.Shared.{margin_for};
 ghost use Rattle.tables.specs.Told.{board_of, told_amount, told_margin};
 
-use shared::table::own_table;
+use shared::table::{Room, own_table};
 use supply::supply::least_of;
 use tables::answer::Refusal;
 use tables::board::Board;
@@ -14,7 +14,6 @@ use tables::group::Group;
 use tables::length::check_length;
 use tables::table::Table;
 use tables::task::task_at;
-use tables::window::Window;
 
 // The demand of a group.
 #[tactic(auto, using(crate::proofs::DemandLaws::demanded))]
@@ -64,7 +63,7 @@ fn margin_on(table: Table<'_>, tasks: &[u32], length: u32) -> Result<i64, Refusa
 pub fn margin(board: Board, windows: &[u32], tasks: &[u32], length: u32) -> Result<i64, Refusal>
     ensures { told_margin result ≡ margin_for (board_of board) windows.now tasks.now length }
 {
-    let mut room = [0; 2 * Window::MOST];
+    let mut room = Room::new();
     let table = own_table(board, windows, &mut room)?;
     margin_on(table, tasks, length)
 }

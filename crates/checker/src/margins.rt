@@ -9,7 +9,7 @@ ghost use Rattle.scope.specs.Summary.{margin_from, lengths_fault, margins_answer
 ghost use Rattle.tables.specs.Told.{board_of, fault_of, told_amount};
 
 use crate::demand::{demand_of, difference};
-use shared::table::own_table;
+use shared::table::{Room, own_table};
 use summaries::least::least_from;
 use supply::summary::check_belongs;
 use tables::answer::Refusal;
@@ -18,7 +18,6 @@ use tables::group::Group;
 use tables::length::check_length;
 use tables::list::check_room;
 use tables::table::Table;
-use tables::window::Window;
 
 // Refusal 7 of lengths, one of which is over the longest.
 #[tactic(auto, using(crate::proofs::MarginLaws::each_length))]
@@ -97,7 +96,7 @@ pub fn margins(
     ensures buffer { out.new
         ≡ margins_out_for (board_of board) windows.now summary.now tasks.now lengths.now out.old }
 {
-    let mut room = [0; 2 * Window::MOST];
+    let mut room = Room::new();
     let table = own_table(board, windows, &mut room)?;
     margins_on(table, summary, tasks, lengths, out)
 }

@@ -18,11 +18,11 @@ use Rattle.scope.specs.Shared.{Owned, owned, own, shared_fault}
 use Rattle.scope.specs.Summary.{summary_of, make_fault, make_answer, make_out, summary_fault, Edit, spliced, index_fault, table_in, count_fault, edited_list, edit_fault, edit_answer, edit_windows, edit_summary}
 use Rattle.theory.specs.Answers.{or_else_fine, unless_given, room_fine}
 use Rattle.theory.specs.Lists.{pieces_length}
-use Rattle.theory.specs.Shared.{whole, shared_parts, own_fine, asked_fine}
+use Rattle.theory.specs.Shared.{whole, shared_parts, own_fine}
 use Rattle.theory.specs.Buffers.{take_written}
 use Rattle.theory.specs.Alone.{Entry, make_entry, make_out_entry}
 use Rattle.tables.proofs.FaultLaws.{fault_of_lem, none_of, or_assoc, stopped, passed, given_there}
-use Rattle.shared.specs.Lent.{own_table_answer, own_table_fine, asked_table}
+use Rattle.shared.specs.Lent.{own_table_answer, own_table_fine, table_entry}
 use Rattle.edits.specs.Stored.{ready_fault, store_fault, store_answer, store_windows, store_summary}
 
 -- ---- the asked owner's windows, as a table
@@ -46,7 +46,7 @@ module _ (owners : ℕ) (b : Board) (ws : List ℕ) where
     own_given = none_of (shared_fault owners b ws) _ _ e
 
     own_entry : {R : Type 0} {refusal : ℕ → ℕ → R} {entry : Board → List ℕ → R} → Entry refusal entry → entry (framed P) mine ≡ entry b (own b ws)
-    own_entry {R} {refusal} {entry} is = asked_table is owners b ws e ∙ asked_fine owners b ws refusal (entry b) (sym own_given)
+    own_entry is = table_entry is owners b ws e
 
     own_belongs : (summary : List ℕ) → summary_fault (framed P) mine summary ≡ summary_fault b (own b ws) summary
     own_belongs summary =

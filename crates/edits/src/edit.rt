@@ -8,7 +8,7 @@ ghost use Rattle.edits.specs.Told.{edit_of};
 ghost use Rattle.edits.specs.Stored.{ready_fault, store_answer, store_windows, store_summary};
 
 use crate::splice::splice;
-use shared::table::own_table;
+use shared::table::{Room, own_table};
 use supply::summary::{check_belongs, make_of};
 use tables::answer::{Edited, Refusal};
 use tables::board::Board;
@@ -79,7 +79,7 @@ fn edited<'a>(list: &[u32], edit: Edit, room: &'a mut [u32]) -> &'a [u32]
 fn check_ready(board: Board, list: &[u32], summary: &[u32], edit: Edit) -> Result<(), Refusal>
     ensures { fault_of result ≡ ready_fault teams (board_of board) list.now summary.now (edit_of edit) (length list.now / 3) }
 {
-    let mut room = [0; 2 * Window::MOST];
+    let mut room = Room::new();
     let table = own_table(board, list, &mut room)?;
     check_belongs(table, summary)?;
     check_index(edit, list.len() / 3)
@@ -98,7 +98,7 @@ fn store(
     ensures list { windows.new ≡ store_windows teams (board_of board) new.now windows.old (length summary.old) }
     ensures held { summary.new ≡ store_summary teams (board_of board) new.now (length windows.old) summary.old }
 {
-    let mut room = [0; 2 * Window::MOST];
+    let mut room = Room::new();
     let table = own_table(board, new, &mut room)?;
     let needed = new.len();
     check_room(needed, windows.len())?;

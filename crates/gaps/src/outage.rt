@@ -6,11 +6,11 @@ ghost use Rattle.scope.specs.Partition.{outage as outageBy};
 ghost use Rattle.scope.specs.Shared.{outage_for};
 ghost use Rattle.tables.specs.Told.{board_of, told_amount};
 
-use shared::table::own_table;
+use shared::table::{Room, own_table};
 use tables::answer::Refusal;
 use tables::board::Board;
 use tables::table::Table;
-use tables::window::{Window, window_at};
+use tables::window::window_at;
 
 // The gap from the end of the last window to the first one's start in the next frame.
 fn last_gap(frame: u32, end: u32, start: u32) -> u32
@@ -40,7 +40,7 @@ fn outage_of(table: Table<'_>) -> u32
 pub fn outage(board: Board, windows: &[u32]) -> Result<u64, Refusal>
     ensures { told_amount result ≡ outage_for (board_of board) windows.now }
 {
-    let mut room = [0; 2 * Window::MOST];
+    let mut room = Room::new();
     let table = own_table(board, windows, &mut room)?;
     Ok(u64::from(outage_of(table)))
 }

@@ -15,12 +15,11 @@ use crate::late::late;
 use crate::places::Place;
 use crate::tick::advance;
 use jobs::check::check_jobs;
-use shared::table::own_table;
+use shared::table::{Room, own_table};
 use tables::answer::Refusal;
 use tables::board::Board;
 use tables::list::check_room;
 use tables::task::Task;
-use tables::window::Window;
 
 // What a run answers.
 #[derive(Clone, Copy, Debug, PartialEq, Eq)]
@@ -85,7 +84,7 @@ pub fn run(
     ensures buffer { counts.new ≡ run_out_for (board_of board) windows.now
         tasks.now n jobs.now counts.old }
 {
-    let mut room = [0; 2 * Window::MOST];
+    let mut room = Room::new();
     let table = own_table(board, windows, &mut room)?;
     check_run(tasks, n, jobs, counts.len())?;
     let course = Course {

@@ -1,12 +1,12 @@
 // A table that teams share, in threes of start, end and owner: its checks, and what is left of the windows of the owner that is asked for. Document 02,
 // requests 4, 5 and 7.
-ghost use Rattle.std.specs.Prelude.{◌≡◌, ◌&&◌, ◌-◌, ◌≤◌, ltb, eqb, length};
+ghost use Rattle.std.specs.Prelude.{◌≡◌, ◌&&◌, ◌*◌, ◌-◌, ◌≤◌, ltb, eqb, length, replicate};
 ghost use Rattle.scope.specs.Numbers.{written};
 ghost use Rattle.scope.specs.Answers.{Fault.fine, fault_at};
 ghost use Rattle.scope.specs.Shared.{owned, owned_of, owned_at, own, own_left, lost_fault, absent_owner_fault, follows, owned_legal, owned_fault, owned_answer, whole_fault};
 ghost use Rattle.scope.specs.Shared.{sliver, first_sliver, sliver_fault};
 ghost use Rattle.scope.specs.Shared.{shared_fault, own_answer, own_out, as_owned, as_owned_answer, as_owned_out};
-ghost use Rattle.scope.specs.Limits.{teams};
+ghost use Rattle.scope.specs.Limits.{teams, most_windows};
 ghost use Rattle.tables.specs.Told.{board_of, fault_of, told_amount};
 ghost use Rattle.tables.specs.Lent.{told_table};
 ghost use Rattle.shared.specs.Lent.{own_table_answer};
@@ -243,21 +243,36 @@ pub fn own_windows(
     Ok(gather(board, windows, out) as u64)
 }
 
+// Where a table's windows stand as long as it is asked. Nobody but the table shows what is in it, so nothing is left to say of it afterwards.
+#[derive(Drop)]
+pub struct Room {
+    numbers: [u32; 2 * Window::MOST],
+}
+
+impl Room {
+    pub fn new() -> Room
+        ensures { result.numbers ≡ replicate (2 * most_windows) 0 }
+    {
+        Room {
+            numbers: [0; 2 * Window::MOST],
+        }
+    }
+}
+
 // What is left of the asked owner's windows, as a table that was checked; the room is lent to it. Refusals: a table's.
 // Each entry makes the room and asks for the table itself: one function over what is asked of the table would need each entry's contract as its own.
 #[tactic(auto, using(crate::proofs::SharedLaws::none_lent))]
 pub fn own_table<'a>(
     board: Board,
     windows: &[u32],
-    room: &'a mut [u32; 2 * Window::MOST],
+    room: &'a mut Room,
 ) -> Result<Table<'a>, Refusal>
     ensures { told_table result ≡ own_table_answer teams (board_of board) windows.now }
 {
-    let left = own_windows(Owned::TEAMS, board, windows, room)?;
-    let room: &[u32] = room;
+    let left = own_windows(Owned::TEAMS, board, windows, &mut room.numbers)?;
     Ok(Table {
         frame: board.frame,
-        windows: &room[..left as usize],
+        windows: &room.numbers[..left as usize],
     })
 }
 

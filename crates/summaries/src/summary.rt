@@ -5,19 +5,18 @@ ghost use Rattle.scope.specs.Summary.{least_from_answer, make_for, make_out_for,
 ghost use Rattle.tables.specs.Told.{board_of, told_amount};
 
 use crate::least::least_from;
-use shared::table::own_table;
+use shared::table::{Room, own_table};
 use supply::summary::{check_belongs, make_of};
 use tables::answer::Refusal;
 use tables::board::Board;
 use tables::table::Table;
-use tables::window::Window;
 
 // The summary of the asked owner's windows. Refusals: a table's, then 8.
 pub fn make_summary(board: Board, windows: &[u32], out: &mut [u32]) -> Result<u64, Refusal>
     ensures answer { told_amount result ≡ make_for (board_of board) windows.now (length out.old) }
     ensures buffer { out.new ≡ make_out_for (board_of board) windows.now out.old }
 {
-    let mut room = [0; 2 * Window::MOST];
+    let mut room = Room::new();
     let table = own_table(board, windows, &mut room)?;
     make_of(table, out)
 }
@@ -40,7 +39,7 @@ pub fn least_supply(
 ) -> Result<u64, Refusal>
     ensures { told_amount result ≡ least_from_for (board_of board) windows.now summary.now length }
 {
-    let mut room = [0; 2 * Window::MOST];
+    let mut room = Room::new();
     let table = own_table(board, windows, &mut room)?;
     least_from_in(table, summary, length)
 }

@@ -10,12 +10,11 @@ ghost use Rattle.supply.specs.Measures.{has_at, met_of, Measured};
 
 use crate::supply::least_at_ends;
 use crate::walk::Pieces;
-use shared::table::own_table;
+use shared::table::{Room, own_table};
 use tables::answer::{Delay, Refusal};
 use tables::board::Board;
 use tables::list::check_room;
 use tables::table::Table;
-use tables::window::Window;
 
 // A, how many numbers the critical partition has, the delay, and whether the numbers that are held begin with the partition.
 #[derive(Clone, Copy)]
@@ -126,7 +125,7 @@ pub fn critical(board: Board, windows: &[u32], out: &mut [u32]) -> Result<u64, R
     ensures answer { told_amount result ≡ critical_for (board_of board) windows.now (length out.old) }
     ensures buffer { out.new ≡ critical_out_for (board_of board) windows.now out.old }
 {
-    let mut room = [0; 2 * Window::MOST];
+    let mut room = Room::new();
     let table = own_table(board, windows, &mut room)?;
     critical_on(table, out)
 }
@@ -147,7 +146,7 @@ fn delay_on(table: Table<'_>) -> Delay
 pub fn delay(board: Board, windows: &[u32]) -> Result<Delay, Refusal>
     ensures { told_delay result ≡ delay_for (board_of board) windows.now }
 {
-    let mut room = [0; 2 * Window::MOST];
+    let mut room = Room::new();
     let table = own_table(board, windows, &mut room)?;
     Ok(delay_on(table))
 }

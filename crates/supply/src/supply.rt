@@ -7,7 +7,7 @@ ghost use Rattle.scope.specs.Shared.{supplied_for, least_supply_for};
 ghost use Rattle.tables.specs.Told.{board_of, told_supplied, told_amount};
 
 use crate::row::{Position, moved, upto, window_of};
-use shared::table::own_table;
+use shared::table::{Room, own_table};
 use tables::answer::Refusal;
 use tables::board::Board;
 use tables::length::check_length;
@@ -92,7 +92,7 @@ pub fn least_in(frame: u32, windows: &[u32], length: u32) -> Result<u64, Refusal
 pub fn supplied(board: Board, windows: &[u32], tick: u32) -> Result<bool, Refusal>
     ensures { told_supplied result ≡ supplied_for (board_of board) windows.now tick }
 {
-    let mut room = [0; 2 * Window::MOST];
+    let mut room = Room::new();
     let table = own_table(board, windows, &mut room)?;
     Ok(is_on(table.frame, table.windows, u64::from(tick)))
 }
@@ -101,7 +101,7 @@ pub fn supplied(board: Board, windows: &[u32], tick: u32) -> Result<bool, Refusa
 pub fn least_supply(board: Board, windows: &[u32], length: u32) -> Result<u64, Refusal>
     ensures { told_amount result ≡ least_supply_for (board_of board) windows.now length }
 {
-    let mut room = [0; 2 * Window::MOST];
+    let mut room = Room::new();
     let table = own_table(board, windows, &mut room)?;
     least_on(table, length)
 }

@@ -1,5 +1,4 @@
 use mathlib.Core.Path.{sym}
-use lib.Seq.{length-take-le}
 use native.Mathlib.Omega.{arith}
 use Rattle.scope.specs.Limits.{teams}
 use Rattle.theory.specs.Answers.{pairs_legal}
@@ -8,10 +7,10 @@ use Rattle.tables.specs.Told.{board_of}
 use Rattle.shared.specs.Lent.{own_table_answer}
 use Rattle.shared.proofs.table.own_table.Goals as goal
 
-pub slice_bounds-result-end : goal.slice_bounds-result-end
-slice_bounds-result-end c =
+pub shared_ref_as_front-result : goal.shared_ref_as_front-result
+shared_ref_as_front-result c =
     let t = taken teams (board_of c.args.board) c.args.windows.now _ _ _ (sym c.in_ok-left.ensures.answer) c.in_ok-left.ensures.buffer in
-    sym (length-take-le _ c.own_windows.new.out (omega (arith, t.few)))
+    omega (arith, t.few)
 
 pub invariant_of-result : goal.invariant_of-result
 invariant_of-result c = record { legal = pairs_legal _ _ (taken teams (board_of c.args.board) c.args.windows.now _ _ _ (sym c.in_ok-left.ensures.answer) c.in_ok-left.ensures.buffer).fine_front }
