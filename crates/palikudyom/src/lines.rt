@@ -25,15 +25,42 @@ fn line(rt: &impl Print, text: impl fmt::Display + Drop) {
     let _ = out.write_str("\n");
 }
 
+// A number as a line has it: a minus sign is a piece of its own.
+pub(crate) trait Number: Copy {
+    fn sign(self) -> &'static str;
+
+    fn size(self) -> u64;
+}
+
+impl Number for u32 {
+    fn sign(self) -> &'static str {
+        ""
+    }
+
+    fn size(self) -> u64 {
+        u64::from(self)
+    }
+}
+
+impl Number for i64 {
+    fn sign(self) -> &'static str {
+        if self < 0 { "-" } else { "" }
+    }
+
+    fn size(self) -> u64 {
+        self.unsigned_abs()
+    }
+}
+
 // Lent memory after a call: each number after a space.
 #[derive(Drop)]
 struct Buffer<'a, T>(&'a [T]);
 
-impl<T: fmt::Display> fmt::Display for Buffer<'_, T> {
+impl<T: Number> fmt::Display for Buffer<'_, T> {
     fn fmt<W: fmt::Write>(&self, f: &mut fmt::Formatter<W>) -> fmt::Result {
         write!(f, " BUFFER")?;
         for n in self.0 {
-            write!(f, " {n}")?;
+            write!(f, " {}{}", n.sign(), n.size())?;
         }
         Ok(())
     }
@@ -61,7 +88,7 @@ pub(crate) fn amount(rt: &impl Print, word: &str, amount: Result<u64, Refusal>) 
 }
 
 // An amount after its word, and the buffer that it was filled to.
-pub(crate) fn filled<T: fmt::Display + Drop>(
+pub(crate) fn filled<T: Number>(
     rt: &impl Print,
     word: &str,
     amount: Result<u64, Refusal>,
@@ -83,7 +110,7 @@ pub(crate) fn delay(rt: &impl Print, delay: Result<Delay, Refusal>) {
 
 pub(crate) fn margin(rt: &impl Print, margin: Result<i64, Refusal>) {
     match margin {
-        Ok(m) => line(rt, format_args!("MARGIN {m}")),
+        Ok(m) => line(rt, format_args!("MARGIN {}{}", m.sign(), m.size())),
         Err(refusal) => line(rt, refusal),
     }
 }
