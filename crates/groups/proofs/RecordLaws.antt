@@ -15,9 +15,9 @@ use Rattle.scope.specs.Numbers.{pieces, bad_count}
 use Rattle.scope.specs.Limits.{most_tasks}
 use Rattle.scope.specs.Tasks as Tasks
 use Rattle.scope.specs.Tasks.{task, tasks_of, task_at}
-use Rattle.scope.specs.Answers.{Fault, Fault.fine, Fault.fault, fault_if, task_list_fault}
+use Rattle.scope.specs.Answers.{Fault, Fault.fine, Fault.fault, task_list_fault}
 use Rattle.theory.specs.Lists.{pieces_length, three_at, count_fine}
-use Rattle.theory.specs.Answers.{task_list_legal, fault_not_fine}
+use Rattle.theory.specs.Answers.{task_list_legal}
 use Rattle.tables.specs.declared.task.Task.{Task}
 use Rattle.tables.specs.declared.answer.Refusal.{Refusal}
 use Rattle.tables.specs.Told.{task_of, fault_of}

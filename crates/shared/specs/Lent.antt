@@ -5,7 +5,7 @@ use Rattle.std.proofs.Math.Seq.{take_all}
 use Rattle.std.proofs.Common.{sym, ap, ◌∙◌, arith}
 use Rattle.scope.specs.Limits.{most_windows}
 use Rattle.scope.specs.Windows.{Board, framed}
-use Rattle.scope.specs.Answers.{Fault.fine, Answer, Answer.given, Answer.refused, unless, table_fault, ◌or_else◌}
+use Rattle.scope.specs.Answers.{Fault.fine, Answer, Answer.given, Answer.refused, unless, table_fault}
 use Rattle.scope.specs.Shared.{own, own_left, shared_fault, own_fault, own_answer, asked_for}
 use Rattle.theory.specs.Answers.{unless_given, unless_refused_lem}
 use Rattle.theory.specs.Shared.{shared_parts}
